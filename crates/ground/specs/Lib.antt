@@ -1,0 +1,4 @@
+-- What a reader must believe of the ground: digits and bits, finite search, tables.
+pub mod Digits
+pub mod Search
+pub mod Table

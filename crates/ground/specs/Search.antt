@@ -1,0 +1,18 @@
+-- Tests over all numbers below n, as computed answers.
+use Prim.Native.Nat.{ℕ, zero, suc, _<_}
+use mathlib.Core.Bool.{Bool, true, false, _&&_, _||_}
+
+-- f at every number below n
+unfoldable pub all : ℕ → (ℕ → Bool) → Bool
+all zero f = true
+all (suc n) f = f n && all n f
+
+-- f at some number below n
+unfoldable pub any : ℕ → (ℕ → Bool) → Bool
+any zero f = false
+any (suc n) f = f n || any n f
+
+-- "least", "lowest": P holds at i and at nothing below
+pub record Least (P : ℕ → Type 0) (i : ℕ) : Type 0 where
+  pub here : P i
+  pub none-below : (j : ℕ) → j < i → P j → ⊥
