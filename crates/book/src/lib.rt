@@ -1,6 +1,39 @@
-// The book of rights as it is stored: blocks of 512 bytes, each with its check, one head and one block for each setting. It knows where a
-// rule's table stands in a book.
+// The book of rights as it is stored: blocks of 512 bytes, each with its check, one head and one
+// block for each setting. It knows the block check, where a rule's table stands, how a book becomes
+// rights in memory and how rights become a book.
+//
+// A book or rights that break a rule of the format are refused with one of the cases of `Refusal`,
+// the first in the written order and at the lowest block; so is a room that is too short. A refusal
+// leaves the lent room as it was. A success fills the first 256 bytes a setting of the room for
+// rights, or the first 512 bytes a block of the room for a book, and no other byte.
+mod bytes;
+mod sums;
+mod reading;
+mod refusal;
 mod rule;
+mod stray;
+mod writing;
 
+pub use sums::Sums;
+pub use sums::check_of;
+pub use reading::ReadAnswer;
+pub use reading::read;
+pub use reading::sound;
+pub use refusal::Refusal;
 pub use rule::Right;
 pub use rule::rule_at;
+pub use writing::WriteAnswer;
+pub use writing::write;
+
+// The bytes of a block.
+pub const BLOCK: usize = 512;
+
+// The bytes of a block that its check is over.
+pub const CHECKED: usize = 508;
+
+// The bytes of a setting's tables: 8 posts, each with 16 bytes for looking and 16 for setting.
+pub const TABLES: usize = 256;
+
+// The most settings and the most posts that a book has.
+pub const SETTINGS_MOST: usize = 7;
+pub const POSTS_MOST: usize = 8;

@@ -1,0 +1,6 @@
+-- Laws that belong to no one function, and the theorems that others cite.
+pub mod Lists
+pub mod Bits
+pub mod Answers
+pub mod CheckLaws
+pub mod StrayLaws
