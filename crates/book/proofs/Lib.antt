@@ -4,3 +4,5 @@ pub mod Bits
 pub mod Answers
 pub mod CheckLaws
 pub mod StrayLaws
+pub mod BookLaws
+pub mod WriteLaws

@@ -4,6 +4,7 @@ use mathlib.Core.List.{List}
 use mathlib.Core.Bool.{Bool, true, false}
 use mathlib.Core.Logic.{_⊎_, inl, inr, ⊎-elim}
 use Prim.Native.Nat.{ℕ, zero, suc, _+_, _-_, _*_, _/_, _%_, _^_, _≤_, _<_, min}
+use native.Mathlib.Nat.{one-mul, mod-eq-of-lt, lt-of-le-of-lt, pow-le-pow-right}
 use native.Mathlib.Omega.{arith}
 use lib.Arith.{lt-one}
 use lib.Dec.{leb, lit<}
@@ -167,3 +168,10 @@ byte-tells bytes from j p l all m r e f t =
     subst (λ (A : Type 0). Tells r A)
     (ap₂ (λ x y. x < 2 ^ y) (e ∙ sym (getD-drop from bytes j 0)) f)
     t
+
+-- 2^n, as a shift gives it
+pub one-shifted : (n : ℕ) → n ≤ 7 → 1 * 2 ^ n % 2 ^ 64 ≡ 2 ^ n
+one-shifted n h = rw one-mul (mod-eq-of-lt (lt-of-le-of-lt (pow-le-pow-right (lit< tt) h) (lit< tt)))
+
+pub clean-tells : (all n m count : ℕ) (bytes : List ℕ) (r : Bool) → all ≡ 2 ^ n → Tells r (Clean all m count bytes) → Tells r (Clean (2 ^ n) m count bytes)
+clean-tells all n m count bytes r e t = subst (λ (x : ℕ). Tells r (Clean x m count bytes)) e t
