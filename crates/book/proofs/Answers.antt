@@ -42,6 +42,9 @@ module _ {P : ℕ → Type 0} where
   pub lowest-none : {n i : ℕ} → n ≤ i → ((k : ℕ) → k < i → P k) → Lowest n P n
   lowest-none {n} le before = record { within = le-refl n; before = λ k h. before k (omega arith); here = λ h _. lt-irrefl n h }
 
+  pub lowest-all : {n r : ℕ} → Lowest n P r → n ≤ r → (k : ℕ) → k < n → P k
+  lowest-all l le k h = l .before k (omega arith)
+
   pub lowest-map : {Q : ℕ → Type 0} {n r : ℕ} → ((k : ℕ) → k < n → P k → Q k) → ((k : ℕ) → k < n → Q k → P k) → Lowest n P r → Lowest n Q r
   lowest-map f g l =
       record {

@@ -2,7 +2,9 @@
 pub mod Lists
 pub mod Bits
 pub mod Answers
+pub mod OrderLaws
 pub mod CheckLaws
 pub mod StrayLaws
 pub mod BookLaws
 pub mod WriteLaws
+pub mod RefusalLaws

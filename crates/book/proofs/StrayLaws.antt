@@ -69,7 +69,7 @@ place-post q Look o h = omega arith
 place-post q Set o h = omega arith
 
 -- from the tables to the bytes
-module _ (n m : ℕ) (bytes : List ℕ) (byte : (j : ℕ) → getD bytes j 0 < 256) (good : Tables n m bytes) where
+module _ (n m : ℕ) (bytes : List ℕ) (byte : (j : ℕ) → j < 256 → getD bytes j 0 < 256) (good : Tables n m bytes) where
   bits-off : (q : ℕ) (right : Right) (o b : ℕ) → q < 8 → o < 16 → b < 8 → 2 ^ n ≤ 8 * o + b → bit (getD bytes (tablePlace q right + o) 0) b ≡ false
   unfolding Within truth
   bits-off q right o b hq ho hb h =
@@ -94,7 +94,7 @@ module _ (n m : ℕ) (bytes : List ℕ) (byte : (j : ℕ) → getD bytes j 0 < 2
           let k = min 8 (2 ^ n - 8 * (j % 16)) in
           let full : k + (8 - k) ≡ 8 = omega arith in
           rw (live-some (2 ^ n) m j l)
-          (low-bits (min 8 (2 ^ n - 8 * (j % 16))) (8 - min 8 (2 ^ n - 8 * (j % 16))) (getD bytes j 0) (rw full (byte j))
+          (low-bits (min 8 (2 ^ n - 8 * (j % 16))) (8 - min 8 (2 ^ n - 8 * (j % 16))) (getD bytes j 0) (rw full (byte j h))
           (λ b lo hi.
               rw (← here)
               (bits-off (s .q) (s .right) (s .o) b (s .post) (s .low) (omega arith) (omega arith)))))
@@ -139,7 +139,7 @@ module _ (n m : ℕ) (bytes : List ℕ) (clean : Clean (2 ^ n) m 256 bytes) wher
       }
 
 -- the whole block: its tables, and nothing after them
-pub block-clean : (n m : ℕ) (bytes : List ℕ) → ((j : ℕ) → getD bytes j 0 < 256) → SettingBlock n m bytes → Clean (2 ^ n) m 508 bytes
+pub block-clean : (n m : ℕ) (bytes : List ℕ) → ((j : ℕ) → j < 256 → getD bytes j 0 < 256) → SettingBlock n m bytes → Clean (2 ^ n) m 508 bytes
 unfolding Clean Zeros
 block-clean n m bytes byte good j h =
     ⊎-elim (λ l. tables-clean n m bytes byte (good .tables) j l)

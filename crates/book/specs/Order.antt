@@ -18,3 +18,8 @@ only given place = given × (place ≡ 0)
 abbrev pub First : List Row → ℕ → ℕ → Type 0
 First [] x p = ⊥
 First (r ∷ rows) x p = ((x ≡ r .number) × Least (r .given) p) ⊎ (((q : ℕ) → r .given q → ⊥) × First rows x p)
+
+-- no row is given anywhere
+abbrev pub Clear : List Row → Type 0
+Clear [] = Unit
+Clear (r ∷ rows) = ((q : ℕ) → r .given q → ⊥) × Clear rows
