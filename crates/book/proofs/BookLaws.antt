@@ -24,11 +24,11 @@ module _ {book : List ℕ} where
   right-head n least most rest =
       record {
         head =
-          record {
-            settings = first-byte book 0 (lit< tt) ∙ n;
-            posts = refl;
-            rest = λ j l h. first-byte book j (omega arith) ∙ rest j l h;
-          };
+            record {
+              settings = first-byte book 0 (lit< tt) ∙ n;
+              posts = refl;
+              rest = λ j l h. first-byte book j (omega arith) ∙ rest j l h;
+            };
         posts = record { least = rw (first-byte book 1 (lit< tt)) least; most = rw (first-byte book 1 (lit< tt)) most };
       }
 

@@ -8,3 +8,4 @@ pub mod StrayLaws
 pub mod BookLaws
 pub mod WriteLaws
 pub mod RefusalLaws
+pub mod SoundLaws

@@ -55,7 +55,7 @@ lowest-tables rights n m r byte low =
     lowest-map
     (λ i _ c. clean-tables n m (tablesOf rights i) (clean-same (2 ^ n) m 256 _ _ (tables-byte rights i) c))
     (λ i _ t. clean-same (2 ^ n) m 256 _ _ (λ j h. sym (tables-byte rights i j h))
-        (tables-clean n m (tablesOf rights i) (λ j h. rw (getD-part rights (256 * i) 256 j h) (byte (256 * i + j))) t))
+    (tables-clean n m (tablesOf rights i) (λ j h. rw (getD-part rights (256 * i) 256 j h) (byte (256 * i + j))) t))
     low
 
 down : (i : ℕ) → 1 + i - 1 ≡ i
@@ -72,7 +72,7 @@ least-block {n} {r} P low h =
     back : (k : ℕ) → 1 ≤ k → 1 + (k - 1) ≡ k
     back k h = omega arith
 
-none-block : {n : ℕ} (P : ℕ → Type 0) → ((i : ℕ) → i < n → P (1 + i)) → (k : ℕ) → (1 ≤ k) × (k ≤ n) × (P k → ⊥) → ⊥
+pub none-block : {n : ℕ} (P : ℕ → Type 0) → ((i : ℕ) → i < n → P (1 + i)) → (k : ℕ) → (1 ≤ k) × (k ≤ n) × (P k → ⊥) → ⊥
 none-block P all k g = g .2 (subst P (back k (g .0)) (all (k - 1) (omega (arith, g .0, g .1))))
   where
     back : (k : ℕ) → 1 ≤ k → 1 + (k - 1) ≡ k
@@ -89,9 +89,10 @@ module _ (book : List ℕ) where
     pub refuse-check : {r : ℕ} → Lowest (blocks book) (λ k. RightCheck (block book k)) r → r < blocks book → First (bookRows book) 7 r
     unfolding bookRows
     refuse-check low h =
-        inr
-        (none-only (λ f. f whole),
-        inl (refl, record { here = (h, low .here h); none-below = λ k l g. g .1 (low .before k l) }))
+        inr (
+          none-only (λ f. f whole),
+          inl (refl, record { here = (h, low .here h); none-below = λ k l g. g .1 (low .before k l) }),
+        )
 
     module _ (checks : (k : ℕ) → k < blocks book → RightCheck (block book k)) where
       pub refuse-head : (RightHead book → ⊥) → First (bookRows book) 8 0
@@ -103,13 +104,16 @@ module _ (book : List ℕ) where
         pub refuse-stray : {r : ℕ} → Lowest (settingsOf book) (λ i. SettingBlock (settingsOf book) (postsOf book) (block book (1 + i))) r → r < settingsOf book → First (bookRows book) 9 (r + 1)
         unfolding bookRows
         refuse-stray low h =
-            inr
-            (none-only (λ f. f whole),
-            inr
-            ((λ k g. g .1 (checks k (g .0))),
-            inr
-            (none-only (λ f. f head),
-            inl (refl, least-block (λ k. SettingBlock (settingsOf book) (postsOf book) (block book k)) low h))))
+            inr (
+              none-only (λ f. f whole),
+              inr (
+                (λ k g. g .1 (checks k (g .0))),
+                inr (
+                  none-only (λ f. f head),
+                  inl (refl, least-block (λ k. SettingBlock (settingsOf book) (postsOf book) (block book k)) low h),
+                ),
+              ),
+            )
 
         pub is-sound : ((i : ℕ) → i < settingsOf book → SettingBlock (settingsOf book) (postsOf book) (block book (1 + i))) → Sound book (settingsOf book) (postsOf book)
         unfolding settingsOf
@@ -145,34 +149,42 @@ module _ (n m : ℕ) (rights room : List ℕ) where
         pub refuse-tables : {r : ℕ} → Lowest n (λ i. Tables n m (tablesOf rights i)) r → r < n → First (writeRows n m rights room) 9 (r + 1)
         unfolding writeRows
         refuse-tables low h =
-            inr
-            (none-only (λ f. f settings),
-            inr
-            (none-only (λ f. f posts),
-            inr
-            (none-only (λ f. f size),
-            inl
-            (refl,
-            least-block (λ k. Tables n m (tablesOf rights (k - 1)))
-            (lowest-map
-            (λ i _ t. subst (λ x. Tables n m (tablesOf rights x)) (sym (down i)) t)
-            (λ i _ t. subst (λ x. Tables n m (tablesOf rights x)) (down i) t)
-            low)
-            h))))
+            inr (
+              none-only (λ f. f settings),
+              inr (
+                none-only (λ f. f posts),
+                inr (
+                  none-only (λ f. f size),
+                  inl (
+                    refl,
+                    least-block (λ k. Tables n m (tablesOf rights (k - 1)))
+                        (lowest-map
+                        (λ i _ t. subst (λ x. Tables n m (tablesOf rights x)) (sym (down i)) t)
+                        (λ i _ t. subst (λ x. Tables n m (tablesOf rights x)) (down i) t)
+                        low)
+                        h,
+                  ),
+                ),
+              ),
+            )
 
         module _ (all : (i : ℕ) → i < n → Tables n m (tablesOf rights i)) where
           pub refuse-room : length room < 512 * (1 + n) → First (writeRows n m rights room) 15 0
           unfolding writeRows
           refuse-room short =
-              inr
-              (none-only (λ f. f settings),
-              inr
-              (none-only (λ f. f posts),
-              inr
-              (none-only (λ f. f size),
-              inr
-              (none-block (λ k. Tables n m (tablesOf rights (k - 1))) (λ i h. subst (λ x. Tables n m (tablesOf rights x)) (sym (down i)) (all i h)),
-              inl (refl, least-only short)))))
+              inr (
+                none-only (λ f. f settings),
+                inr (
+                  none-only (λ f. f posts),
+                  inr (
+                    none-only (λ f. f size),
+                    inr (
+                      none-block (λ k. Tables n m (tablesOf rights (k - 1))) (λ i h. subst (λ x. Tables n m (tablesOf rights x)) (sym (down i)) (all i h)),
+                      inl (refl, least-only short),
+                    ),
+                  ),
+                ),
+              )
 
 -- ---- the numbers that the head says are those of the book
 

@@ -88,16 +88,16 @@ module _ (n m : ℕ) (bytes : List ℕ) (byte : (j : ℕ) → j < 256 → getD b
       let here = s .here in
       ⊎-elim
       (λ (l : 32 * m ≤ j).
-          let z : getD bytes j 0 ≡ 0 = sym e ∙ good .nobody (s .q) (s .right) (omega arith) (s .post) (s .o) (omega arith) (s .low) in
-          rw (live-none (2 ^ n) m j l, z) (lit< tt))
+      let z : getD bytes j 0 ≡ 0 = sym e ∙ good .nobody (s .q) (s .right) (omega arith) (s .post) (s .o) (omega arith) (s .low) in
+      rw (live-none (2 ^ n) m j l, z) (lit< tt))
       (λ (l : j < 32 * m).
-          let k = min 8 (2 ^ n - 8 * (j % 16)) in
-          let full : k + (8 - k) ≡ 8 = omega arith in
-          rw (live-some (2 ^ n) m j l)
-          (low-bits (min 8 (2 ^ n - 8 * (j % 16))) (8 - min 8 (2 ^ n - 8 * (j % 16))) (getD bytes j 0) (rw full (byte j h))
-          (λ b lo hi.
-              rw (← here)
-              (bits-off (s .q) (s .right) (s .o) b (s .post) (s .low) (omega arith) (omega arith)))))
+      let k = min 8 (2 ^ n - 8 * (j % 16)) in
+      let full : k + (8 - k) ≡ 8 = omega arith in
+      rw (live-some (2 ^ n) m j l)
+      (low-bits (min 8 (2 ^ n - 8 * (j % 16))) (8 - min 8 (2 ^ n - 8 * (j % 16))) (getD bytes j 0) (rw full (byte j h))
+      (λ b lo hi.
+      rw (← here)
+      (bits-off (s .q) (s .right) (s .o) b (s .post) (s .low) (omega arith) (omega arith)))))
       (le-or-lt (32 * m) j)
 
   pub tables-clean : Clean (2 ^ n) m 256 bytes
@@ -132,10 +132,10 @@ module _ (n m : ℕ) (bytes : List ℕ) (clean : Clean (2 ^ n) m 256 bytes) wher
       record {
         nobody = λ q right hm hq o _ ho. off q right o hm hq ho;
         within =
-          λ q right hq v h l.
-              high-bit (getD (table bytes q right) (v / 8) 0) (live (2 ^ n) m (tablePlace q right + v / 8)) (v % 8)
-              (spot-clean q right (v / 8) hq (omega arith))
-              (live-under q right (v / 8) (v % 8) (omega arith) (omega arith));
+            λ q right hq v h l.
+            high-bit (getD (table bytes q right) (v / 8) 0) (live (2 ^ n) m (tablePlace q right + v / 8)) (v % 8)
+            (spot-clean q right (v / 8) hq (omega arith))
+            (live-under q right (v / 8) (v % 8) (omega arith) (omega arith));
       }
 
 -- the whole block: its tables, and nothing after them

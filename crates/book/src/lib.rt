@@ -7,21 +7,21 @@
 // leaves the lent room as it was. A success fills the first 256 bytes a setting of the room for
 // rights, or the first 512 bytes a block of the room for a book, and no other byte.
 mod bytes;
-mod sums;
 mod reading;
 mod refusal;
 mod rule;
 mod stray;
+mod sums;
 mod writing;
 
-pub use sums::Sums;
-pub use sums::check_of;
 pub use reading::ReadAnswer;
 pub use reading::read;
 pub use reading::sound;
 pub use refusal::Refusal;
 pub use rule::Right;
 pub use rule::rule_at;
+pub use sums::Sums;
+pub use sums::check_of;
 pub use writing::WriteAnswer;
 pub use writing::write;
 
@@ -36,4 +36,5 @@ pub const TABLES: usize = 256;
 
 // The most settings and the most posts that a book has.
 pub const SETTINGS_MOST: usize = 7;
+
 pub const POSTS_MOST: usize = 8;

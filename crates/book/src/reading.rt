@@ -3,7 +3,6 @@ use super::bytes::copy;
 use super::refusal::Refusal;
 use super::stray::first_stray;
 use super::sums::first_wrong;
-
 ghost use mathlib.Core.Path.{_≡_};
 ghost use Prim.Native.Nat.{_+_, _*_, _≤_};
 ghost use lib.ListN.{length};
@@ -93,7 +92,10 @@ pub fn sound(book: &[u8]) -> ReadAnswer
     if stray < n as usize {
         return ReadAnswer::Refused(Refusal::StrayBit(stray + 1));
     }
-    ReadAnswer::Book { settings: n, posts: m }
+    ReadAnswer::Book {
+        settings: n,
+        posts: m,
+    }
 }
 
 // Copies the tables of the book's n settings to the start of the room.

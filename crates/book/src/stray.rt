@@ -1,7 +1,6 @@
 // Bits of a setting's tables that must be zero: in tables of posts that don't exist, past 2^n, and
 // in the bytes of a block after the tables.
 use super::bytes::peek;
-
 ghost use mathlib.Core.Path.{_≡_};
 ghost use Prim.Native.Nat.{_+_, _*_, _^_, _≤_, _<_};
 ghost use lib.ListN.{drop};
@@ -50,7 +49,14 @@ fn is_clean(bytes: &[u8], from: usize, count: usize, all: usize, m: u8) -> bool
 // The lowest of n settings with a bit that must be zero; n where none has one. Each setting has
 // `count` bytes that are looked at, and begins `stride` bytes after the one before, the first at
 // `from`.
-pub(crate) fn first_stray(bytes: &[u8], from: usize, stride: usize, count: usize, n: usize, m: u8) -> usize
+pub(crate) fn first_stray(
+    bytes: &[u8],
+    from: usize,
+    stride: usize,
+    count: usize,
+    n: usize,
+    m: u8,
+) -> usize
     requires { ⌜ (from ≤ 512) × (stride ≤ 512) × (n ≤ 7) ⌝ }
     ensures { λ r. ⌜ Lowest n (λ i. Clean (2 ^ n) m count (drop (from + stride * i) (now (bytes .entry)))) r ⌝ }
 {

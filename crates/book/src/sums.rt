@@ -1,7 +1,6 @@
 // The check of a block: two running sums of 16 bits over its first 508 bytes.
 use super::CHECKED;
 use super::bytes::peek;
-
 ghost use mathlib.Core.Path.{_≡_};
 ghost use Prim.Native.Nat.{_≤_};
 ghost use lib.ListN.{drop};

@@ -5,7 +5,6 @@ use super::bytes::zeros;
 use super::refusal::Refusal;
 use super::stray::first_stray;
 use super::sums::check_of;
-
 ghost use mathlib.Core.Path.{_≡_};
 ghost use mathlib.Core.List.{_++_};
 ghost use Prim.Native.Nat.{_+_, _*_, _≤_};

@@ -9,8 +9,6 @@ use lib.Seq.{sets}
 use Rattle.book.proofs.Lists.{write-step, write-done, getD-part, length-part}
 use Rattle.book.proofs.bytes.copy.Statement.{statement}
 use Rattle.book.proofs.bytes.copy.Tie as tie
-use Rattle.book.proofs.bytes.copy.Reads as reads
-use Rattle.book.proofs.bytes.copy.Lts as lts
 
 abbrev Inv-loop : tie.InvT-loop
 Inv-loop source from count room₀ to i₀ room i = (i ≤ count) × (length room ≡ length room₀) × (room ≡ sets room₀ to (take i (take count (drop from source))))
@@ -40,7 +38,7 @@ loop-less : tie.Need-loop-less Inv-loop μ-loop
 loop-less c = omega arith
 
 loop-again : tie.Need-loop-again Inv-loop μ-loop
-loop-again c = 
+loop-again c =
     let a = c .before .before .before .args in
     let r = c .before .before .loop in (
       omega arith,
@@ -55,7 +53,7 @@ same-length : tie.Need-same-length Inv-loop μ-loop
 same-length c = omega arith
 
 returns : tie.Need-returns Inv-loop μ-loop
-returns c = 
+returns c =
     let a = c .before .before .args in
     let r = c .before .loop in
     write-done _ (r .room) (take (a .count) (drop (a .from) (now (a .source)))) (a .to) (r .i)

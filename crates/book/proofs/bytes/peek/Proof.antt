@@ -7,8 +7,6 @@ use lib.ListN.{List·getD-eq-default}
 use borrow.Author.Needs.{needs}
 use Rattle.book.proofs.bytes.peek.Statement.{statement}
 use Rattle.book.proofs.bytes.peek.Tie as tie
-use Rattle.book.proofs.bytes.peek.Reads as reads
-use Rattle.book.proofs.bytes.peek.Lts as lts
 
 returns : tie.Need-returns
 returns c = let a = c .before .args in sym (List·getD-eq-default (now (a .bytes)) 0 {n = a .from + a .i} (omega arith))

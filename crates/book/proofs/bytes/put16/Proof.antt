@@ -6,8 +6,6 @@ use Rattle.book.specs.Written.{bytes16}
 use borrow.Author.Needs.{needs}
 use Rattle.book.proofs.bytes.put16.Statement.{statement}
 use Rattle.book.proofs.bytes.put16.Tie as tie
-use Rattle.book.proofs.bytes.put16.Reads as reads
-use Rattle.book.proofs.bytes.put16.Lts as lts
 
 cast-room : tie.Need-cast-room
 cast-room c = search needs

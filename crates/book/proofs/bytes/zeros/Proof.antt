@@ -8,8 +8,6 @@ use lib.Seq.{sets}
 use Rattle.book.proofs.Lists.{write-step, write-done}
 use Rattle.book.proofs.bytes.zeros.Statement.{statement}
 use Rattle.book.proofs.bytes.zeros.Tie as tie
-use Rattle.book.proofs.bytes.zeros.Reads as reads
-use Rattle.book.proofs.bytes.zeros.Lts as lts
 
 abbrev Inv-loop : tie.InvT-loop
 Inv-loop count room₀ to i₀ room i = (i ≤ count) × (length room ≡ length room₀) × (room ≡ sets room₀ to (take i (replicate count 0)))
@@ -33,7 +31,7 @@ loop-less : tie.Need-loop-less Inv-loop μ-loop
 loop-less c = omega arith
 
 loop-again : tie.Need-loop-again Inv-loop μ-loop
-loop-again c = 
+loop-again c =
     let a = c .before .before .args in
     let r = c .before .loop in (
       omega arith,
@@ -46,7 +44,7 @@ same-length : tie.Need-same-length Inv-loop μ-loop
 same-length c = omega arith
 
 returns : tie.Need-returns Inv-loop μ-loop
-returns c = 
+returns c =
     let a = c .before .before .args in
     let r = c .before .loop in
     write-done _ (r .room) (replicate (a .count) 0) (a .to) (r .i) (rw length-replicate (c .loop-test .left)) (r .inv .2)

@@ -10,8 +10,6 @@ use Rattle.book.specs.Sound.{rightsOf}
 use Rattle.book.proofs.WriteLaws.{rights-step}
 use Rattle.book.proofs.reading.copy_rights.Statement.{statement}
 use Rattle.book.proofs.reading.copy_rights.Tie as tie
-use Rattle.book.proofs.reading.copy_rights.Reads as reads
-use Rattle.book.proofs.reading.copy_rights.Lts as lts
 use Rattle.book.proofs.bytes.copy.Reads as copy-reads
 
 abbrev Inv-loop : tie.InvT-loop
@@ -43,7 +41,7 @@ loop-less : tie.Need-loop-less Inv-loop μ-loop
 loop-less c = omega (arith, c .before .before .before .before .loop-test)
 
 loop-again : tie.Need-loop-again Inv-loop μ-loop
-loop-again c = 
+loop-again c =
     let a = c .before .before .before .before .before .before .before .before .args in
     let r = c .before .before .before .before .before .loop in (
       omega (arith, c .before .before .before .before .loop-test),

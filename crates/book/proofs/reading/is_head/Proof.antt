@@ -5,8 +5,6 @@ use Rattle.book.proofs.Answers.{tells-iff}
 use Rattle.book.proofs.BookLaws.{whole-length, right-head, head-settings, head-posts, head-rest}
 use Rattle.book.proofs.reading.is_head.Statement.{statement}
 use Rattle.book.proofs.reading.is_head.Tie as tie
-use Rattle.book.proofs.reading.is_head.Reads as reads
-use Rattle.book.proofs.reading.is_head.Lts as lts
 use Rattle.book.proofs.reading.is_plain.Reads as is-plain-reads
 
 shared-slice-read-n : tie.Need-shared-slice-read-n

@@ -8,8 +8,6 @@ use borrow.Author.Count.{below-more}
 use Rattle.book.specs.Block.{Zeros}
 use Rattle.book.proofs.reading.is_plain.Statement.{statement}
 use Rattle.book.proofs.reading.is_plain.Tie as tie
-use Rattle.book.proofs.reading.is_plain.Reads as reads
-use Rattle.book.proofs.reading.is_plain.Lts as lts
 
 abbrev Inv-loop : tie.InvT-loop
 Inv-loop book j₀ j = (2 ≤ j) × (j ≤ 508) × ((k : ℕ) → k < j → 2 ≤ k → getD book k 0 ≡ 0)
@@ -25,7 +23,7 @@ shared-slice-read-if1 c = search needs
 
 returns : tie.Need-returns Inv-loop μ-loop
 unfolding Zeros
-returns c = 
+returns c =
     let r = c .before .before .before .loop in
     λ zeros. c .if1 .taken (zeros (r .j) (r .inv .0) (c .before .before .loop-test .taken))
 
@@ -36,7 +34,7 @@ loop-less : tie.Need-loop-less Inv-loop μ-loop
 loop-less c = search needs
 
 loop-again : tie.Need-loop-again Inv-loop μ-loop
-loop-again c = 
+loop-again c =
     let r = c .before .before .before .loop in (
       omega arith,
       omega arith,

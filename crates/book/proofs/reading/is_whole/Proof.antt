@@ -4,8 +4,6 @@ use Rattle.book.specs.Block.{blocks}
 use borrow.Author.Needs.{needs}
 use Rattle.book.proofs.reading.is_whole.Statement.{statement}
 use Rattle.book.proofs.reading.is_whole.Tie as tie
-use Rattle.book.proofs.reading.is_whole.Reads as reads
-use Rattle.book.proofs.reading.is_whole.Lts as lts
 
 returns : tie.Need-returns
 returns c = λ w. c .if1 .taken (w .whole)

@@ -11,8 +11,6 @@ use Prim.Native.Nat.{_≤_, _<_}
 use borrow.Author.Needs.{needs}
 use Rattle.book.proofs.reading.sound.Statement.{statement}
 use Rattle.book.proofs.reading.sound.Tie as tie
-use Rattle.book.proofs.reading.sound.Reads as reads
-use Rattle.book.proofs.reading.sound.Lts as lts
 use Rattle.book.proofs.reading.is_head.Reads as is-head-reads
 use Rattle.book.proofs.reading.is_whole.Reads as is-whole-reads
 use Rattle.book.proofs.stray.first_stray.Reads as first-stray-reads
@@ -62,14 +60,14 @@ add-t16 c = let b = now (c .before .before .before .before .before .before .befo
 
 returns-4 : tie.Need-returns-4
 unfolding number place blocks
-returns-4 c = let b = now (c .before .before .before .before .before .before .before .before .before .before .before .args .book) in 
+returns-4 c = let b = now (c .before .before .before .before .before .before .before .before .before .before .before .args .book) in
     let w = (told (Whole b) (c .before .before .before .before .before .before .before .before .before .is-whole .result) (c .before .before .before .before .before .before .before .before .before .is-whole .ensures) (c .before .before .before .before .before .before .before .before .if1 .left)) in
     let h = (told (RightHead b) (c .before .before .before .before .before .is-head .result) (c .before .before .before .before .before .is-head .ensures) (c .before .before .before .before .if3 .left)) in
     refuse-stray b w (lowest-all (c .before .before .before .before .before .before .before .first-wrong .ensures) (c .before .before .before .before .before .before .if2 .left)) h (stray-blocks h (λ j. c .before .before .before .before .before .before .before .before .before .before .shared-slice-known .given j .fits) (c .before .first-stray .ensures)) (subst (λ n. c .before .first-stray .result < n) (head-n h) (c .if4 .taken))
 
 returns-5 : tie.Need-returns-5
 unfolding blocks
-returns-5 c = let b = now (c .before .before .before .before .before .before .before .before .before .before .before .args .book) in 
+returns-5 c = let b = now (c .before .before .before .before .before .before .before .before .before .before .before .args .book) in
     let w = (told (Whole b) (c .before .before .before .before .before .before .before .before .before .is-whole .result) (c .before .before .before .before .before .before .before .before .before .is-whole .ensures) (c .before .before .before .before .before .before .before .before .if1 .left)) in
     let h = (told (RightHead b) (c .before .before .before .before .before .is-head .result) (c .before .before .before .before .before .is-head .ensures) (c .before .before .before .before .if3 .left)) in
     sound-head h (is-sound b w (lowest-all (c .before .before .before .before .before .before .before .first-wrong .ensures) (c .before .before .before .before .before .before .if2 .left)) h (lowest-all (stray-blocks h (λ j. c .before .before .before .before .before .before .before .before .before .before .shared-slice-known .given j .fits) (c .before .first-stray .ensures)) (subst (λ n. n ≤ c .before .first-stray .result) (head-n h) (c .if4 .left))))

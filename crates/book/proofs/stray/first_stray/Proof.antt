@@ -12,8 +12,6 @@ use Rattle.book.proofs.Answers.{told, untold, lowest-at, lowest-none}
 use Rattle.book.proofs.StrayLaws.{one-shifted, clean-tells}
 use Rattle.book.proofs.stray.first_stray.Statement.{statement}
 use Rattle.book.proofs.stray.first_stray.Tie as tie
-use Rattle.book.proofs.stray.first_stray.Reads as reads
-use Rattle.book.proofs.stray.first_stray.Lts as lts
 use Rattle.book.proofs.stray.is_clean.Reads as is-clean-reads
 
 abbrev Inv-loop : tie.InvT-loop
@@ -38,7 +36,7 @@ is-clean-requires : tie.Need-is-clean-requires Inv-loop μ-loop
 is-clean-requires c κs = search needs
 
 returns : tie.Need-returns Inv-loop μ-loop
-returns c = 
+returns c =
     lowest-at (c .before .before .loop-test .taken) (c .before .before .before .loop .inv .2)
     (untold (Clean _ _ _ _) (c .before .is-clean .result)
     (clean-tells _ (c .before .before .before .before .before .args .n) (c .before .before .before .before .before .args .m) (c .before .before .before .before .before .args .count) (drop (c .before .before .before .before .before .args .from + c .before .before .before .before .before .args .stride * c .before .before .before .loop .i) (now (c .before .before .before .before .before .args .bytes))) (c .before .is-clean .result) (c .before .before .before .loop .inv .1) (c .before .is-clean .ensures))
@@ -52,13 +50,13 @@ loop-less c = search needs
 
 loop-again : tie.Need-loop-again Inv-loop μ-loop
 loop-again c = (
-      omega arith,
-      c .before .before .before .loop .inv .1,
-      below-more _ (c .before .before .before .loop .i) (c .before .before .before .loop .inv .2)
-          (told (Clean _ _ _ _) (c .before .is-clean .result)
-          (clean-tells _ (c .before .before .before .before .before .args .n) (c .before .before .before .before .before .args .m) (c .before .before .before .before .before .args .count) (drop (c .before .before .before .before .before .args .from + c .before .before .before .before .before .args .stride * c .before .before .before .loop .i) (now (c .before .before .before .before .before .args .bytes))) (c .before .is-clean .result) (c .before .before .before .loop .inv .1) (c .before .is-clean .ensures))
-          (c .if1 .left)),
-    )
+  omega arith,
+  c .before .before .before .loop .inv .1,
+  below-more _ (c .before .before .before .loop .i) (c .before .before .before .loop .inv .2)
+      (told (Clean _ _ _ _) (c .before .is-clean .result)
+      (clean-tells _ (c .before .before .before .before .before .args .n) (c .before .before .before .before .before .args .m) (c .before .before .before .before .before .args .count) (drop (c .before .before .before .before .before .args .from + c .before .before .before .before .before .args .stride * c .before .before .before .loop .i) (now (c .before .before .before .before .before .args .bytes))) (c .before .is-clean .result) (c .before .before .before .loop .inv .1) (c .before .is-clean .ensures))
+      (c .if1 .left)),
+)
 
 returns-2 : tie.Need-returns-2 Inv-loop μ-loop
 returns-2 c = lowest-none (c .loop-test .left) (c .before .loop .inv .2)

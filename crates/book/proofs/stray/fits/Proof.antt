@@ -3,8 +3,6 @@ use Rattle.book.proofs.Bits.{shift-none, shift-some}
 use borrow.Author.Needs.{needs}
 use Rattle.book.proofs.stray.fits.Statement.{statement}
 use Rattle.book.proofs.stray.fits.Tie as tie
-use Rattle.book.proofs.stray.fits.Reads as reads
-use Rattle.book.proofs.stray.fits.Lts as lts
 
 shr-above : tie.Need-shr-above
 shr-above c = search needs

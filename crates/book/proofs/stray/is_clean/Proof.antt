@@ -10,8 +10,6 @@ use Rattle.book.proofs.Answers.{told, untold}
 use Rattle.book.proofs.StrayLaws.{live-most, Alive, byte-tells}
 use Rattle.book.proofs.stray.is_clean.Statement.{statement}
 use Rattle.book.proofs.stray.is_clean.Tie as tie
-use Rattle.book.proofs.stray.is_clean.Reads as reads
-use Rattle.book.proofs.stray.is_clean.Lts as lts
 use Rattle.book.proofs.bytes.peek.Reads as peek-reads
 use Rattle.book.proofs.stray.fits.Reads as fits-reads
 use Rattle.book.proofs.stray.live_bits.Reads as live-bits-reads
@@ -36,13 +34,13 @@ fits-requires c κs = rw (c .live-bits .ensures) (live-most _ _ _)
 
 returns : tie.Need-returns Inv-loop μ-loop
 unfolding Clean
-returns c = 
+returns c =
     let a = c .before .before .before .before .before .before .before .args in
     let r = c .before .before .before .before .before .loop in
     λ clean. untold (Alive (a .all) (a .m) (drop (a .from) (now (a .bytes))) (r .j)) (c .before .fits2 .result)
-        (byte-tells (now (a .bytes)) (a .from) (r .j) _ _ (a .all) (a .m) (c .before .fits2 .result) (c .before .before .before .peek .ensures) (c .before .before .live-bits .ensures) (c .before .fits2 .ensures))
-        (c .if1 .taken)
-        (clean (r .j) (c .before .before .before .before .loop-test .taken))
+    (byte-tells (now (a .bytes)) (a .from) (r .j) _ _ (a .all) (a .m) (c .before .fits2 .result) (c .before .before .before .peek .ensures) (c .before .before .live-bits .ensures) (c .before .fits2 .ensures))
+    (c .if1 .taken)
+    (clean (r .j) (c .before .before .before .before .loop-test .taken))
 
 add-j : tie.Need-add-j Inv-loop μ-loop
 add-j c = search needs
@@ -51,7 +49,7 @@ loop-less : tie.Need-loop-less Inv-loop μ-loop
 loop-less c = search needs
 
 loop-again : tie.Need-loop-again Inv-loop μ-loop
-loop-again c = 
+loop-again c =
     let a = c .before .before .before .before .before .before .before .args in
     let r = c .before .before .before .before .before .loop in (
       omega arith,

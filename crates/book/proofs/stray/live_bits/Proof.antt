@@ -5,8 +5,6 @@ use Rattle.book.proofs.StrayLaws.{live-none, live-some}
 use borrow.Author.Needs.{needs}
 use Rattle.book.proofs.stray.live_bits.Statement.{statement}
 use Rattle.book.proofs.stray.live_bits.Tie as tie
-use Rattle.book.proofs.stray.live_bits.Reads as reads
-use Rattle.book.proofs.stray.live_bits.Lts as lts
 
 mul-if1 : tie.Need-mul-if1
 mul-if1 c = search needs

@@ -3,8 +3,6 @@ use Rattle.book.specs.Block.{added}
 use borrow.Author.Needs.{needs}
 use Rattle.book.proofs.sums.add.Statement.{statement}
 use Rattle.book.proofs.sums.add.Tie as tie
-use Rattle.book.proofs.sums.add.Reads as reads
-use Rattle.book.proofs.sums.add.Lts as lts
 use Rattle.std.proofs.num.wrapping_add_u16.Reads as wrapping-add-u16-reads
 
 wrapping-add-u16-requires : tie.Need-wrapping-add-u16-requires

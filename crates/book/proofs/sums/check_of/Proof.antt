@@ -10,8 +10,6 @@ use Rattle.book.specs.Block.{sumsAfter, check}
 use Rattle.book.proofs.CheckLaws.{sums-step}
 use Rattle.book.proofs.sums.check_of.Statement.{statement}
 use Rattle.book.proofs.sums.check_of.Tie as tie
-use Rattle.book.proofs.sums.check_of.Reads as reads
-use Rattle.book.proofs.sums.check_of.Lts as lts
 use Rattle.book.proofs.bytes.peek.Reads as peek-reads
 use Rattle.book.proofs.sums.add.Reads as add-reads
 
@@ -38,17 +36,17 @@ loop-less : tie.Need-loop-less Inv-loop μ-loop
 loop-less c = search needs
 
 loop-again : tie.Need-loop-again Inv-loop μ-loop
-loop-again c = 
+loop-again c =
     let a = c .before .before .before .before .before .args in
     let r = c .before .before .before .loop in (
       omega arith,
       c .add .ensures
-      ∙ sums-step (drop (a .from) (now (a .bytes))) (r .i) (r .sums) _ (r .inv .1) (c .before .peek .ensures ∙ sym (getD-drop (a .from) (now (a .bytes)) (r .i) 0)),
+          ∙ sums-step (drop (a .from) (now (a .bytes))) (r .i) (r .sums) _ (r .inv .1) (c .before .peek .ensures ∙ sym (getD-drop (a .from) (now (a .bytes)) (r .i) 0)),
     )
 
 returns : tie.Need-returns Inv-loop μ-loop
 unfolding check
-returns c = 
+returns c =
     let a = c .before .before .before .args in
     let r = c .before .loop in
     r .inv .1 ∙ ap (sumsAfter (drop (a .from) (now (a .bytes)))) (omega arith)

@@ -9,8 +9,6 @@ use Rattle.book.proofs.Answers.{told, untold, tells-iff, lowest-at, low
 use Rattle.book.proofs.CheckLaws.{right-block, right-drop}
 use Rattle.book.proofs.sums.first_wrong.Statement.{statement}
 use Rattle.book.proofs.sums.first_wrong.Tie as tie
-use Rattle.book.proofs.sums.first_wrong.Reads as reads
-use Rattle.book.proofs.sums.first_wrong.Lts as lts
 use Rattle.book.proofs.sums.is_right.Reads as is-right-reads
 
 abbrev Inv-loop : tie.InvT-loop
@@ -29,7 +27,7 @@ is-right-requires : tie.Need-is-right-requires Inv-loop μ-loop
 is-right-requires c κs = search needs
 
 returns : tie.Need-returns Inv-loop μ-loop
-returns c = 
+returns c =
     let b = now (c .before .before .before .before .before .args .book) in
     let k = c .before .before .before .loop .k in
     lowest-at (c .before .before .loop-test .taken) (c .before .before .before .loop .inv .1)
@@ -42,7 +40,7 @@ loop-less : tie.Need-loop-less Inv-loop μ-loop
 loop-less c = search needs
 
 loop-again : tie.Need-loop-again Inv-loop μ-loop
-loop-again c = 
+loop-again c =
     let b = now (c .before .before .before .before .before .args .book) in
     let k = c .before .before .before .loop .k in (
       omega arith,

@@ -4,8 +4,6 @@ use Rattle.book.specs.declared.sums.Sums.{Sums}
 use borrow.Author.Needs.{needs}
 use Rattle.book.proofs.sums.is_right.Statement.{statement}
 use Rattle.book.proofs.sums.is_right.Tie as tie
-use Rattle.book.proofs.sums.is_right.Reads as reads
-use Rattle.book.proofs.sums.is_right.Lts as lts
 use Rattle.book.proofs.sums.check_of.Reads as check-of-reads
 use Rattle.book.proofs.sums.number_at.Reads as number-at-reads
 
@@ -25,7 +23,7 @@ returns-2 : tie.Need-returns-2
 returns-2 c = λ right. c .if2 .taken (c .before .before .number-at2 .ensures ∙ right .holds-t ∙ sym (ap (λ (x : Sums). x .t) (c .before .before .before .before .before .before .check-of .ensures)))
 
 returns-3 : tie.Need-returns-3
-returns-3 c = 
+returns-3 c =
     record {
       holds-s = sym (c .before .before .before .before .before .number-at .ensures) ∙ c .before .before .before .if1 .left ∙ ap (λ (x : Sums). x .s) (c .before .before .before .before .before .before .check-of .ensures);
       holds-t = sym (c .before .before .number-at2 .ensures) ∙ c .if2 .left ∙ ap (λ (x : Sums). x .t) (c .before .before .before .before .before .before .check-of .ensures);

@@ -7,8 +7,6 @@ use Rattle.book.specs.Block.{number16}
 use borrow.Author.Needs.{needs}
 use Rattle.book.proofs.sums.number_at.Statement.{statement}
 use Rattle.book.proofs.sums.number_at.Tie as tie
-use Rattle.book.proofs.sums.number_at.Reads as reads
-use Rattle.book.proofs.sums.number_at.Lts as lts
 use Rattle.book.proofs.bytes.peek.Reads as peek-reads
 
 peek-requires : tie.Need-peek-requires
@@ -34,7 +32,7 @@ add-result c = search needs
 
 returns : tie.Need-returns
 unfolding number16
-returns c = 
+returns c =
     let a = c .before .before .before .args in
     ap₂ (λ x y. x + 256 * y)
     (c .before .peek .ensures ∙ sym (getD-drop (a .from) (now (a .bytes)) (a .i) 0))

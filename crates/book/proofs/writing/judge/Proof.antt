@@ -7,8 +7,6 @@ use Rattle.book.proofs.RefusalLaws.{refuse-settings, refuse-posts, refu
 use borrow.Author.Needs.{needs}
 use Rattle.book.proofs.writing.judge.Statement.{statement}
 use Rattle.book.proofs.writing.judge.Tie as tie
-use Rattle.book.proofs.writing.judge.Reads as reads
-use Rattle.book.proofs.writing.judge.Lts as lts
 use Rattle.book.proofs.stray.first_stray.Reads as first-stray-reads
 
 returns : tie.Need-returns
@@ -45,7 +43,7 @@ add-t15 c = search needs
 
 returns-6 : tie.Need-returns-6
 unfolding number place
-returns-6 c = 
+returns-6 c =
     let s = lowest-tables (now (c .before .before .before .before .before .before .before .before .before .args .rights)) (c .before .before .before .before .before .before .before .before .before .args .n) (c .before .before .before .before .before .before .before .before .before .args .m) (c .before .first-stray .result) (λ j. c .before .before .before .before .before .before .before .before .shared-slice-known .given j .fits) (c .before .first-stray .ensures) in
     refuse-tables (c .before .before .before .before .before .before .before .before .before .args .n) (c .before .before .before .before .before .before .before .before .before .args .m) (now (c .before .before .before .before .before .before .before .before .before .args .rights)) (now (c .before .before .before .before .before .before .before .before .before .args .room)) (record { least = c .before .before .before .before .before .before .if1 .left; most = c .before .before .before .before .before .if2 .left }) (record { least = c .before .before .before .before .if3 .left; most = c .before .before .before .if4 .left }) (c .before .before .if5 .left) s (c .if6 .taken)
 
@@ -57,12 +55,12 @@ mul-if7 c = search needs
 
 returns-7 : tie.Need-returns-7
 unfolding number place
-returns-7 c = 
+returns-7 c =
     let s = lowest-tables (now (c .before .before .before .before .before .before .before .before .before .before .args .rights)) (c .before .before .before .before .before .before .before .before .before .before .args .n) (c .before .before .before .before .before .before .before .before .before .before .args .m) (c .before .before .first-stray .result) (λ j. c .before .before .before .before .before .before .before .before .before .shared-slice-known .given j .fits) (c .before .before .first-stray .ensures) in
     refuse-room (c .before .before .before .before .before .before .before .before .before .before .args .n) (c .before .before .before .before .before .before .before .before .before .before .args .m) (now (c .before .before .before .before .before .before .before .before .before .before .args .rights)) (now (c .before .before .before .before .before .before .before .before .before .before .args .room)) (record { least = c .before .before .before .before .before .before .before .if1 .left; most = c .before .before .before .before .before .before .if2 .left }) (record { least = c .before .before .before .before .before .if3 .left; most = c .before .before .before .before .if4 .left }) (c .before .before .before .if5 .left) (lowest-all s (c .before .if6 .left)) (c .if7 .taken)
 
 returns-8 : tie.Need-returns-8
-returns-8 c = 
+returns-8 c =
     let s = lowest-tables (now (c .before .before .before .before .before .before .before .before .before .before .args .rights)) (c .before .before .before .before .before .before .before .before .before .before .args .n) (c .before .before .before .before .before .before .before .before .before .before .args .m) (c .before .before .first-stray .result) (λ j. c .before .before .before .before .before .before .before .before .before .shared-slice-known .given j .fits) (c .before .before .first-stray .ensures) in
     (record { settings = record { least = c .before .before .before .before .before .before .before .if1 .left; most = c .before .before .before .before .before .before .if2 .left }; posts = record { least = c .before .before .before .before .before .if3 .left; most = c .before .before .before .before .if4 .left }; size = c .before .before .before .if5 .left; tables = lowest-all s (c .before .if6 .left) }, c .if7 .left)
 

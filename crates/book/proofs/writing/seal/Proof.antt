@@ -11,8 +11,6 @@ use Rattle.book.proofs.WriteLaws.{run-on}
 use borrow.Author.Needs.{needs}
 use Rattle.book.proofs.writing.seal.Statement.{statement}
 use Rattle.book.proofs.writing.seal.Tie as tie
-use Rattle.book.proofs.writing.seal.Reads as reads
-use Rattle.book.proofs.writing.seal.Lts as lts
 use Rattle.book.proofs.bytes.put16.Reads as put16-reads
 use Rattle.book.proofs.sums.check_of.Reads as check-of-reads
 
@@ -36,7 +34,7 @@ same-length c = search needs
 
 returns : tie.Need-returns
 unfolding bytes16
-returns c = 
+returns c =
     let a = c .before .before .before .before .before .before .before .before .before .before .before .args in
     run-on (now (a .room)) _ _ (bytes16 (c .before .before .before .before .before .before .before .before .check-of .result .s)) (bytes16 (c .before .before .before .before .before .before .before .before .check-of .result .t)) (a .at + 508) (a .at + 510)
     (add-assoc (a .at) 508 2) (c .before .before .before .before .before .before .put16 .ensures) (c .before .before .put162 .ensures)

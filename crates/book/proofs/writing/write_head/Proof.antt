@@ -10,8 +10,6 @@ use Rattle.book.proofs.WriteLaws.{run-on, seal-on}
 use borrow.Author.Needs.{needs}
 use Rattle.book.proofs.writing.write_head.Statement.{statement}
 use Rattle.book.proofs.writing.write_head.Tie as tie
-use Rattle.book.proofs.writing.write_head.Reads as reads
-use Rattle.book.proofs.writing.write_head.Lts as lts
 use Rattle.book.proofs.bytes.zeros.Reads as zeros-reads
 use Rattle.book.proofs.writing.seal.Reads as seal-reads
 
@@ -32,7 +30,7 @@ same-length c = c .before .before .seal .kept .0 ∙ c .before .before .before .
 
 returns : tie.Need-returns
 unfolding headBlock
-returns c = 
+returns c =
     let a = c .before .before .before .before .before .before .before .before .before .args in
     seal-on (now (a .room)) _ _ (a .n ∷ a .m ∷ replicate 506 0) 0 (ap (λ k. suc (suc k)) (length-replicate {A = ℕ} 506 0)) (c .before .before .before .before .before .before .before .before .before .pre)
     (run-on (now (a .room)) _ _ (a .n ∷ a .m ∷ []) (replicate 506 0) 0 2 refl refl (c .before .before .before .before .before .before .zeros .ensures))

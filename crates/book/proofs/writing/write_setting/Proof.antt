@@ -11,8 +11,6 @@ use Rattle.book.proofs.WriteLaws.{run-on, seal-on, length-tables}
 use borrow.Author.Needs.{needs}
 use Rattle.book.proofs.writing.write_setting.Statement.{statement}
 use Rattle.book.proofs.writing.write_setting.Tie as tie
-use Rattle.book.proofs.writing.write_setting.Reads as reads
-use Rattle.book.proofs.writing.write_setting.Lts as lts
 use Rattle.book.proofs.bytes.copy.Reads as copy-reads
 use Rattle.book.proofs.bytes.zeros.Reads as zeros-reads
 use Rattle.book.proofs.writing.seal.Reads as seal-reads
@@ -43,7 +41,7 @@ same-length c = search needs
 
 returns : tie.Need-returns
 unfolding settingBlock tablesOf
-returns c = 
+returns c =
     let a = c .before .before .before .before .before .before .before .before .before .before .before .before .before .before .args in
     let tables = tablesOf (now (a .rights)) (a .i) in
     let e : length (tablesOf (now (a .rights)) (a .i)) ≡ 256 = length-tables (now (a .rights)) (a .i) (c .before .before .before .before .before .before .before .before .before .before .before .before .before .before .pre .1) in

@@ -10,8 +10,6 @@ use Rattle.book.specs.Written.{settingBlocks}
 use Rattle.book.proofs.WriteLaws.{settings-step}
 use Rattle.book.proofs.writing.write_settings.Statement.{statement}
 use Rattle.book.proofs.writing.write_settings.Tie as tie
-use Rattle.book.proofs.writing.write_settings.Reads as reads
-use Rattle.book.proofs.writing.write_settings.Lts as lts
 use Rattle.book.proofs.writing.write_setting.Reads as write-setting-reads
 
 abbrev Inv-loop : tie.InvT-loop
@@ -34,7 +32,7 @@ loop-less : tie.Need-loop-less Inv-loop μ-loop
 loop-less c = omega (arith, c .before .before .before .before .loop-test)
 
 loop-again : tie.Need-loop-again Inv-loop μ-loop
-loop-again c = 
+loop-again c =
     let a = c .before .before .before .before .before .before .before .before .args in
     let r = c .before .before .before .before .before .loop in (
       omega (arith, c .before .before .before .before .loop-test),
