@@ -9,10 +9,10 @@ use lib.Dec.{lit≤}
 use lib.ListN.{length, getD, take, drop, replicate, length-append, length-replicate}
 use lib.Seq.{sets, take-take, getD-drop, length-sets}
 use Rattle.book.specs.declared.sums.Sums.{Sums}
-use Rattle.book.specs.Block.{check, block}
+use Rattle.book.specs.Block.{check, block, inOrder}
 use Rattle.book.specs.Sound.{rightsOf, tablesOf}
 use Rattle.book.specs.Written.{bytes16, sealed, headBlock, settingBlock, settingBlocks}
-use Rattle.book.proofs.Lists.{sets-append, getD-sets, length-part}
+use Rattle.book.proofs.Lists.{sets-append, getD-sets, length-part, length-inOrder}
 use Rattle.book.proofs.CheckLaws.{check-same}
 
 -- one run after another
@@ -58,17 +58,14 @@ pub length-tables : (rights : List ℕ) (i : ℕ) → 256 * (1 + i) ≤ length r
 unfolding tablesOf
 length-tables rights i h = length-part rights (256 * i) 256 (omega arith)
 
-pub length-settings : (rights : List ℕ) (i : ℕ) → 256 * i ≤ length rights → length (settingBlocks rights i) ≡ 512 * i
+pub length-settings : (rights : List ℕ) (n : ℕ) → 256 * n ≤ length rights → length (settingBlocks rights n) ≡ 512 * n
 unfolding settingBlocks
-length-settings rights zero h = refl
-length-settings rights (suc i) h =
-    let a : length (settingBlocks rights i) ≡ 512 * i = length-settings rights i (omega arith) in
-    let b : length (settingBlock (tablesOf rights i)) ≡ 512 = length-setting (tablesOf rights i) (length-tables rights i (omega arith)) in
-    simp length-append (omega arith)
+length-settings rights n h =
+    length-inOrder _ 512 n (λ i k. length-setting (tablesOf rights i) (length-tables rights i (omega arith)))
 
 pub settings-step : (rights l r₁ r₂ : List ℕ) (i : ℕ) → 256 * i ≤ length rights → r₁ ≡ sets l 512 (settingBlocks rights i)
     → r₂ ≡ sets r₁ (512 * (1 + i)) (settingBlock (tablesOf rights i)) → r₂ ≡ sets l 512 (settingBlocks rights (i + 1))
-unfolding settingBlocks
+unfolding settingBlocks inOrder
 settings-step rights l r₁ r₂ i h p q =
     rw add-one
     (run-on l r₁ r₂ (settingBlocks rights i) (settingBlock (tablesOf rights i)) 512 (512 * (1 + i))
@@ -80,17 +77,14 @@ pub tables-block : (book : List ℕ) (k : ℕ) → take 256 (block book k) ≡ t
 unfolding block
 tables-block book k = take-take 256 512 (drop (512 * k) book) (lit≤ tt)
 
-pub length-rights : (book : List ℕ) (i : ℕ) → 512 * (1 + i) ≤ length book → length (rightsOf book i) ≡ 256 * i
+pub length-rights : (book : List ℕ) (n : ℕ) → 512 * (1 + n) ≤ length book → length (rightsOf book n) ≡ 256 * n
 unfolding rightsOf
-length-rights book zero h = refl
-length-rights book (suc i) h =
-    let a : length (rightsOf book i) ≡ 256 * i = length-rights book i (omega arith) in
-    let b : length (take 256 (block book (1 + i))) ≡ 256 = ap length (tables-block book (1 + i)) ∙ length-part book (512 * (1 + i)) 256 (omega arith) in
-    simp length-append (omega arith)
+length-rights book n h =
+    length-inOrder _ 256 n (λ i k. ap length (tables-block book (1 + i)) ∙ length-part book (512 * (1 + i)) 256 (omega arith))
 
 pub rights-step : (book l r₁ r₂ : List ℕ) (i : ℕ) → 512 * (1 + i) ≤ length book → r₁ ≡ sets l 0 (rightsOf book i)
     → r₂ ≡ sets r₁ (256 * i) (take 256 (drop (512 * (1 + i)) book)) → r₂ ≡ sets l 0 (rightsOf book (i + 1))
-unfolding rightsOf
+unfolding rightsOf inOrder
 rights-step book l r₁ r₂ i h p q =
     rw add-one
     (run-on l r₁ r₂ (rightsOf book i) (take 256 (block book (1 + i))) 0 (256 * i)

@@ -1,7 +1,7 @@
 -- "Blocks of 512 bytes [..] In each, bytes 508 to 509 and 510 to 511 hold two 16-bit numbers, low byte first: start with s = 1, t = 0; for each of
 -- bytes 0 to 507 add it to s, then add s to t, both keeping only the low 16 bits."
 use mathlib.Core.Path.{_≡_}
-use mathlib.Core.List.{List}
+use mathlib.Core.List.{List, [], _++_}
 use Prim.Native.Nat.{ℕ, zero, suc, _+_, _*_, _/_, _%_, _^_, _≤_, _<_}
 use lib.ListN.{length, getD, take, drop}
 use Rattle.book.specs.declared.sums.Sums.{Sums}
@@ -40,3 +40,8 @@ number16 bytes i = getD bytes i 0 + 256 * getD bytes (i + 1) 0
 pub record RightCheck (bytes : List ℕ) : Type 0 where
   pub holds-s : number16 bytes 508 ≡ check bytes .s
   pub holds-t : number16 bytes 510 ≡ check bytes .t
+
+-- n lists of bytes "in order", one after the other
+unfoldable pub inOrder : (ℕ → List ℕ) → ℕ → List ℕ
+inOrder f zero = []
+inOrder f (suc i) = inOrder f i ++ f i

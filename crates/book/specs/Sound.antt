@@ -1,11 +1,11 @@
 -- What a sound book is, and its rights.
 use mathlib.Core.Path.{_≡_}
-use mathlib.Core.List.{List, [], _++_}
-use Prim.Native.Nat.{ℕ, zero, suc, _+_, _*_, _≤_, _<_}
+use mathlib.Core.List.{List}
+use Prim.Native.Nat.{ℕ, _+_, _*_, _≤_, _<_}
 use lib.ListN.{length, getD, take, drop}
 use Rattle.ground.specs.Table.{Within}
 use Rattle.book.specs.declared.rule.Right.{Right}
-use Rattle.book.specs.Block.{block, Zeros, RightCheck}
+use Rattle.book.specs.Block.{block, Zeros, RightCheck, inOrder}
 use Rattle.book.specs.Rule.{table}
 
 -- "Settings n: 1 to 7", "Posts m: 1 to 8"
@@ -44,8 +44,7 @@ pub record Sound (book : List ℕ) (n m : ℕ) : Type 0 where
 
 -- "Rights in memory are the n × 256 table bytes": those of the first n settings of a book
 unfoldable pub rightsOf : List ℕ → ℕ → List ℕ
-rightsOf book zero = []
-rightsOf book (suc i) = rightsOf book i ++ take 256 (block book (1 + i))
+rightsOf book n = inOrder (λ i. take 256 (block book (1 + i))) n
 
 -- the 256 table bytes of setting i
 unfoldable pub tablesOf : List ℕ → ℕ → List ℕ

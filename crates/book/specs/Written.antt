@@ -1,9 +1,9 @@
 -- The bytes of a book, made from its numbers and rights.
 use mathlib.Core.Path.{_≡_}
 use mathlib.Core.List.{List, [], _∷_, _++_}
-use Prim.Native.Nat.{ℕ, zero, suc, _+_, _*_, _/_, _%_, _≤_, _<_}
+use Prim.Native.Nat.{ℕ, _+_, _*_, _/_, _%_, _≤_, _<_}
 use lib.ListN.{length, replicate}
-use Rattle.book.specs.Block.{check}
+use Rattle.book.specs.Block.{check, inOrder}
 use Rattle.book.specs.Sound.{Settings, Posts, Tables, tablesOf}
 
 -- "16-bit numbers, low byte first"
@@ -24,8 +24,7 @@ settingBlock tables = sealed (tables ++ replicate 252 0)
 
 -- "one per setting in order": the blocks of the first n settings
 unfoldable pub settingBlocks : List ℕ → ℕ → List ℕ
-settingBlocks rights zero = []
-settingBlocks rights (suc i) = settingBlocks rights i ++ settingBlock (tablesOf rights i)
+settingBlocks rights n = inOrder (λ i. settingBlock (tablesOf rights i)) n
 
 -- "one head, then one per setting in order"
 unfoldable pub bookOf : ℕ → ℕ → List ℕ → List ℕ

@@ -6,6 +6,7 @@ use native.Mathlib.Omega.{arith}
 use denote.Ref.{now}
 use lib.ListN.{length}
 use lib.Seq.{sets}
+use Rattle.book.specs.Block.{inOrder}
 use Rattle.book.specs.Sound.{rightsOf}
 use Rattle.book.proofs.WriteLaws.{rights-step}
 use Rattle.book.proofs.reading.copy_rights.Statement.{statement}
@@ -19,7 +20,7 @@ abbrev μ-loop : tie.MeasureT-loop
 μ-loop book n room₀ i₀ room i = n - i
 
 loop-holds : tie.Need-loop-holds Inv-loop μ-loop
-unfolding rightsOf
+unfolding rightsOf inOrder
 loop-holds c = (search needs, refl, refl)
 
 add-copy : tie.Need-add-copy Inv-loop μ-loop

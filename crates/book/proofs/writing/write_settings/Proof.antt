@@ -6,6 +6,7 @@ use native.Mathlib.Omega.{arith}
 use denote.Ref.{now}
 use lib.ListN.{length}
 use lib.Seq.{sets}
+use Rattle.book.specs.Block.{inOrder}
 use Rattle.book.specs.Written.{settingBlocks}
 use Rattle.book.proofs.WriteLaws.{settings-step}
 use Rattle.book.proofs.writing.write_settings.Statement.{statement}
@@ -19,7 +20,7 @@ abbrev μ-loop : tie.MeasureT-loop
 μ-loop rights n room₀ i₀ room i = n - i
 
 loop-holds : tie.Need-loop-holds Inv-loop μ-loop
-unfolding settingBlocks
+unfolding settingBlocks inOrder
 loop-holds c = (search needs, refl, refl)
 
 write-setting-requires : tie.Need-write-setting-requires Inv-loop μ-loop
