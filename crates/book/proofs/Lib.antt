@@ -7,5 +7,8 @@ pub mod CheckLaws
 pub mod StrayLaws
 pub mod BookLaws
 pub mod WriteLaws
+pub mod BlockLaws
 pub mod RefusalLaws
 pub mod SoundLaws
+pub mod RoundTrip
+pub mod Theorems

@@ -70,17 +70,17 @@ module _ (f : ℕ → List ℕ) (w : ℕ) where
       let a : length (inOrder f n) ≡ w * n = length-inOrder n (λ j k. e j (omega arith)) in
       ⊎-elim
       (λ (l : i < n).
-          let fits : w * i + w ≤ length (inOrder f n) = rw (a, ← mul-suc) (mul-le-mul-left w l) in
-          let at : w * i ≤ length (inOrder f n) = omega arith in
-          let left : w ≤ length (drop (w * i) (inOrder f n)) = rw length-drop (omega arith) in
-          ap (take w) (drop-append-le (w * i) (inOrder f n) (f n) at)
-          ∙ take-append-le w (drop (w * i) (inOrder f n)) (f n) left
-          ∙ part-inOrder n (λ j k. e j (omega arith)) i l)
+      let fits : w * i + w ≤ length (inOrder f n) = rw (a, ← mul-suc) (mul-le-mul-left w l) in
+      let at : w * i ≤ length (inOrder f n) = omega arith in
+      let left : w ≤ length (drop (w * i) (inOrder f n)) = rw length-drop (omega arith) in
+      ap (take w) (drop-append-le (w * i) (inOrder f n) (f n) at)
+      ∙ take-append-le w (drop (w * i) (inOrder f n)) (f n) left
+      ∙ part-inOrder n (λ j k. e j (omega arith)) i l)
       (λ (l : n ≤ i).
-          let s : n ≡ i = omega arith in
-          ap (take w) (drop-at (inOrder f n) (f n) (w * i) (a ∙ ap (λ k. w * k) s))
-          ∙ ap (λ k. take w (f k)) s
-          ∙ take-all w (f i) (le-of-eq (e i h)))
+      let s : n ≡ i = omega arith in
+      ap (take w) (drop-at (inOrder f n) (f n) (w * i) (a ∙ ap (λ k. w * k) s))
+      ∙ ap (λ k. take w (f k)) s
+      ∙ take-all w (f i) (le-of-eq (e i h)))
       (lt-or-ge i n)
 
 pub inOrder-same : (f g : ℕ → List ℕ) (n : ℕ) → ((i : ℕ) → i < n → f i ≡ g i) → inOrder f n ≡ inOrder g n

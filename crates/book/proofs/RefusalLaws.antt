@@ -58,7 +58,7 @@ lowest-tables rights n m r byte low =
     (tables-clean n m (tablesOf rights i) (λ j h. rw (getD-part rights (256 * i) 256 j h) (byte (256 * i + j))) t))
     low
 
-down : (i : ℕ) → 1 + i - 1 ≡ i
+pub down : (i : ℕ) → 1 + i - 1 ≡ i
 down i = omega arith
 
 -- the place of setting i is block 1 + i

@@ -13,15 +13,15 @@ use Rattle.book.specs.declared.writing.WriteAnswer.{WriteAnswer}
 use Rattle.book.specs.declared.writing.WriteAnswer.the-variants.{Written, Refused as NotWritten}
 use Rattle.book.specs.declared.refusal.Refusal.{Refusal}
 use Rattle.book.specs.Block.{blocks, block, RightCheck}
-use Rattle.book.specs.Sound.{Sound, SettingBlock, rightsOf}
+use Rattle.book.specs.Sound.{Sound, Tables, SettingBlock, rightsOf, tablesOf}
 use Rattle.book.specs.Written.{headBlock, settingBlocks, bookOf, Writable}
 use Rattle.book.specs.Order.{First, Clear}
 use Rattle.book.specs.Refusals.{number, place, Whole, settingsOf, postsOf, RightHead, bookRows, readRows, writeRows}
 use Rattle.book.specs.Promise.{Judges}
 use Rattle.book.specs.Inner.{MayWrite}
 use Rattle.book.proofs.Lists.{sets-front}
-use Rattle.book.proofs.OrderLaws.{least-only, none-only, first-left, first-right}
-use Rattle.book.proofs.RefusalLaws.{none-block}
+use Rattle.book.proofs.OrderLaws.{least-only, none-only, first-left, first-right, clear-append}
+use Rattle.book.proofs.RefusalLaws.{none-block, down}
 use Rattle.book.proofs.WriteLaws.{run-on, length-head, length-settings, length-rights}
 
 module _ {book : List ℕ} {n m : ℕ} (sound : Sound book n m) where
@@ -114,3 +114,27 @@ unfolding bookOf
 write-room n m rights room headed after w h p q =
     filled room after (headBlock n m ++ settingBlocks rights n) (512 * (1 + n)) (length-book n m rights (w .size)) h
     (run-on room headed after (headBlock n m) (settingBlocks rights n) 0 512 (omega (arith, length-head n m)) p q)
+
+-- ---- none of a function's refusals
+
+pub read-clear : {book : List ℕ} (room : List ℕ) {n m : ℕ} → Sound book n m → 256 * n ≤ length room → Clear (readRows book room)
+unfolding readRows
+read-clear {book} room {n} sound h =
+    clear-append (bookRows book) _ (sound-clear sound)
+    (none-only (λ short. let s : length room < 256 * n = rw (sound-settings sound) at short in omega arith), tt)
+
+pub writable-clear : {n m : ℕ} {rights : List ℕ} (room : List ℕ) → Writable n m rights → 512 * (1 + n) ≤ length room → Clear (writeRows n m rights room)
+unfolding writeRows
+writable-clear {n} {m} {rights} room w h = (
+  none-only (λ f. f (w .settings)),
+  (
+    none-only (λ f. f (w .posts)),
+    (
+      none-only (λ f. f (w .size)),
+      (
+        none-block (λ k. Tables n m (tablesOf rights (k - 1))) (λ i l. subst (λ x. Tables n m (tablesOf rights x)) (sym (down i)) (w .tables i l)),
+        (none-only (λ short. omega arith), tt),
+      ),
+    ),
+  ),
+)

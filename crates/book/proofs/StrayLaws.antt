@@ -63,7 +63,7 @@ unfolding tablePlace
 place-mod q Look o h = omega arith
 place-mod q Set o h = omega arith
 
-place-post : (q : ℕ) (right : Right) (o : ℕ) → o < 16 → (32 * q ≤ tablePlace q right + o) × (tablePlace q right + o < 32 * q + 32)
+pub place-post : (q : ℕ) (right : Right) (o : ℕ) → o < 16 → (32 * q ≤ tablePlace q right + o) × (tablePlace q right + o < 32 * q + 32)
 unfolding tablePlace
 place-post q Look o h = omega arith
 place-post q Set o h = omega arith
