@@ -25,16 +25,32 @@ pub use sums::check_of;
 pub use writing::WriteAnswer;
 pub use writing::write;
 
-// The bytes of a block.
-pub const BLOCK: usize = 512;
-
-// The bytes of a block that its check is over.
-pub const CHECKED: usize = 508;
-
-// The bytes of a setting's tables: 8 posts, each with 16 bytes for looking and 16 for setting.
-pub const TABLES: usize = 256;
-
 // The most settings and the most posts that a book has.
 pub const SETTINGS_MOST: usize = 7;
 
 pub const POSTS_MOST: usize = 8;
+
+// The bytes of a block, of the part of it that its check is over, where the check's two sums stand
+// after that, and the fewest and most blocks of a book: the head and 1 to 7 settings.
+pub const BLOCK: usize = 512;
+
+pub const CHECKED: usize = 508;
+
+const S_AT: usize = 508;
+
+const T_AT: usize = 510;
+
+pub const BLOCKS_LEAST: usize = 2;
+
+pub const BLOCKS_MOST: usize = 8;
+
+// The bytes of a post's two tables for one setting, look and set, and of the tables of all 8 posts.
+pub const POST: usize = 32;
+
+pub const TABLES: usize = 256;
+
+// The zero bytes before the check: in the head after n and m, 508 - 2, and in a setting's block
+// after its tables, 508 - 256.
+const HEAD_ZEROS: usize = 506;
+
+const SETTING_ZEROS: usize = 252;

@@ -1,4 +1,10 @@
 // From a book's bytes to rights in memory.
+use super::BLOCK;
+use super::BLOCKS_LEAST;
+use super::BLOCKS_MOST;
+use super::CHECKED;
+use super::POSTS_MOST;
+use super::TABLES;
 use super::bytes::copy;
 use super::refusal::Refusal;
 use super::stray::first_stray;
@@ -25,13 +31,13 @@ pub enum ReadAnswer {
 fn is_whole(book: &[u8]) -> bool
     ensures { λ r. ⌜ Tells r (Whole (now (book .entry))) ⌝ }
 {
-    if book.len() % 512 != 0 {
+    if book.len() % BLOCK != 0 {
         return false;
     }
-    if book.len() / 512 < 2 {
+    if book.len() / BLOCK < BLOCKS_LEAST {
         return false;
     }
-    if 8 < book.len() / 512 {
+    if BLOCKS_MOST < book.len() / BLOCK {
         return false;
     }
     true
@@ -43,7 +49,7 @@ fn is_plain(book: &[u8]) -> bool
     ensures { λ r. ⌜ Tells r (Zeros 2 508 (now (book .entry))) ⌝ }
 {
     let mut j = 2;
-    while j < 508 {
+    while j < CHECKED {
         if book[j] != 0 {
             return false;
         }
@@ -58,14 +64,14 @@ fn is_head(book: &[u8]) -> bool
     ensures { λ r. ⌜ Tells r (RightHead (now (book .entry))) ⌝ }
 {
     let n = book[0] as usize;
-    if n != book.len() / 512 - 1 {
+    if n != book.len() / BLOCK - 1 {
         return false;
     }
-    let m = book[1];
+    let m = book[1] as usize;
     if m < 1 {
         return false;
     }
-    if 8 < m {
+    if POSTS_MOST < m {
         return false;
     }
     is_plain(book)
@@ -78,7 +84,7 @@ pub fn sound(book: &[u8]) -> ReadAnswer
     if !is_whole(book) {
         return ReadAnswer::Refused(Refusal::Length);
     }
-    let blocks = book.len() / 512;
+    let blocks = book.len() / BLOCK;
     let wrong = first_wrong(book, blocks);
     if wrong < blocks {
         return ReadAnswer::Refused(Refusal::Check(wrong));
@@ -88,7 +94,7 @@ pub fn sound(book: &[u8]) -> ReadAnswer
     }
     let n = book[0];
     let m = book[1];
-    let stray = first_stray(book, 512, 512, 508, n as usize, m);
+    let stray = first_stray(book, BLOCK, BLOCK, CHECKED, n as usize, m);
     if stray < n as usize {
         return ReadAnswer::Refused(Refusal::StrayBit(stray + 1));
     }
@@ -105,7 +111,7 @@ fn copy_rights(book: &[u8], n: usize, room: &mut [u8])
 {
     let mut i = 0;
     while i < n {
-        copy(book, 512 * (1 + i), 256, room, 256 * i);
+        copy(book, BLOCK * (1 + i), TABLES, room, TABLES * i);
         i += 1;
     }
 }
@@ -119,7 +125,7 @@ pub fn read(book: &[u8], room: &mut [u8]) -> ReadAnswer
         ReadAnswer::Refused(refusal) => ReadAnswer::Refused(refusal),
         ReadAnswer::Book { settings, posts } => {
             let n = settings as usize;
-            if room.len() < 256 * n {
+            if room.len() < TABLES * n {
                 return ReadAnswer::Refused(Refusal::Room);
             }
             copy_rights(book, n, room);

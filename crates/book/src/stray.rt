@@ -1,6 +1,8 @@
 // Bits of a setting's tables that must be zero: in tables of posts that don't exist, past 2^n, and
 // in the bytes of a block after the tables.
+use super::POST;
 use super::bytes::peek;
+use ground::TABLE;
 ghost use mathlib.Core.Path.{_≡_};
 ghost use Prim.Native.Nat.{_+_, _*_, _^_, _≤_, _<_};
 ghost use lib.ListN.{drop};
@@ -10,10 +12,10 @@ ghost use Rattle.book.specs.Inner.{Tells, Lowest, live, Clean};
 fn live_bits(all: usize, m: u8, j: usize) -> usize
     ensures { λ r. ⌜ r ≡ live all m j ⌝ }
 {
-    if 32 * (m as usize) <= j {
+    if POST * (m as usize) <= j {
         return 0;
     }
-    let first = 8 * (j % 16);
+    let first = 8 * (j % TABLE);
     if all <= first {
         return 0;
     }

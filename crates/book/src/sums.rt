@@ -1,5 +1,8 @@
 // The check of a block: two running sums of 16 bits over its first 508 bytes.
+use super::BLOCK;
 use super::CHECKED;
+use super::S_AT;
+use super::T_AT;
 use super::bytes::peek;
 ghost use mathlib.Core.Path.{_≡_};
 ghost use Prim.Native.Nat.{_≤_};
@@ -50,10 +53,10 @@ fn is_right(bytes: &[u8], from: usize) -> bool
     ensures { λ r. ⌜ Tells r (RightCheck (drop from (now (bytes .entry)))) ⌝ }
 {
     let sums = check_of(bytes, from);
-    if number_at(bytes, from, 508) != sums.s {
+    if number_at(bytes, from, S_AT) != sums.s {
         return false;
     }
-    if number_at(bytes, from, 510) != sums.t {
+    if number_at(bytes, from, T_AT) != sums.t {
         return false;
     }
     true
@@ -66,7 +69,7 @@ pub(crate) fn first_wrong(book: &[u8], count: usize) -> usize
 {
     let mut k = 0;
     while k < count {
-        if !is_right(book, 512 * k) {
+        if !is_right(book, BLOCK * k) {
             return k;
         }
         k += 1;

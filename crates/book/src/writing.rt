@@ -1,4 +1,12 @@
 // From rights in memory to a book's bytes.
+use super::BLOCK;
+use super::HEAD_ZEROS;
+use super::POSTS_MOST;
+use super::S_AT;
+use super::SETTING_ZEROS;
+use super::SETTINGS_MOST;
+use super::T_AT;
+use super::TABLES;
 use super::bytes::copy;
 use super::bytes::put16;
 use super::bytes::zeros;
@@ -30,8 +38,8 @@ fn seal(room: &mut [u8], at: usize)
     ensures { λ _. ⌜ now (room .exit) ≡ sets (now (room .entry)) (at + 508) (bytes16 (check (drop at (now (room .entry))) .s) ++ bytes16 (check (drop at (now (room .entry))) .t)) ⌝ }
 {
     let sums = check_of(room, at);
-    put16(sums.s, room, at + 508);
-    put16(sums.t, room, at + 510);
+    put16(sums.s, room, at + S_AT);
+    put16(sums.t, room, at + T_AT);
 }
 
 // Writes the head block.
@@ -41,7 +49,7 @@ fn write_head(n: u8, m: u8, room: &mut [u8])
 {
     room[0] = n;
     room[1] = m;
-    zeros(506, room, 2);
+    zeros(HEAD_ZEROS, room, 2);
     seal(room, 0);
 }
 
@@ -50,9 +58,9 @@ fn write_setting(rights: &[u8], i: usize, room: &mut [u8])
     requires { ⌜ (i ≤ 7) × (256 * (1 + i) ≤ length (now rights)) × (512 * (2 + i) ≤ length (now room)) ⌝ }
     ensures { λ _. ⌜ now (room .exit) ≡ sets (now (room .entry)) (512 * (1 + i)) (settingBlock (tablesOf (now (rights .entry)) i)) ⌝ }
 {
-    let at = 512 * (1 + i);
-    copy(rights, 256 * i, 256, room, at);
-    zeros(252, room, at + 256);
+    let at = BLOCK * (1 + i);
+    copy(rights, TABLES * i, TABLES, room, at);
+    zeros(SETTING_ZEROS, room, at + TABLES);
     seal(room, at);
 }
 
@@ -75,23 +83,23 @@ fn judge(n: usize, m: usize, rights: &[u8], room: &[u8]) -> WriteAnswer
     if n < 1 {
         return WriteAnswer::Refused(Refusal::Settings);
     }
-    if 7 < n {
+    if SETTINGS_MOST < n {
         return WriteAnswer::Refused(Refusal::Settings);
     }
     if m < 1 {
         return WriteAnswer::Refused(Refusal::Head);
     }
-    if 8 < m {
+    if POSTS_MOST < m {
         return WriteAnswer::Refused(Refusal::Head);
     }
-    if rights.len() != 256 * n {
+    if rights.len() != TABLES * n {
         return WriteAnswer::Refused(Refusal::Length);
     }
-    let stray = first_stray(rights, 0, 256, 256, n, m as u8);
+    let stray = first_stray(rights, 0, TABLES, TABLES, n, m as u8);
     if stray < n {
         return WriteAnswer::Refused(Refusal::StrayBit(stray + 1));
     }
-    if room.len() < 512 * (1 + n) {
+    if room.len() < BLOCK * (1 + n) {
         return WriteAnswer::Refused(Refusal::Room);
     }
     WriteAnswer::Written

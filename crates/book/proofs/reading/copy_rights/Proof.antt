@@ -11,7 +11,6 @@ use Rattle.book.specs.Sound.{rightsOf}
 use Rattle.book.proofs.WriteLaws.{rights-step}
 use Rattle.book.proofs.reading.copy_rights.Statement.{statement}
 use Rattle.book.proofs.reading.copy_rights.Tie as tie
-use Rattle.book.proofs.bytes.copy.Reads as copy-reads
 
 abbrev Inv-loop : tie.InvT-loop
 Inv-loop book n room₀ i₀ room i = (i ≤ n) × (length room ≡ length room₀) × (room ≡ sets room₀ 0 (rightsOf book i))

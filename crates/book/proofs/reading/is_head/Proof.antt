@@ -5,7 +5,6 @@ use Rattle.book.proofs.Answers.{tells-iff}
 use Rattle.book.proofs.BookLaws.{whole-length, right-head, head-settings, head-posts, head-rest}
 use Rattle.book.proofs.reading.is_head.Statement.{statement}
 use Rattle.book.proofs.reading.is_head.Tie as tie
-use Rattle.book.proofs.reading.is_plain.Reads as is-plain-reads
 
 shared-slice-read-n : tie.Need-shared-slice-read-n
 shared-slice-read-n c = omega (arith, whole-length (c .before .before .pre))
@@ -21,6 +20,9 @@ returns c = λ right. c .if1 .taken (head-settings right)
 
 shared-slice-read-m : tie.Need-shared-slice-read-m
 shared-slice-read-m c = omega (arith, whole-length (c .before .before .before .before .pre))
+
+cast-m : tie.Need-cast-m
+cast-m c = omega (arith, c .shared-slice-known3 .given 1)
 
 returns-2 : tie.Need-returns-2
 returns-2 c = λ right. omega (arith, head-posts right)
@@ -43,6 +45,7 @@ is-head-spec =
     sub-if1
     returns
     shared-slice-read-m
+    cast-m
     returns-2
     returns-3
     is-plain-requires

@@ -2,13 +2,16 @@
 use native.Mathlib.Omega.{arith}
 use mathlib.Core.Path.{refl}
 use denote.Ref.{now}
+use Rattle.book.specs.Sound.{Sound}
 use Rattle.book.specs.Refusals.{number, place}
 use Rattle.book.proofs.SoundLaws.{judged-book, judged-refused, no-room, read-room}
 use borrow.Author.Needs.{needs}
 use Rattle.book.proofs.reading.read.Statement.{statement}
 use Rattle.book.proofs.reading.read.Tie as tie
-use Rattle.book.proofs.reading.copy_rights.Reads as copy-rights-reads
-use Rattle.book.proofs.reading.sound.Reads as sound-reads
+
+-- in the arm of a book, the book is sound
+book : (c : tie.After-known-told2) → Sound (now (c .before .before .before .before .before .before .args .book)) (c .before .answer2 .given .0 .0) (c .before .answer2 .given .0 .1 .0)
+book c = judged-book (now (c .before .before .before .before .before .before .args .book)) (c .before .before .before .sound .result) (c .before .answer2 .given .0 .0) (c .before .answer2 .given .0 .1 .0) (c .before .before .before .sound .ensures) (c .before .answer2 .given .1)
 
 sound-requires : tie.Need-sound-requires
 sound-requires c κs = search needs
@@ -27,20 +30,21 @@ mul-if1 c = search needs
 
 returns : tie.Need-returns
 unfolding number place
-returns c = (no-room (now (c .before .before .before .before .before .before .before .args .room)) (judged-book (now (c .before .before .before .before .before .before .before .args .book)) (c .before .before .before .before .sound .result) (c .before .before .answer2 .given .0 .0) (c .before .before .answer2 .given .0 .1 .0) (c .before .before .before .before .sound .ensures) (c .before .before .answer2 .given .1)) (c .if1 .taken), refl)
+returns c = (no-room (now (c .before .before .before .before .before .before .before .args .room)) (book (c .before)) (c .if1 .taken), refl)
 
 copy-rights-requires : tie.Need-copy-rights-requires
-copy-rights-requires c κs = let s = (judged-book (now (c .before .before .before .before .before .before .before .before .args .book)) (c .before .before .before .before .before .sound .result) (c .before .before .before .answer2 .given .0 .0) (c .before .before .before .answer2 .given .0 .1 .0) (c .before .before .before .before .before .sound .ensures) (c .before .before .before .answer2 .given .1)) in omega (arith, s .settings .most, s .size, c .before .if1)
+copy-rights-requires c κs = let s = book (c .before .before) in omega (arith, s .settings .most, s .size, c .before .if1)
 
 returns-2 : tie.Need-returns-2
-returns-2 c = (judged-refused (now (c .before .before .before .before .before .before .args .book)) (now (c .before .before .before .before .before .before .args .room)) (c .before .before .before .sound .result) (c .before .answer .given .0 .0) (c .before .before .before .sound .ensures) (c .before .answer .given .1), refl)
+returns-2 c =
+    (judged-refused (now (c .before .before .before .before .before .before .args .book)) (now (c .before .before .before .before .before .before .args .room)) (c .before .before .before .sound .result) (c .before .answer .given .0 .0) (c .before .before .before .sound .ensures) (c .before .answer .given .1), refl)
 
 same-length : tie.Need-same-length
 same-length c = search needs
 
 returns-3 : tie.Need-returns-3
 returns-3 c =
-    let s = (judged-book (now (c .before .before .before .before .before .before .before .before .before .before .before .args .book)) (c .before .before .before .before .before .before .before .before .sound .result) (c .before .before .before .before .before .before .answer2 .given .0 .0) (c .before .before .before .before .before .before .answer2 .given .0 .1 .0) (c .before .before .before .before .before .before .before .before .sound .ensures) (c .before .before .before .before .before .before .answer2 .given .1)) in
+    let s = book (c .before .before .before .before .before) in
     (s, c .before .before .before .before .if1 .left, read-room (now (c .before .before .before .before .before .before .before .before .before .before .before .args .room)) _ s (c .before .before .before .before .if1 .left) (c .before .before .copy-rights .ensures))
 
 pub read-spec : {M : Type 1} → statement M

@@ -12,7 +12,6 @@ use Rattle.book.proofs.Answers.{told, untold, lowest-at, lowest-none}
 use Rattle.book.proofs.StrayLaws.{one-shifted, clean-tells}
 use Rattle.book.proofs.stray.first_stray.Statement.{statement}
 use Rattle.book.proofs.stray.first_stray.Tie as tie
-use Rattle.book.proofs.stray.is_clean.Reads as is-clean-reads
 
 abbrev Inv-loop : tie.InvT-loop
 Inv-loop bytes from stride count n m all i₀ i = (i ≤ n) × (all ≡ 2 ^ n) × ((k : ℕ) → k < i → Clean (2 ^ n) m count (drop (from + stride * k) bytes))

@@ -10,9 +10,6 @@ use Rattle.book.proofs.Answers.{told, untold}
 use Rattle.book.proofs.StrayLaws.{live-most, Alive, byte-tells}
 use Rattle.book.proofs.stray.is_clean.Statement.{statement}
 use Rattle.book.proofs.stray.is_clean.Tie as tie
-use Rattle.book.proofs.bytes.peek.Reads as peek-reads
-use Rattle.book.proofs.stray.fits.Reads as fits-reads
-use Rattle.book.proofs.stray.live_bits.Reads as live-bits-reads
 
 abbrev Inv-loop : tie.InvT-loop
 Inv-loop bytes from count all m j₀ j = (j ≤ count) × ((k : ℕ) → k < j → Alive all m (drop from bytes) k)

@@ -3,7 +3,6 @@ use Rattle.book.specs.Block.{added}
 use borrow.Author.Needs.{needs}
 use Rattle.book.proofs.sums.add.Statement.{statement}
 use Rattle.book.proofs.sums.add.Tie as tie
-use Rattle.std.proofs.num.wrapping_add_u16.Reads as wrapping-add-u16-reads
 
 wrapping-add-u16-requires : tie.Need-wrapping-add-u16-requires
 wrapping-add-u16-requires c κs = search needs

@@ -10,8 +10,6 @@ use Rattle.book.specs.Block.{sumsAfter, check}
 use Rattle.book.proofs.CheckLaws.{sums-step}
 use Rattle.book.proofs.sums.check_of.Statement.{statement}
 use Rattle.book.proofs.sums.check_of.Tie as tie
-use Rattle.book.proofs.bytes.peek.Reads as peek-reads
-use Rattle.book.proofs.sums.add.Reads as add-reads
 
 abbrev Inv-loop : tie.InvT-loop
 Inv-loop bytes from sums₀ i₀ sums i = (i ≤ 508) × (sums ≡ sumsAfter (drop from bytes) i)

@@ -9,7 +9,6 @@ use Rattle.book.proofs.Answers.{told, untold, tells-iff, lowest-at, low
 use Rattle.book.proofs.CheckLaws.{right-block, right-drop}
 use Rattle.book.proofs.sums.first_wrong.Statement.{statement}
 use Rattle.book.proofs.sums.first_wrong.Tie as tie
-use Rattle.book.proofs.sums.is_right.Reads as is-right-reads
 
 abbrev Inv-loop : tie.InvT-loop
 Inv-loop book count k₀ k = (k ≤ count) × ((j : ℕ) → j < k → RightCheck (block book j))

@@ -4,8 +4,6 @@ use Rattle.book.specs.declared.sums.Sums.{Sums}
 use borrow.Author.Needs.{needs}
 use Rattle.book.proofs.sums.is_right.Statement.{statement}
 use Rattle.book.proofs.sums.is_right.Tie as tie
-use Rattle.book.proofs.sums.check_of.Reads as check-of-reads
-use Rattle.book.proofs.sums.number_at.Reads as number-at-reads
 
 check-of-requires : tie.Need-check-of-requires
 check-of-requires c κs = search needs

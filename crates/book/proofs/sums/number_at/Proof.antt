@@ -7,7 +7,6 @@ use Rattle.book.specs.Block.{number16}
 use borrow.Author.Needs.{needs}
 use Rattle.book.proofs.sums.number_at.Statement.{statement}
 use Rattle.book.proofs.sums.number_at.Tie as tie
-use Rattle.book.proofs.bytes.peek.Reads as peek-reads
 
 peek-requires : tie.Need-peek-requires
 peek-requires c κs = search needs

@@ -11,8 +11,6 @@ use Rattle.book.proofs.WriteLaws.{run-on}
 use borrow.Author.Needs.{needs}
 use Rattle.book.proofs.writing.seal.Statement.{statement}
 use Rattle.book.proofs.writing.seal.Tie as tie
-use Rattle.book.proofs.bytes.put16.Reads as put16-reads
-use Rattle.book.proofs.sums.check_of.Reads as check-of-reads
 
 check-of-requires : tie.Need-check-of-requires
 check-of-requires c κs = search needs

@@ -10,8 +10,6 @@ use Rattle.book.proofs.WriteLaws.{run-on, seal-on}
 use borrow.Author.Needs.{needs}
 use Rattle.book.proofs.writing.write_head.Statement.{statement}
 use Rattle.book.proofs.writing.write_head.Tie as tie
-use Rattle.book.proofs.bytes.zeros.Reads as zeros-reads
-use Rattle.book.proofs.writing.seal.Reads as seal-reads
 
 slice-write-room : tie.Need-slice-write-room
 slice-write-room c = search needs

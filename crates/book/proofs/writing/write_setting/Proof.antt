@@ -11,9 +11,6 @@ use Rattle.book.proofs.WriteLaws.{run-on, seal-on, length-tables}
 use borrow.Author.Needs.{needs}
 use Rattle.book.proofs.writing.write_setting.Statement.{statement}
 use Rattle.book.proofs.writing.write_setting.Tie as tie
-use Rattle.book.proofs.bytes.copy.Reads as copy-reads
-use Rattle.book.proofs.bytes.zeros.Reads as zeros-reads
-use Rattle.book.proofs.writing.seal.Reads as seal-reads
 
 add-at : tie.Need-add-at
 add-at c = search needs

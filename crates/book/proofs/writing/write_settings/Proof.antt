@@ -11,7 +11,6 @@ use Rattle.book.specs.Written.{settingBlocks}
 use Rattle.book.proofs.WriteLaws.{settings-step}
 use Rattle.book.proofs.writing.write_settings.Statement.{statement}
 use Rattle.book.proofs.writing.write_settings.Tie as tie
-use Rattle.book.proofs.writing.write_setting.Reads as write-setting-reads
 
 abbrev Inv-loop : tie.InvT-loop
 Inv-loop rights n room₀ i₀ room i = (i ≤ n) × (length room ≡ length room₀) × (room ≡ sets room₀ 512 (settingBlocks rights i))
