@@ -1,0 +1,5 @@
+-- The laws and theorems about formulas.
+pub mod Automaton
+pub mod Begins
+pub mod Broken
+pub mod TwoWords
