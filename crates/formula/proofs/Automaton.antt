@@ -66,7 +66,7 @@ after (wants d) i s = verdict (wants d) (suc i) s
 after (has d) i s = verdict (has d) (suc i) s
 after dead i s = breaks i
 
-pub verdict-cons : (st : State) (i c : ℕ) (s : List ℕ) → verdict st i (c ∷ s) ≡ after (step st c) i s
+verdict-cons : (st : State) (i c : ℕ) (s : List ℕ) → verdict st i (c ∷ s) ≡ after (step st c) i s
 unfolding verdict
 verdict-cons st i c s = go (step st c)
   where
@@ -74,6 +74,9 @@ verdict-cons st i c s = go (step st c)
     go (wants d) = refl
     go (has d) = refl
     go dead = refl
+
+pub verdict-dies : (st : State) (i c : ℕ) (s : List ℕ) → step st c ≡ dead → verdict st i (c ∷ s) ≡ breaks i
+verdict-dies st i c s e = verdict-cons st i c s ∙ ap (λ (x : State). after x i s) e
 
 -- what a text that is survived leaves to be judged
 after-append : (s t : List ℕ) (i : ℕ) → ((st : State) (j : ℕ) → T (alive (run st s)) → verdict st j (s ++ t) ≡ verdict (run st s) (j + length s) t)

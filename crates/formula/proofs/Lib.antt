@@ -3,3 +3,5 @@ pub mod Automaton
 pub mod Begins
 pub mod Broken
 pub mod TwoWords
+pub mod ScanLaws
+pub mod PartLaws

@@ -8,7 +8,8 @@ use native.Mathlib.Nat.{mod-lt}
 use native.Mathlib.Omega.{arith}
 use lib.Dec.{T, ltb, ltb→lt, nltb→le, lt→ltb, lit<, lit≤}
 use lib.Bits.{bitAnd, bitOr, bitXor}
-use lib.ListN.{length, getD, List·getD-eq-default}
+use lib.ListN.{length, getD, set, List·getD-eq-default}
+use lib.Seq.{getD-set-same, getD-set-other}
 use lib.Pow.{pow-mono}
 use borrow.Author.Tests.{lt-ltb, le-ltb}
 use Rattle.ground.specs.Digits.{bit, digit}
@@ -31,17 +32,24 @@ by-test : (w : Words) (f : ℕ → Bool) → T (all 128 (λ v. Bool·beq (has w 
 unfolding Holds
 by-test w f t v h = beq→eq (has w v) (f v) (all-at 128 (λ v. Bool·beq (has w v) (f v)) t v h)
 
-pub true-holds : Holds (words every every) (λ v. true)
+true-holds : Holds (words every every) (λ v. true)
 unfolding all has bit digit
 true-holds = by-test (words every every) (λ v. true) tt
 
-pub false-holds : Holds (words 0 0) (λ v. false)
+false-holds : Holds (words 0 0) (λ v. false)
 unfolding all has bit digit
 false-holds = by-test (words 0 0) (λ v. false) tt
 
+-- the constant that a test found
+pub constant-true : (b : Bool) → b ≡ true → Holds (words every every) (λ v. b)
+constant-true b e = subst (λ (b : Bool). Holds (words every every) (λ v. b)) (sym e) true-holds
+
+pub constant-false : (b : Bool) → b ≡ false → Holds (words 0 0) (λ v. b)
+constant-false b e = subst (λ (b : Bool). Holds (words 0 0) (λ v. b)) (sym e) false-holds
+
 -- ---- letters
 
-pub letters : List ℕ
+unfoldable pub letters : List ℕ
 letters = 0xaaaa_aaaa_aaaa_aaaa ∷ 0xcccc_cccc_cccc_cccc ∷ 0xf0f0_f0f0_f0f0_f0f0 ∷ 0xff00_ff00_ff00_ff00 ∷ 0xffff_0000_ffff_0000 ∷ 0xffff_ffff_0000_0000 ∷ []
 
 -- bit v of letter i's word is bit i of v, in both halves
@@ -87,7 +95,7 @@ not-holds a v h =
 
 -- ---- no bit past 2^n
 
-pub masks : List ℕ
+unfoldable pub masks : List ℕ
 masks = 0x1 ∷ 0x3 ∷ 0xf ∷ 0xff ∷ 0xffff ∷ 0xffff_ffff ∷ []
 
 abbrev below : ℕ → ℕ → Bool
@@ -160,3 +168,9 @@ table-of {n} {f} w {u} {t} h hw hu b = record
   ; tells = λ v l. (let small : v < 128 = omega (arith, pow-mono {i = n} {j = 7} (omega arith)) in
       bytes-tell u t b v small ∙ hu v small ∙ ap (λ (x : Bool). has w v && x) (lt-ltb v (2 ^ n) l) ∙ and-true (has w v) ∙ hw v small)
   ; within = λ v l small. bytes-tell u t b v small ∙ hu v small ∙ ap (λ (x : Bool). has w v && x) (le-ltb v (2 ^ n) l) ∙ and-false (has w v) }
+
+-- one more byte stored
+pub stored : (w : Words) (t : List ℕ) (j x : ℕ) → length t ≡ 16 → j < 16 → ((k : ℕ) → k < j → getD t k 0 ≡ byteOf w k) → x ≡ byteOf w j → (k : ℕ) → k < j + 1 → getD (set t j x) k 0 ≡ byteOf w k
+stored w t j x n h f e k l = elim (lt-or-ge k j)
+  [ inl m ↦ getD-set-other t j k x 0 (λ q. omega arith) ∙ f k m
+  | inr m ↦ (let same : k ≡ j = omega arith in rw same (getD-set-same t j x 0 (omega arith) ∙ e)) ]

@@ -13,34 +13,53 @@ pub enum Scanned {
 pub fn is_letter(c: u8) -> bool
     ensures { λ r. ⌜ r ≡ isLetter c ⌝ }
 {
-    b'a' <= c && c <= b'g'
+    if c < b'a' {
+        return false;
+    }
+    c <= b'g'
 }
 
+// A byte of a formula that is no letter.
 fn is_sign(c: u8) -> bool
     ensures { λ r. ⌜ r ≡ isSign c ⌝ }
 {
-    c == b'0'
-        || c == b'1'
-        || c == b'~'
-        || c == b'&'
-        || c == b'|'
-        || c == b'('
-        || c == b')'
+    if c == b'0' {
+        return true;
+    }
+    if c == b'1' {
+        return true;
+    }
+    if c == b'~' {
+        return true;
+    }
+    if c == b'&' {
+        return true;
+    }
+    if c == b'|' {
+        return true;
+    }
+    if c == b'(' {
+        return true;
+    }
+    c == b')'
 }
 
 fn is_stray(c: u8) -> bool
     ensures { λ r. ⌜ r ≡ isStray c ⌝ }
 {
-    !(is_letter(c) || is_sign(c))
+    if is_letter(c) {
+        return false;
+    }
+    !is_sign(c)
 }
 
 fn is_past(n: usize, c: u8) -> bool
     ensures { λ r. ⌜ r ≡ isPast n c ⌝ }
 {
-    if !is_letter(c) {
-        return false;
+    if is_letter(c) {
+        return n <= (c - b'a') as usize;
     }
-    n <= (c - b'a') as usize
+    false
 }
 
 // The first of either kind.

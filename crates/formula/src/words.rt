@@ -4,7 +4,7 @@ ghost use mathlib.Core.Bool.{true, false, not, _&&_, _||_};
 ghost use Prim.Native.Nat.{ℕ, _<_, _^_};
 ghost use lib.Dec.{ltb};
 ghost use Rattle.ground.specs.Digits.{bit};
-ghost use Rattle.formula.specs.Words.{has, Holds, byteOf, BytesOf};
+ghost use Rattle.formula.specs.Words.{pick, has, Holds, byteOf, BytesOf};
 
 // Bit v of `low` for the valuations below 64, and bit v - 64 of `high` for the others.
 pub struct Words {
@@ -112,13 +112,21 @@ impl Words {
         }
     }
 
+    // The word that holds byte j.
+    fn word(self, j: usize) -> u64
+        ensures { λ r. ⌜ r ≡ pick (ltb j 8) (self .low) (self .high) ⌝ }
+    {
+        if j < 8 {
+            return self.low;
+        }
+        self.high
+    }
+
     fn byte(self, j: usize) -> u8
-        requires { ⌜ j < 16 ⌝ }
         ensures { λ r. ⌜ r ≡ byteOf self j ⌝ }
     {
-        let word = if j < 8 { self.low } else { self.high };
-        let shift = 8 * (j % 8);
-        ((word >> shift) % 256) as u8
+        let word = self.word(j);
+        ((word >> (8 * (j % 8))) % 256) as u8
     }
 
     // The sixteen bytes of the table.

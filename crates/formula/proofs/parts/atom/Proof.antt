@@ -1,64 +1,51 @@
+-- `atom` meets its contract: each of the one-byte units, and else nothing goes on.
 use borrow.Author.Needs.{needs}
+use mathlib.Core.Path.{_≡_, sym, ap, _∙_}
+use native.Mathlib.Omega.{arith}
+use Rattle.formula.specs.Read.{isLetter}
+use Rattle.formula.proofs.ScanLaws.{letter-low, letter-small}
+use Rattle.formula.proofs.PartLaws.{inside, beyond, nought-read, one-read, letter-read, no-atom}
 use Rattle.formula.proofs.parts.atom.Statement.{statement}
 use Rattle.formula.proofs.parts.atom.Tie as tie
-use Rattle.formula.proofs.parts.atom.Reads as reads
-use Rattle.formula.proofs.parts.atom.Lts as lts
-use Rattle.formula.proofs.parts.peek.Reads as peek-reads
-use Rattle.formula.proofs.scan.is_letter.Reads as is-letter-reads
-use Rattle.formula.proofs.words.Words.constant.Reads as constant-reads
-use Rattle.formula.proofs.words.Words.letter.Reads as letter-reads
 
--- src/parts.rt:91:9
 peek-requires : tie.Need-peek-requires
 peek-requires c κs = search needs
 
--- src/parts.rt:93:27
 constant-requires : tie.Need-constant-requires
 constant-requires c κs = search needs
 
--- src/parts.rt:93:51
 add-t6 : tie.Need-add-t6
-add-t6 c = ?
+add-t6 c = omega (arith, inside (c .before .before .before .before .args .text .now) (c .before .before .before .before .args .at) 47 (sym (c .before .before .peek .ensures) ∙ c .before .if1 .taken))
 
--- src/parts.rt:93:9
 returns : tie.Need-returns
-returns c = ?
+returns c = nought-read (c .constant .result) (sym (c .before .before .peek .ensures) ∙ c .before .if1 .taken) (c .constant .ensures)
 
--- src/parts.rt:96:27
 constant-requires-2 : tie.Need-constant-requires-2
 constant-requires-2 c κs = search needs
 
--- src/parts.rt:96:50
 add-t8 : tie.Need-add-t8
-add-t8 c = ?
+add-t8 c = omega (arith, inside (c .before .before .before .before .before .args .text .now) (c .before .before .before .before .before .args .at) 48 (sym (c .before .before .before .peek .ensures) ∙ c .before .if2 .taken))
 
--- src/parts.rt:96:9
 returns-2 : tie.Need-returns-2
-returns-2 c = ?
+returns-2 c = one-read (c .constant2 .result) (sym (c .before .before .before .peek .ensures) ∙ c .before .if2 .taken) (c .constant2 .ensures)
 
--- src/parts.rt:98:8
 is-letter-requires : tie.Need-is-letter-requires
 is-letter-requires c κs = search needs
 
--- src/parts.rt:99:41
 sub-letter : tie.Need-sub-letter
-sub-letter c = ?
+sub-letter c = letter-low (c .before .before .before .before .peek .result) (sym (c .if3 .taken) ∙ c .before .is-letter .ensures)
 
--- src/parts.rt:99:27
 letter-requires : tie.Need-letter-requires
-letter-requires c κs = ?
+letter-requires c κs = letter-small (c .before .before .before .before .peek .result) (sym (c .if3 .taken) ∙ c .before .is-letter .ensures)
 
--- src/parts.rt:99:52
 add-t12 : tie.Need-add-t12
-add-t12 c = ?
+add-t12 c = let low = letter-low (c .before .before .before .before .before .peek .result) (sym (c .before .if3 .taken) ∙ c .before .before .is-letter .ensures) in omega (arith, beyond (c .before .before .before .before .before .before .before .args .text .now) (c .before .before .before .before .before .before .before .args .at) (c .before .before .before .before .before .peek .result) (c .before .before .before .before .before .peek .ensures) low)
 
--- src/parts.rt:99:9
 returns-3 : tie.Need-returns-3
-returns-3 c = ?
+returns-3 c = letter-read (c .letter .result) (c .before .before .before .before .before .peek .result) (sym (c .before .before .before .before .before .peek .ensures)) (letter-low (c .before .before .before .before .before .peek .result) (sym (c .before .if3 .taken) ∙ c .before .before .is-letter .ensures)) (letter-small (c .before .before .before .before .before .peek .result) (sym (c .before .if3 .taken) ∙ c .before .before .is-letter .ensures)) (c .letter .ensures)
 
--- src/parts.rt:87:1
 returns-4 : tie.Need-returns-4
-returns-4 c = ?
+returns-4 c = no-atom (c .before .before .before .before .before .before .args .text .now) (c .before .before .before .before .before .before .args .at) (c .before .before .before .before .before .before .pre .0) (c .before .before .before .before .before .before .pre .1) (λ q. c .before .before .before .if1 .left (c .before .before .before .before .peek .ensures ∙ q)) (λ q. c .before .before .if2 .left (c .before .before .before .before .peek .ensures ∙ q)) (ap isLetter (sym (c .before .before .before .before .peek .ensures)) ∙ sym (c .before .is-letter .ensures) ∙ c .if3 .left)
 
 pub atom-spec : {M : Type 1} → statement M
 atom-spec =

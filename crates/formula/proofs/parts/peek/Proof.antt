@@ -1,20 +1,18 @@
+-- `peek` meets its contract: past the end `getD` gives the 0 that it is handed.
+use mathlib.Core.Path.{sym}
+use lib.ListN.{List·getD-eq-default}
 use borrow.Author.Needs.{needs}
 use Rattle.formula.proofs.parts.peek.Statement.{statement}
 use Rattle.formula.proofs.parts.peek.Tie as tie
-use Rattle.formula.proofs.parts.peek.Reads as reads
-use Rattle.formula.proofs.parts.peek.Lts as lts
 
--- src/parts.rt:21:26
 shared-slice-read-result : tie.Need-shared-slice-read-result
 shared-slice-read-result c = search needs
 
--- src/parts.rt:18:1
 returns : tie.Need-returns
 returns c = search needs
 
--- src/parts.rt:18:1
 returns-2 : tie.Need-returns-2
-returns-2 c = ?
+returns-2 c = sym (List·getD-eq-default (c .before .args .text .now) 0 (c .if1 .left))
 
 pub peek-spec : {M : Type 1} → statement M
 peek-spec = tie.close (tie.spec shared-slice-read-result returns returns-2)

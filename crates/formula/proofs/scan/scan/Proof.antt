@@ -1,55 +1,49 @@
+-- `scan` meets its contract. The loop has found no foreign byte among the first i.
+use borrow.Author.Needs.{needs}
+use Prim.Native.Nat.{ℕ, _-_}
+use mathlib.Core.Path.{_≡_, sym, ap, _∙_}
+use lib.ListN.{length, getD}
+use native.Mathlib.Omega.{arith}
+use Rattle.formula.proofs.ScanLaws.{CleanTo, stray-first, past-first, clean-more}
+use Rattle.formula.specs.Read.{isStray, isPast}
 use Rattle.formula.proofs.scan.scan.Statement.{statement}
 use Rattle.formula.proofs.scan.scan.Tie as tie
-use Rattle.formula.proofs.scan.scan.Reads as reads
-use Rattle.formula.proofs.scan.scan.Lts as lts
-use Rattle.formula.proofs.scan.is_past.Reads as is-past-reads
-use Rattle.formula.proofs.scan.is_stray.Reads as is-stray-reads
 
 abbrev Inv-loop : tie.InvT-loop
-Inv-loop n text i₀ i = ?
+Inv-loop n text i₀ i = CleanTo n text i
 
 abbrev μ-loop : tie.MeasureT-loop
-μ-loop n text i₀ i = ?
+μ-loop n text i₀ i = length text - i
 
--- src/scan.rt:51:5
 loop-holds : tie.Need-loop-holds Inv-loop μ-loop
-loop-holds c = ?
+loop-holds c = λ j l. absurd (omega arith)
 
--- src/scan.rt:52:17
 shared-slice-read-c : tie.Need-shared-slice-read-c Inv-loop μ-loop
-shared-slice-read-c c = ?
+shared-slice-read-c c = c .before .loop-test .taken
 
--- src/scan.rt:53:12
 is-stray-requires : tie.Need-is-stray-requires Inv-loop μ-loop
-is-stray-requires c κs = ?
+is-stray-requires c κs = search needs
 
--- src/scan.rt:54:13
 returns : tie.Need-returns Inv-loop μ-loop
-returns c = ?
+returns c = stray-first (c .before .before .before .before .before .before .args .n) (c .before .before .before .before .before .before .args .text .now) (c .before .before .before .before .loop .i) (c .before .before .before .loop-test .taken) (c .before .before .before .before .loop .inv) (sym (c .before .is-stray .ensures) ∙ c .if1 .taken)
 
--- src/scan.rt:56:12
 is-past-requires : tie.Need-is-past-requires Inv-loop μ-loop
-is-past-requires c κs = ?
+is-past-requires c κs = search needs
 
--- src/scan.rt:57:13
 returns-2 : tie.Need-returns-2 Inv-loop μ-loop
-returns-2 c = ?
+returns-2 c = past-first (c .before .before .before .before .before .before .before .before .args .n) (c .before .before .before .before .before .before .before .before .args .text .now) (c .before .before .before .before .before .before .loop .i) (c .before .before .before .before .before .loop-test .taken) (c .before .before .before .before .before .before .loop .inv) (sym (c .before .is-past .ensures) ∙ c .if2 .taken)
 
--- src/scan.rt:59:9
 add-i : tie.Need-add-i Inv-loop μ-loop
-add-i c = ?
+add-i c = omega arith
 
--- src/scan.rt:51:5
 loop-less : tie.Need-loop-less Inv-loop μ-loop
-loop-less c = ?
+loop-less c = omega arith
 
--- src/scan.rt:51:5
 loop-again : tie.Need-loop-again Inv-loop μ-loop
-loop-again c = ?
+loop-again c = clean-more (c .before .before .before .before .before .before .before .before .args .n) (c .before .before .before .before .before .before .before .before .args .text .now) (c .before .before .before .before .before .before .loop .i) (c .before .before .before .before .before .before .loop .inv) (sym (c .before .before .before .is-stray .ensures) ∙ c .before .before .if1 .left) (sym (c .before .is-past .ensures) ∙ c .if2 .left)
 
--- src/scan.rt:47:1
 returns-3 : tie.Need-returns-3 Inv-loop μ-loop
-returns-3 c = ?
+returns-3 c = λ j x. c .before .loop .inv j (omega (arith, x .0)) x
 
 pub scan-spec : {M : Type 1} → statement M
 scan-spec =

@@ -1,24 +1,26 @@
+-- `Words::byte` meets its contract: its word, then the shift and the remainder.
+use mathlib.Core.Path.{ap}
+use Prim.Native.Nat.{ℕ, _*_, _/_, _%_, _^_}
+use Rattle.formula.specs.Words.{byteOf}
 use borrow.Author.Needs.{needs}
 use Rattle.formula.proofs.words.Words.byte.Statement.{statement}
 use Rattle.formula.proofs.words.Words.byte.Tie as tie
-use Rattle.formula.proofs.words.Words.byte.Reads as reads
-use Rattle.formula.proofs.words.Words.byte.Lts as lts
 
--- src/words.rt:120:21
-mul-shift : tie.Need-mul-shift
-mul-shift c = search needs
+word-requires : tie.Need-word-requires
+word-requires c κs = search needs
 
--- src/words.rt:121:11
+mul-result : tie.Need-mul-result
+mul-result c = search needs
+
 shr-result : tie.Need-shr-result
 shr-result c = search needs
 
--- src/words.rt:121:9
 cast-result : tie.Need-cast-result
 cast-result c = search needs
 
--- src/words.rt:115:5
 returns : tie.Need-returns
-returns c = ?
+unfolding byteOf
+returns c = ap (λ (x : ℕ). x / 2 ^ (8 * (c .before .args .j % 8)) % 256) (c .word .ensures)
 
 pub byte-spec : {M : Type 1} → statement M
-byte-spec = tie.close (tie.spec mul-shift shr-result cast-result returns)
+byte-spec = tie.close (tie.spec word-requires mul-result shr-result cast-result returns)

@@ -1,28 +1,25 @@
+-- `Words::within` meets its contract: the masks by a computed test over their entries.
+use native.Mathlib.Omega.{arith}
+use Rattle.formula.proofs.TwoWords.{within-low, within-six, within-seven, masks}
 use borrow.Author.Needs.{needs}
 use Rattle.formula.proofs.words.Words.within.Statement.{statement}
 use Rattle.formula.proofs.words.Words.within.Tie as tie
-use Rattle.formula.proofs.words.Words.within.Reads as reads
-use Rattle.formula.proofs.words.Words.within.Lts as lts
 
--- src/words.rt:101:13
 returns : tie.Need-returns
-returns c = ?
+returns c = within-seven (c .before .args .self) (c .before .args .n) (c .if1 .taken)
 
--- src/words.rt:104:13
 returns-2 : tie.Need-returns-2
-returns-2 c = ?
+returns-2 c = within-six (c .before .before .args .self) (c .before .before .args .n) (c .if2 .taken)
 
--- src/words.rt:110:29
 mul-t5 : tie.Need-mul-t5
 mul-t5 c = search needs
 
--- src/words.rt:110:29
 array-read-t8 : tie.Need-array-read-t8
 array-read-t8 c = search needs
 
--- src/words.rt:96:5
 returns-3 : tie.Need-returns-3
-returns-3 c = ?
+unfolding masks
+returns-3 c = within-low (c .before .before .before .args .self) (c .before .before .before .args .n) (omega (arith, c .before .before .if1 .left, c .before .if2 .left))
 
 pub within-spec : {M : Type 1} → statement M
 within-spec = tie.close (tie.spec returns returns-2 mul-t5 array-read-t8 returns-3)
