@@ -80,7 +80,7 @@ verdict-dies st i c s e = verdict-cons st i c s ∙ ap (λ (x : State). after x 
 
 -- what a text that is survived leaves to be judged
 after-append : (s t : List ℕ) (i : ℕ) → ((st : State) (j : ℕ) → T (alive (run st s)) → verdict st j (s ++ t) ≡ verdict (run st s) (j + length s) t)
-  → (st : State) → T (alive (run st s)) → after st i (s ++ t) ≡ verdict (run st s) (i + suc (length s)) t
+    → (st : State) → T (alive (run st s)) → after st i (s ++ t) ≡ verdict (run st s) (i + suc (length s)) t
 after-append s t i f (wants d) a = f (wants d) (suc i) a ∙ ap (λ (j : ℕ). verdict (run (wants d) s) j t) (omega arith)
 after-append s t i f (has d) a = f (has d) (suc i) a ∙ ap (λ (j : ℕ). verdict (run (has d) s) j t) (omega arith)
 after-append s t i f dead a = absurd (subst (λ (x : State). T (alive x)) (run-dead s) a)
@@ -102,12 +102,12 @@ Stopped st i s p =
     ⊎ ((p ≡ i + length s) × T (alive (run st s)))
 
 later : (st x : State) (i c p : ℕ) (s : List ℕ) → step st c ≡ x → Stopped x (suc i) s p → Stopped st i (c ∷ s) p
-later st x i c p s e (inl (j, q, l, a, k)) = 
+later st x i c p s e (inl (j, q, l, a, k)) =
     inl (suc j, omega arith, omega arith, subst (λ (y : State). T (alive (run y (take j s)))) (sym e) a, subst (λ (y : State). run y (take (suc j) s) ≡ dead) (sym e) k)
 later st x i c p s e (inr (q, a)) = inr (omega arith, subst (λ (y : State). T (alive (run y s))) (sym e) a)
 
 after-stopped : (st x : State) (i c p : ℕ) (s : List ℕ) → T (alive st) → step st c ≡ x → ((y : State) → T (alive y) → verdict y (suc i) s ≡ breaks p → Stopped y (suc i) s p)
-  → after x i s ≡ breaks p → Stopped st i (c ∷ s) p
+    → after x i s ≡ breaks p → Stopped st i (c ∷ s) p
 after-stopped st (wants d) i c p s a e f v = later st (wants d) i c p s e (f (wants d) tt v)
 after-stopped st (has d) i c p s a e f v = later st (has d) i c p s e (f (has d) tt v)
 after-stopped st dead i c p s a e f v = inl (0, ends-at v, omega arith, a, e)

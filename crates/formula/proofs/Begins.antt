@@ -81,37 +81,45 @@ close-has d p (q, e, w, h) = subst (Has d) (sym (append-assoc q (40 ∷ text e) 
 atom-unit : (c : ℕ) → T (isAtom c) → (u : Sentence unit) × (text u ≡ c ∷ [])
 unfolding text isAtom isLetter
 atom-unit c h =
-    elim (or-out (eqb c 48 || eqb c 49) (leb 97 c && leb c 103) h)
-    [ inl k ↦ elim (or-out (eqb c 48) (eqb c 49) k)
-      [ inl e ↦ (nought, ap (λ (x : ℕ). x ∷ []) (sym (eqb→eq c 48 e)))
-      | inr e ↦ (one, ap (λ (x : ℕ). x ∷ []) (sym (eqb→eq c 49 e))) ]
-    | inr k ↦ (let low = leb→le 97 c (and-left (leb 97 c) (leb c 103) k) in
-      let high = leb→le c 103 (and-right (leb 97 c) (leb c 103) k) in
-      (letter (c - 97) (omega arith), ap (λ (x : ℕ). x ∷ []) (omega arith))) ]
+    elim (or-out (eqb c 48 || eqb c 49) (leb 97 c && leb c 103) h) [
+      | inl k ↦ elim (or-out (eqb c 48) (eqb c 49) k) [
+        | inl e ↦ (nought, ap (λ (x : ℕ). x ∷ []) (sym (eqb→eq c 48 e)))
+        | inr e ↦ (one, ap (λ (x : ℕ). x ∷ []) (sym (eqb→eq c 49 e)))
+      ]
+      | inr k ↦ (let low = leb→le 97 c (and-left (leb 97 c) (leb c 103) k) in
+          let high = leb→le c 103 (and-right (leb 97 c) (leb c 103) k) in
+          (letter (c - 97) (omega arith), ap (λ (x : ℕ). x ∷ []) (omega arith)))
+    ]
 
 -- ---- a step keeps it
 
 wants-step : (d c : ℕ) (p : List ℕ) → Wants d p → Means (step (wants d) c) (p ++ c ∷ [])
 unfolding step text
 wants-step d c p w =
-    elim (decide (eqb c 126))
-    [ inl h ↦ subst (λ (x : ℕ). Means (step (wants d) x) (p ++ x ∷ [])) (sym (eqb→eq c 126 h)) (λ u. subst (Has d) (sym (onward p (text u) 126)) (w (negated u)))
-    | inr h ↦ rw (T→false (eqb c 126) h) (elim (decide (eqb c 40))
-      [ inl k ↦ subst (λ (x : ℕ). Means (cond (eqb x 40) (wants (suc d)) (cond (isAtom x) (has d) dead)) (p ++ x ∷ [])) (sym (eqb→eq c 40 k)) (open-wants d p w)
-      | inr k ↦ rw (T→false (eqb c 40) k) (elim (decide (isAtom c))
-        [ inl a ↦ rw (T→true (isAtom c) a) (let x = atom-unit c a in subst (λ (t : List ℕ). Has d (p ++ t)) (x .1) (w (x .0)))
-        | inr a ↦ rw (T→false (isAtom c) a) tt ]) ]) ]
+    elim (decide (eqb c 126)) [
+      | inl h ↦ subst (λ (x : ℕ). Means (step (wants d) x) (p ++ x ∷ [])) (sym (eqb→eq c 126 h)) (λ u. subst (Has d) (sym (onward p (text u) 126)) (w (negated u)))
+      | inr h ↦ rw (T→false (eqb c 126) h) (elim (decide (eqb c 40)) [
+        | inl k ↦ subst (λ (x : ℕ). Means (cond (eqb x 40) (wants (suc d)) (cond (isAtom x) (has d) dead)) (p ++ x ∷ [])) (sym (eqb→eq c 40 k)) (open-wants d p w)
+        | inr k ↦ rw (T→false (eqb c 40) k) (elim (decide (isAtom c)) [
+          | inl a ↦ rw (T→true (isAtom c) a) (let x = atom-unit c a in subst (λ (t : List ℕ). Has d (p ++ t)) (x .1) (w (x .0)))
+          | inr a ↦ rw (T→false (isAtom c) a) tt
+        ])
+      ])
+    ]
 
 has-step : (d c : ℕ) (p : List ℕ) → Has d p → Means (step (has d) c) (p ++ c ∷ [])
 unfolding step
 has-step d c p h =
-    elim (decide (eqb c 38))
-    [ inl e ↦ subst (λ (x : ℕ). Means (step (has d) x) (p ++ x ∷ [])) (sym (eqb→eq c 38 e)) (join-wants 38 and-unit and-unit-text d p h)
-    | inr e ↦ rw (T→false (eqb c 38) e) (elim (decide (eqb c 124))
-      [ inl k ↦ subst (λ (x : ℕ). Means (cond (eqb x 124) (wants d) (cond (eqb x 41) (close d) dead)) (p ++ x ∷ [])) (sym (eqb→eq c 124 k)) (join-wants 124 or-unit or-unit-text d p h)
-      | inr k ↦ rw (T→false (eqb c 124) k) (elim (decide (eqb c 41))
-        [ inl a ↦ subst (λ (x : ℕ). Means (cond (eqb x 41) (close d) dead) (p ++ x ∷ [])) (sym (eqb→eq c 41 a)) (closed d h)
-        | inr a ↦ rw (T→false (eqb c 41) a) tt ]) ]) ]
+    elim (decide (eqb c 38)) [
+      | inl e ↦ subst (λ (x : ℕ). Means (step (has d) x) (p ++ x ∷ [])) (sym (eqb→eq c 38 e)) (join-wants 38 and-unit and-unit-text d p h)
+      | inr e ↦ rw (T→false (eqb c 38) e) (elim (decide (eqb c 124)) [
+        | inl k ↦ subst (λ (x : ℕ). Means (cond (eqb x 124) (wants d) (cond (eqb x 41) (close d) dead)) (p ++ x ∷ [])) (sym (eqb→eq c 124 k)) (join-wants 124 or-unit or-unit-text d p h)
+        | inr k ↦ rw (T→false (eqb c 124) k) (elim (decide (eqb c 41)) [
+          | inl a ↦ subst (λ (x : ℕ). Means (cond (eqb x 41) (close d) dead) (p ++ x ∷ [])) (sym (eqb→eq c 41 a)) (closed d h)
+          | inr a ↦ rw (T→false (eqb c 41) a) tt
+        ])
+      ])
+    ]
   where
     closed : (d : ℕ) → Has d p → Means (close d) (p ++ 41 ∷ [])
     closed zero h = tt

@@ -22,11 +22,13 @@ begins-prefix s i b = begins-less (take i s) (drop i s) (subst Begins (sym (take
 
 pub broken-place : (s : List ℕ) (p : ℕ) → verdict (wants 0) 0 s ≡ breaks p → BreaksAt s p
 broken-place s p v =
-    elim (stopped s (wants 0) 0 p tt v)
-    [ inl (j, e, l, a, k) ↦ subst (BreaksAt s) (omega arith) (at-byte (record
-      { here = (l, dead-begins (take (suc j) s) k)
-      ; none-below = λ i h x. x .1 (begins-take s (suc i) j h (alive-begins (take j s) a)) }))
-    | inr (e, a) ↦ subst (BreaksAt s) (omega arith) (at-end (λ i x. x .1 (begins-prefix s (suc i) (alive-begins s a)))) ]
+    elim (stopped s (wants 0) 0 p tt v) [
+      | inl (j, e, l, a, k) ↦ subst (BreaksAt s) (omega arith) (at-byte (record {
+        here = (l, dead-begins (take (suc j) s) k);
+        none-below = λ i h x. x .1 (begins-take s (suc i) j h (alive-begins (take j s) a));
+      }))
+      | inr (e, a) ↦ subst (BreaksAt s) (omega arith) (at-end (λ i x. x .1 (begins-prefix s (suc i) (alive-begins s a))))
+    ]
 
 pub broken-no-sentence : (s : List ℕ) (p : ℕ) → verdict (wants 0) 0 s ≡ breaks p → IsSentence s → ⊥
 unfolding verdict

@@ -5,3 +5,4 @@ pub mod Broken
 pub mod TwoWords
 pub mod ScanLaws
 pub mod PartLaws
+pub mod Answers

@@ -31,15 +31,17 @@ as-broken k s i e p = subst (Parses k s i) e p
 
 -- a byte that is not 0 stands inside the text
 pub inside : (s : List ℕ) (i c : ℕ) → getD s i 0 ≡ suc c → i < length s
-inside s i c e = elim (lt-or-ge i (length s))
-  [ inl h ↦ h
-  | inr h ↦ absurd (omega (arith, List·getD-eq-default s 0 h)) ]
+inside s i c e = elim (lt-or-ge i (length s)) [
+  | inl h ↦ h
+  | inr h ↦ absurd (omega (arith, List·getD-eq-default s 0 h))
+]
 
 -- and so does a letter
 pub beyond : (s : List ℕ) (i c : ℕ) → c ≡ getD s i 0 → 97 ≤ c → i < length s
-beyond s i c e h = elim (lt-or-ge i (length s))
-  [ inl l ↦ l
-  | inr l ↦ absurd (omega (arith, List·getD-eq-default s 0 l)) ]
+beyond s i c e h = elim (lt-or-ge i (length s)) [
+  | inl l ↦ l
+  | inr l ↦ absurd (omega (arith, List·getD-eq-default s 0 l))
+]
 
 pub from-byte : (s : List ℕ) (i c : ℕ) → getD s i 0 ≡ suc c → drop i s ≡ suc c ∷ drop (i + 1) s
 from-byte s i c e = drop-cons s i 0 (inside s i c e) ∙ ap₂ (λ (x j : ℕ). x ∷ drop j s) e (sym (add-one i))
@@ -71,32 +73,35 @@ module _ {k : Kind} {s : List ℕ} {i : ℕ} {w : Words} {next : ℕ} (p : Parse
 -- where a byte kills, or the text ends with brackets open, it breaks there
 breaks-here : (st : State) (s : List ℕ) (i : ℕ) → (i < length s → step st (getD s i 0) ≡ dead) → (length s ≤ i → ends st i ≡ breaks i) → verdict st i (drop i s) ≡ breaks i
 unfolding verdict
-breaks-here st s i f g = elim (lt-or-ge i (length s))
-  [ inl h ↦ ap (verdict st i) (drop-cons s i 0 h) ∙ verdict-dies st i (getD s i 0) (drop (suc i) s) (f h)
-  | inr h ↦ ap (verdict st i) (drop-of-length-le s h) ∙ g h ]
+breaks-here st s i f g = elim (lt-or-ge i (length s)) [
+  | inl h ↦ ap (verdict st i) (drop-cons s i 0 h) ∙ verdict-dies st i (getD s i 0) (drop (suc i) s) (f h)
+  | inr h ↦ ap (verdict st i) (drop-of-length-le s h) ∙ g h
+]
 
 -- ---- units
 
 pub negated-read : {s : List ℕ} {i : ℕ} {w : Words} {next : ℕ} (u : Words) → getD s i 0 ≡ 126 → Parsed unit s (i + 1) w next → Holds u (λ v. not (has w v)) → Parsed unit s i u next
 unfolding text meaning Holds stops
-negated-read {s} {i} u e p h = record
-  { sentence = negated (p .sentence)
-  ; spans = from-byte s i 125 e ∙ ap (λ (t : List ℕ). 126 ∷ t) (p .spans)
-  ; until = omega (arith, p .until)
-  ; holds = λ v l. h v l ∙ ap not (p .holds v l)
-  ; stopped = tt }
+negated-read {s} {i} u e p h = record {
+  sentence = negated (p .sentence);
+  spans = from-byte s i 125 e ∙ ap (λ (t : List ℕ). 126 ∷ t) (p .spans);
+  until = omega (arith, p .until);
+  holds = λ v l. h v l ∙ ap not (p .holds v l);
+  stopped = tt;
+}
 
 pub negated-broken : (s : List ℕ) (i : ℕ) {x : ℕ} → getD s i 0 ≡ 126 → ((d : ℕ) → verdict (wants d) (i + 1) (drop (i + 1) s) ≡ breaks x) → (d : ℕ) → verdict (wants d) i (drop i s) ≡ breaks x
 negated-broken s i e f d = ap (verdict (wants d) i) (from-byte s i 125 e) ∙ verdict-not d i (drop (i + 1) s) ∙ f d
 
 pub bracketed-read : {s : List ℕ} {i : ℕ} {w : Words} {next : ℕ} → getD s i 0 ≡ 40 → Parsed sum s (i + 1) w next → getD s next 0 ≡ 41 → Parsed unit s i w (next + 1)
 unfolding text meaning stops
-bracketed-read {s} {i} {w} {next} e p c = record
-  { sentence = bracketed (p .sentence)
-  ; spans = from-byte s i 39 e ∙ ap (λ (t : List ℕ). 40 ∷ t) (p .spans ∙ ap (λ (t : List ℕ). text (p .sentence) ++ t) (from-byte s next 40 c) ∙ sym (append-assoc (text (p .sentence)) (41 ∷ []) (drop (next + 1) s)))
-  ; until = omega (arith, p .until, length-append (text (p .sentence)) (41 ∷ []))
-  ; holds = p .holds
-  ; stopped = tt }
+bracketed-read {s} {i} {w} {next} e p c = record {
+  sentence = bracketed (p .sentence);
+  spans = from-byte s i 39 e ∙ ap (λ (t : List ℕ). 40 ∷ t) (p .spans ∙ ap (λ (t : List ℕ). text (p .sentence) ++ t) (from-byte s next 40 c) ∙ sym (append-assoc (text (p .sentence)) (41 ∷ []) (drop (next + 1) s)));
+  until = omega (arith, p .until, length-append (text (p .sentence)) (41 ∷ []));
+  holds = p .holds;
+  stopped = tt;
+}
 
 pub bracketed-broken : (s : List ℕ) (i : ℕ) {x : ℕ} → getD s i 0 ≡ 40 → ((d : ℕ) → verdict (wants d) (i + 1) (drop (i + 1) s) ≡ breaks x) → (d : ℕ) → verdict (wants d) i (drop i s) ≡ breaks x
 bracketed-broken s i e f d = ap (verdict (wants d) i) (from-byte s i 39 e) ∙ verdict-open d i (drop (i + 1) s) ∙ f (suc d)
@@ -114,12 +119,13 @@ unclosed s i {w} {next} e p c d =
 -- one byte that is a unit by itself
 atom-read : (u : Sentence unit) (w : Words) {s : List ℕ} {i c : ℕ} → getD s i 0 ≡ suc c → text u ≡ suc c ∷ [] → Holds w (meaning u) → Parsed unit s i w (i + 1)
 unfolding stops
-atom-read u w {s} {i} {c} e t h = record
-  { sentence = u
-  ; spans = from-byte s i c e ∙ ap (λ (x : List ℕ). x ++ drop (i + 1) s) (sym t)
-  ; until = omega (arith, ap length t)
-  ; holds = h
-  ; stopped = tt }
+atom-read u w {s} {i} {c} e t h = record {
+  sentence = u;
+  spans = from-byte s i c e ∙ ap (λ (x : List ℕ). x ++ drop (i + 1) s) (sym t);
+  until = omega (arith, ap length t);
+  holds = h;
+  stopped = tt;
+}
 
 pub nought-read : {s : List ℕ} {i : ℕ} (w : Words) → getD s i 0 ≡ 48 → Holds w (λ v. false) → Parsed unit s i w (i + 1)
 unfolding text meaning
@@ -137,7 +143,7 @@ letter-read {s} {i} w c e low high h =
     atom-read (letter (c - 97) high) w {c = 96 + (c - 97)} (e ∙ number) (ap (λ (x : ℕ). x ∷ []) same) h
 
 pub no-atom : (s : List ℕ) (i : ℕ) → (getD s i 0 ≡ 126 → ⊥) → (getD s i 0 ≡ 40 → ⊥) → (getD s i 0 ≡ 48 → ⊥) → (getD s i 0 ≡ 49 → ⊥) → isLetter (getD s i 0) ≡ false
-  → (d : ℕ) → verdict (wants d) i (drop i s) ≡ breaks i
+    → (d : ℕ) → verdict (wants d) i (drop i s) ≡ breaks i
 unfolding step isAtom
 no-atom s i a b e f g d =
     breaks-here (wants d) s i (λ l. rw (ne-eqb (getD s i 0) 126 a, ne-eqb (getD s i 0) 40 b, ne-eqb (getD s i 0) 48 e, ne-eqb (getD s i 0) 49 f, g)) (λ l. refl)
@@ -147,46 +153,51 @@ no-atom s i a b e f g d =
 pub product-one : {s : List ℕ} {i : ℕ} {w : Words} {next : ℕ} → Parsed unit s i w next → (getD s next 0 ≡ 38 → ⊥) → Parsed product s i w next
 unfolding text meaning stops
 product-one {s} {next = next} p c = record
-  { sentence = one-unit (p .sentence); spans = p .spans; until = p .until; holds = p .holds; stopped = rw (ne-eqb (getD s next 0) 38 c) tt }
+    { sentence = one-unit (p .sentence); spans = p .spans; until = p .until; holds = p .holds; stopped = rw (ne-eqb (getD s next 0) 38 c) tt }
 
 pub sum-one : {s : List ℕ} {i : ℕ} {w : Words} {next : ℕ} → Parsed product s i w next → (getD s next 0 ≡ 124 → ⊥) → Parsed sum s i w next
 unfolding text meaning stops
-sum-one {s} {next = next} p c = record
-  { sentence = one-product (p .sentence); spans = p .spans; until = p .until; holds = p .holds
-  ; stopped = rw (T→false (eqb (getD s next 0) 38) (p .stopped), ne-eqb (getD s next 0) 124 c) tt }
+sum-one {s} {next = next} p c = record {
+  sentence = one-product (p .sentence);
+  spans = p .spans;
+  until = p .until;
+  holds = p .holds;
+  stopped = rw (T→false (eqb (getD s next 0) 38) (p .stopped), ne-eqb (getD s next 0) 124 c) tt;
+}
 
 -- a part, the byte that joins, and more of the joined kind
 module _ (c : ℕ) (k l : Kind) (join : Sentence k → Sentence l → Sentence l) (g : Bool → Bool → Bool)
     (writes : (a : Sentence k) (b : Sentence l) → text (join a b) ≡ text a ++ suc c ∷ text b)
     (tells : (a : Sentence k) (b : Sentence l) (v : ℕ) → meaning (join a b) v ≡ g (meaning a v) (meaning b v)) where
   joined : {s : List ℕ} {i : ℕ} {w x : Words} {next end : ℕ} (u : Words) → Parsed k s i w next → getD s next 0 ≡ suc c → Parsed l s (next + 1) x end
-    → Holds u (λ v. g (has w v) (has x v)) → Parsed l s i u end
+      → Holds u (λ v. g (has w v) (has x v)) → Parsed l s i u end
   unfolding Holds
-  joined {s} {i} {w} {x} {next} {end} u p e q h = record
-    { sentence = join (p .sentence) (q .sentence)
-    ; spans =
+  joined {s} {i} {w} {x} {next} {end} u p e q h = record {
+    sentence = join (p .sentence) (q .sentence);
+    spans =
         p .spans ∙ ap (λ (t : List ℕ). text (p .sentence) ++ t) (from-byte s next c e ∙ ap (λ (t : List ℕ). suc c ∷ t) (q .spans))
-        ∙ sym (append-assoc (text (p .sentence)) (suc c ∷ text (q .sentence)) (drop end s)) ∙ ap (λ (t : List ℕ). t ++ drop end s) (sym (writes (p .sentence) (q .sentence)))
-    ; until = omega (arith, p .until, q .until, ap length (writes (p .sentence) (q .sentence)), length-append (text (p .sentence)) (suc c ∷ text (q .sentence)))
-    ; holds = λ v m. h v m ∙ ap₂ g (p .holds v m) (q .holds v m) ∙ sym (tells (p .sentence) (q .sentence) v)
-    ; stopped = q .stopped }
+        ∙ sym (append-assoc (text (p .sentence)) (suc c ∷ text (q .sentence)) (drop end s)) ∙ ap (λ (t : List ℕ). t ++ drop end s) (sym (writes (p .sentence) (q .sentence)));
+    until = omega (arith, p .until, q .until, ap length (writes (p .sentence) (q .sentence)), length-append (text (p .sentence)) (suc c ∷ text (q .sentence)));
+    holds = λ v m. h v m ∙ ap₂ g (p .holds v m) (q .holds v m) ∙ sym (tells (p .sentence) (q .sentence) v);
+    stopped = q .stopped;
+  }
 
 pub product-more : {s : List ℕ} {i : ℕ} {w x : Words} {next end : ℕ} (u : Words) → Parsed unit s i w next → getD s next 0 ≡ 38 → Parsed product s (next + 1) x end
-  → Holds u (λ v. has w v && has x v) → Parsed product s i u end
+    → Holds u (λ v. has w v && has x v) → Parsed product s i u end
 unfolding text meaning
 product-more u p e q h = joined 37 unit product unit-and _&&_ (λ a b. refl) (λ a b v. refl) u p e q h
 
 pub sum-more : {s : List ℕ} {i : ℕ} {w x : Words} {next end : ℕ} (u : Words) → Parsed product s i w next → getD s next 0 ≡ 124 → Parsed sum s (next + 1) x end
-  → Holds u (λ v. has w v || has x v) → Parsed sum s i u end
+    → Holds u (λ v. has w v || has x v) → Parsed sum s i u end
 unfolding text meaning
 sum-more u p e q h = joined 123 product sum product-or _||_ (λ a b. refl) (λ a b v. refl) u p e q h
 
 pub product-broken : {s : List ℕ} {i : ℕ} {w : Words} {next x : ℕ} → Parsed unit s i w next → getD s next 0 ≡ 38 → ((d : ℕ) → verdict (wants d) (next + 1) (drop (next + 1) s) ≡ breaks x)
-  → (d : ℕ) → verdict (wants d) i (drop i s) ≡ breaks x
+    → (d : ℕ) → verdict (wants d) i (drop i s) ≡ breaks x
 product-broken {s} {i} {w} {next} p e f d = past-part p d ∙ ap (verdict (A.has d) next) (from-byte s next 37 e) ∙ verdict-and d next (drop (next + 1) s) ∙ f d
 
 pub sum-broken : {s : List ℕ} {i : ℕ} {w : Words} {next x : ℕ} → Parsed product s i w next → getD s next 0 ≡ 124 → ((d : ℕ) → verdict (wants d) (next + 1) (drop (next + 1) s) ≡ breaks x)
-  → (d : ℕ) → verdict (wants d) i (drop i s) ≡ breaks x
+    → (d : ℕ) → verdict (wants d) i (drop i s) ≡ breaks x
 sum-broken {s} {i} {w} {next} p e f d = past-part p d ∙ ap (verdict (A.has d) next) (from-byte s next 123 e) ∙ verdict-or d next (drop (next + 1) s) ∙ f d
 
 -- ---- the whole text

@@ -46,9 +46,10 @@ sign-not-stray c e = rw e
 
 pub past-letter : (n c : ℕ) → isLetter c ≡ true → 97 ≤ c → leb n (c - 97) ≡ isPast n c
 unfolding isPast
-past-letter n c e h = elim (lt-or-ge (c - 97) n)
-  [ inl l ↦ rw (e, lt-leb n (c - 97) l, lt-leb (97 + n) c (omega arith))
-  | inr l ↦ rw (e, le-leb n (c - 97) l, le-leb (97 + n) c (omega arith)) ]
+past-letter n c e h = elim (lt-or-ge (c - 97) n) [
+  | inl l ↦ rw (e, lt-leb n (c - 97) l, lt-leb (97 + n) c (omega arith))
+  | inr l ↦ rw (e, le-leb n (c - 97) l, le-leb (97 + n) c (omega arith))
+]
 
 pub past-none : (n c : ℕ) → isLetter c ≡ false → false ≡ isPast n c
 unfolding isPast
@@ -65,8 +66,9 @@ pub past-first : (n : ℕ) (s : List ℕ) (i : ℕ) → i < length s → CleanTo
 past-first n s i l h e = (record { here = (l, or-right (isStray (getD s i 0)) (isPast n (getD s i 0)) (true→T e)); none-below = h }, true→T e)
 
 pub clean-more : (n : ℕ) (s : List ℕ) (i : ℕ) → CleanTo n s i → isStray (getD s i 0) ≡ false → isPast n (getD s i 0) ≡ false → CleanTo n s (i + 1)
-clean-more n s i h e f j l x = elim (lt-or-ge j i)
-  [ inl k ↦ h j k x
+clean-more n s i h e f j l x = elim (lt-or-ge j i) [
+  | inl k ↦ h j k x
   | inr k ↦ (let same : j ≡ i = omega arith in
       let y = subst (λ (j : ℕ). T (isStray (getD s j 0) || isPast n (getD s j 0))) same (x .1) in
-      elim (or-out (isStray (getD s i 0)) (isPast n (getD s i 0)) y) [ inl t ↦ both (isStray (getD s i 0)) t (false→T e) | inr t ↦ both (isPast n (getD s i 0)) t (false→T f) ]) ]
+      elim (or-out (isStray (getD s i 0)) (isPast n (getD s i 0)) y) [ inl t ↦ both (isStray (getD s i 0)) t (false→T e) | inr t ↦ both (isPast n (getD s i 0)) t (false→T f) ])
+]

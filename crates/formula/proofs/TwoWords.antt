@@ -98,7 +98,7 @@ not-holds a v h =
 unfoldable pub masks : List ℕ
 masks = 0x1 ∷ 0x3 ∷ 0xf ∷ 0xff ∷ 0xffff ∷ 0xffff_ffff ∷ []
 
-abbrev below : ℕ → ℕ → Bool
+abbrev pub below : ℕ → ℕ → Bool
 below n v = ltb v (2 ^ n)
 
 mask-test : ℕ → Bool
@@ -130,9 +130,10 @@ within-low a n h v l =
 
 pub within-six : (a : Words) (n : ℕ) → n ≡ 6 → Holds (words (a .low) 0) (λ v. has a v && below n v)
 unfolding Holds has
-within-six a n e v l = elim (lt-or-ge v 64)
-  [ inl h ↦ rw (e, lt-ltb v 64 h) (sym (and-true (bit (a .low) v)))
-  | inr h ↦ rw (e, le-ltb v 64 h) (bit-of-zero (v - 64) ∙ sym (and-false (bit (a .high) (v - 64)))) ]
+within-six a n e v l = elim (lt-or-ge v 64) [
+  | inl h ↦ rw (e, lt-ltb v 64 h) (sym (and-true (bit (a .low) v)))
+  | inr h ↦ rw (e, le-ltb v 64 h) (bit-of-zero (v - 64) ∙ sym (and-false (bit (a .high) (v - 64))))
+]
 
 pub within-seven : (a : Words) (n : ℕ) → n ≡ 7 → Holds a (λ v. has a v && below n v)
 unfolding Holds
@@ -142,9 +143,10 @@ within-seven a n e v l = rw (e, lt-ltb v 128 l) (sym (and-true (has a v)))
 
 byte-bit : (w : Words) (v : ℕ) → v < 128 → bit (byteOf w (v / 8)) (v % 8) ≡ has w v
 unfolding byteOf has
-byte-bit w v l = elim (lt-or-ge v 64)
-  [ inl h ↦ rw (lt-ltb (v / 8) 8 (omega arith), lt-ltb v 64 h) (shifted (w .low) v (omega arith))
-  | inr h ↦ rw (le-ltb (v / 8) 8 (omega arith), le-ltb v 64 h) (shifted (w .high) (v - 64) (omega arith)) ]
+byte-bit w v l = elim (lt-or-ge v 64) [
+  | inl h ↦ rw (lt-ltb (v / 8) 8 (omega arith), lt-ltb v 64 h) (shifted (w .low) v (omega arith))
+  | inr h ↦ rw (le-ltb (v / 8) 8 (omega arith), le-ltb v 64 h) (shifted (w .high) (v - 64) (omega arith))
+]
   where
     shifted : (x u : ℕ) → 8 * (v / 8 % 8) + v % 8 ≡ u → bit (x / 2 ^ (8 * (v / 8 % 8)) % 256) (v % 8) ≡ bit x u
     shifted x u e = bit-mod 8 (x / 2 ^ (8 * (v / 8 % 8))) (v % 8) (omega arith) ∙ bit-shr x (8 * (v / 8 % 8)) (v % 8) ∙ ap (bit x) e
@@ -155,22 +157,25 @@ bytes-tell w t b v l = ap (λ (x : ℕ). bit x (v % 8)) (b .each (v / 8) (omega 
 
 bytes-small : (w : Words) (t : List ℕ) → BytesOf w t → (j : ℕ) → getD t j 0 < 256
 unfolding byteOf
-bytes-small w t b j = elim (lt-or-ge j 16)
-  [ inl h ↦ subst (λ (x : ℕ). x < 256) (sym (b .each j h)) (mod-lt (pick (ltb j 8) (w .low) (w .high) / 2 ^ (8 * (j % 8))) (lit< tt))
-  | inr h ↦ subst (λ (x : ℕ). x < 256) (sym (List·getD-eq-default t 0 (omega (arith, b .sixteen)))) (lit< tt) ]
+bytes-small w t b j = elim (lt-or-ge j 16) [
+  | inl h ↦ subst (λ (x : ℕ). x < 256) (sym (b .each j h)) (mod-lt (pick (ltb j 8) (w .low) (w .high) / 2 ^ (8 * (j % 8))) (lit< tt))
+  | inr h ↦ subst (λ (x : ℕ). x < 256) (sym (List·getD-eq-default t 0 (omega (arith, b .sixteen)))) (lit< tt)
+]
 
 -- the bytes of the words of f, cut to n settings, are f's table
 pub table-of : {n : ℕ} {f : ℕ → Bool} (w : Words) {u : Words} {t : List ℕ} → n < 8 → Holds w f → Holds u (λ v. has w v && below n v) → BytesOf u t → TableOf n f t
 unfolding Holds Within
-table-of {n} {f} w {u} {t} h hw hu b = record
-  { sixteen = b .sixteen
-  ; bytes = bytes-small u t b
-  ; tells = λ v l. (let small : v < 128 = omega (arith, pow-mono {i = n} {j = 7} (omega arith)) in
-      bytes-tell u t b v small ∙ hu v small ∙ ap (λ (x : Bool). has w v && x) (lt-ltb v (2 ^ n) l) ∙ and-true (has w v) ∙ hw v small)
-  ; within = λ v l small. bytes-tell u t b v small ∙ hu v small ∙ ap (λ (x : Bool). has w v && x) (le-ltb v (2 ^ n) l) ∙ and-false (has w v) }
+table-of {n} {f} w {u} {t} h hw hu b = record {
+  sixteen = b .sixteen;
+  bytes = bytes-small u t b;
+  tells = λ v l. (let small : v < 128 = omega (arith, pow-mono {i = n} {j = 7} (omega arith)) in
+      bytes-tell u t b v small ∙ hu v small ∙ ap (λ (x : Bool). has w v && x) (lt-ltb v (2 ^ n) l) ∙ and-true (has w v) ∙ hw v small);
+  within = λ v l small. bytes-tell u t b v small ∙ hu v small ∙ ap (λ (x : Bool). has w v && x) (le-ltb v (2 ^ n) l) ∙ and-false (has w v);
+}
 
 -- one more byte stored
 pub stored : (w : Words) (t : List ℕ) (j x : ℕ) → length t ≡ 16 → j < 16 → ((k : ℕ) → k < j → getD t k 0 ≡ byteOf w k) → x ≡ byteOf w j → (k : ℕ) → k < j + 1 → getD (set t j x) k 0 ≡ byteOf w k
-stored w t j x n h f e k l = elim (lt-or-ge k j)
-  [ inl m ↦ getD-set-other t j k x 0 (λ q. omega arith) ∙ f k m
-  | inr m ↦ (let same : k ≡ j = omega arith in rw same (getD-set-same t j x 0 (omega arith) ∙ e)) ]
+stored w t j x n h f e k l = elim (lt-or-ge k j) [
+  | inl m ↦ getD-set-other t j k x 0 (λ q. omega arith) ∙ f k m
+  | inr m ↦ (let same : k ≡ j = omega arith in rw same (getD-set-same t j x 0 (omega arith) ∙ e))
+]

@@ -4,7 +4,11 @@
 mod parts;
 mod scan;
 mod words;
-ghost use Rattle.formula.specs.Read.{Reads};
+
+ghost use mathlib.Core.Path.{_≡_};
+ghost use Prim.Native.Nat.{ℕ};
+ghost use lib.ListN.{replicate};
+ghost use Rattle.formula.specs.Read.{Reads, SettingsFit, LengthFits, Foreign};
 use parts::Part;
 use scan::Scanned;
 
@@ -34,9 +38,13 @@ pub struct Reading {
 }
 
 pub const SETTINGS_MOST: usize = 7;
+
 pub const LENGTH_MOST: usize = 255;
 
-fn refused(why: Refusal) -> Reading {
+// A refusal, and nothing beside it.
+fn refused(why: Refusal) -> Reading
+    ensures { λ r. ⌜ (r .answer ≡ Answer.Refused why) × (r .table ≡ replicate 16 0) ⌝ }
+{
     Reading {
         answer: Answer::Refused(why),
         table: [0u8; 16],
@@ -66,8 +74,11 @@ pub fn read(n: usize, text: &[u8]) -> Reading
     }
 }
 
-// The same where every byte is one that a formula may have.
-fn sentence(n: usize, text: &[u8]) -> Reading {
+// The same where only refusal 4 is left: every byte is one that a formula may have.
+fn sentence(n: usize, text: &[u8]) -> Reading
+    requires { ⌜ SettingsFit n × LengthFits (now text) × ((j : ℕ) → Foreign n (now text) j → ⊥) ⌝ }
+    ensures { λ r. ⌜ Reads n (now (text .entry)) (r .answer) (r .table) ⌝ }
+{
     match parts::sum(text, 0) {
         Part::Broken(i) => refused(Refusal::NotSentence(i)),
         Part::Read(w, end) => {

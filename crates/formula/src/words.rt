@@ -25,14 +25,7 @@ const LETTERS: [u64; 6] = [
 ];
 
 // Bit v of entry n is set for v below 2^n: the valuations of n settings below 64.
-const WITHIN: [u64; 6] = [
-    0x1,
-    0x3,
-    0xf,
-    0xff,
-    0xffff,
-    0xffff_ffff,
-];
+const WITHIN: [u64; 6] = [0x1, 0x3, 0xf, 0xff, 0xffff, 0xffff_ffff];
 
 impl Words {
     pub fn constant(value: bool) -> Words

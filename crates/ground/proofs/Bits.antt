@@ -87,8 +87,8 @@ same-bits zero a b h l f = omega (arith, rw pow-zero at h, rw pow-zero at l)
 same-bits (suc k) a b h l f =
     sym (div-add-mod' a 2)
     ∙ ap₂ (λ (q r : ℕ). q * 2 + r)
-      (same-bits k (a / 2) (b / 2) (half (rw pow-suc at h)) (half (rw pow-suc at l)) (λ i m. sym (bit-suc a i) ∙ f (suc i) (omega arith) ∙ bit-suc b i))
-      (low-eq (a % 2) (b % 2) (half-bit a) (half-bit b) (sym (bit-zero a) ∙ f 0 (omega arith) ∙ bit-zero b))
+    (same-bits k (a / 2) (b / 2) (half (rw pow-suc at h)) (half (rw pow-suc at l)) (λ i m. sym (bit-suc a i) ∙ f (suc i) (omega arith) ∙ bit-suc b i))
+    (low-eq (a % 2) (b % 2) (half-bit a) (half-bit b) (sym (bit-zero a) ∙ f 0 (omega arith) ∙ bit-zero b))
     ∙ div-add-mod' b 2
   where
     half : {x y : ℕ} → x < y * 2 → x / 2 < y

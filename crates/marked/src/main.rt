@@ -13,6 +13,7 @@ fn row(n: usize, text: &[u8], number: u64, place: u64, byte: u8) -> bool {
         },
     }
 }
+
 fn main() {
     check::expect(row(3, b"a|b&~c", 0, 0, 174));
     check::expect(row(2, b"~a&b", 0, 0, 4));
