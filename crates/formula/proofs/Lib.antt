@@ -6,3 +6,5 @@ pub mod TwoWords
 pub mod ScanLaws
 pub mod PartLaws
 pub mod Answers
+pub mod Meaning
+pub mod Unique
