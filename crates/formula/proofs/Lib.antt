@@ -8,3 +8,4 @@ pub mod PartLaws
 pub mod Answers
 pub mod Meaning
 pub mod Unique
+pub mod Small
