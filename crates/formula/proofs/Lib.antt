@@ -9,3 +9,4 @@ pub mod Answers
 pub mod Meaning
 pub mod Unique
 pub mod Small
+pub mod Computed
