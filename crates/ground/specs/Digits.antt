@@ -15,5 +15,4 @@ put b k (suc i) d = put b (k / b) i d * b + k % b
 
 -- bit i of v
 unfoldable pub bit : ℕ → ℕ → Bool
-unfolding digit
 bit v i = eqb (digit 2 v i) 1

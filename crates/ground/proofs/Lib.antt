@@ -1,0 +1,5 @@
+-- The laws that the other crates cite.
+pub mod Bools
+pub mod Search
+pub mod Bits
+pub mod Table

@@ -1,0 +1,8 @@
+// The marked examples of paper 01 and its list "Run by a program", run: a line for each, held to
+// crates/marked/stdout. That the marked examples are so is proved in proofs/Marked.
+mod formulas;
+
+fn main() {
+    formulas::marked();
+    formulas::lengths();
+}
