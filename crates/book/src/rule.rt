@@ -1,0 +1,23 @@
+// Where the table of a rule stands in a book.
+ghost use mathlib.Core.Path.{_≡_};
+ghost use Rattle.book.specs.Rule.{rulePlace};
+
+// The two rules that a setting has for each post.
+pub enum Right {
+    // who may look at the setting
+    Look,
+    // who may set it
+    Set,
+}
+
+// The byte of a book at which the table of a rule begins: of the setting and post with these
+// indexes.
+pub fn rule_at(setting: u8, post: u8, right: Right) -> usize
+    ensures { λ r. ⌜ r ≡ rulePlace setting post right ⌝ }
+{
+    let place = 512 * (1 + setting as usize) + 32 * (post as usize);
+    match right {
+        Right::Look => place,
+        Right::Set => place + 16,
+    }
+}
