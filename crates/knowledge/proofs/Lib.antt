@@ -1,0 +1,6 @@
+-- The laws that callers cite.
+pub mod Seven
+pub mod Fits
+pub mod Acts
+mod Loop
+mod Bytes
