@@ -6,6 +6,8 @@ use native.Mathlib.Nat.{pow-zero, pow-suc, pow-succ', div-one, div-div-eq-div-mu
 use native.Mathlib.Omega.{arith}
 use lib.Dec.{T, eqb, lit<}
 use lib.Bits.{bitAnd, bitOr, bitXor, and-shr, or-shr, xor-shr, and-mod, or-mod, xor-mod}
+use lib.Pow.{shr-shr, field, mod-mod-pow}
+use native.Mathlib.Numerals.{add-one}
 use Rattle.ground.specs.Digits.{digit, bit}
 
 pub digit-zero : (b k : ℕ) → digit b k 0 ≡ k % b
@@ -85,8 +87,8 @@ same-bits zero a b h l f = omega (arith, rw pow-zero at h, rw pow-zero at l)
 same-bits (suc k) a b h l f =
     sym (div-add-mod' a 2)
     ∙ ap₂ (λ (q r : ℕ). q * 2 + r)
-      (same-bits k (a / 2) (b / 2) (half (rw pow-suc at h)) (half (rw pow-suc at l)) (λ i m. sym (bit-suc a i) ∙ f (suc i) (omega arith) ∙ bit-suc b i))
-      (low-eq (a % 2) (b % 2) (half-bit a) (half-bit b) (sym (bit-zero a) ∙ f 0 (omega arith) ∙ bit-zero b))
+    (same-bits k (a / 2) (b / 2) (half (rw pow-suc at h)) (half (rw pow-suc at l)) (λ i m. sym (bit-suc a i) ∙ f (suc i) (omega arith) ∙ bit-suc b i))
+    (low-eq (a % 2) (b % 2) (half-bit a) (half-bit b) (sym (bit-zero a) ∙ f 0 (omega arith) ∙ bit-zero b))
     ∙ div-add-mod' b 2
   where
     half : {x y : ℕ} → x < y * 2 → x / 2 < y
@@ -96,3 +98,18 @@ same-bits (suc k) a b h l f =
 pub bit-of-zero : (i : ℕ) → bit 0 i ≡ false
 unfolding bit digit
 bit-of-zero i = rw zero-div refl
+
+-- a bit of a number shifted down, and of its low end
+pub bit-shr : (x a i : ℕ) → bit (x / 2 ^ a) i ≡ bit x (a + i)
+unfolding bit digit
+bit-shr x a i = ap (λ (y : ℕ). eqb (y % 2) 1) (shr-shr x a i)
+
+pub bit-mod : (m x i : ℕ) → i < m → bit (x % 2 ^ m) i ≡ bit x i
+bit-mod zero x i h = absurd (omega arith)
+bit-mod (suc m) x zero h =
+    bit-zero (x % 2 ^ suc m) ∙ ap (λ (y : ℕ). eqb y 1) (ap (λ (j : ℕ). x % 2 ^ j % 2) (sym (add-one m)) ∙ mod-mod-pow x m 1) ∙ sym (bit-zero x)
+bit-mod (suc m) x (suc i) h =
+    bit-suc (x % 2 ^ suc m) i
+    ∙ ap (λ (y : ℕ). bit y i) (ap (λ (j : ℕ). x % 2 ^ j / 2) (sym (add-one m)) ∙ field x m 1)
+    ∙ bit-mod m (x / 2) i (omega arith)
+    ∙ sym (bit-suc x i)

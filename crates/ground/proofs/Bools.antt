@@ -1,7 +1,7 @@
 -- Tests taken apart and put together: each by the two cases of a Bool.
 use mathlib.Core.Path.{_≡_, refl, sym, subst}
 use mathlib.Core.Logic.{_⊎_, inl, inr}
-use mathlib.Core.Bool.{Bool, true, false, not, _&&_, _||_}
+use mathlib.Core.Bool.{Bool, true, false, not, _&&_, _||_, Bool·beq}
 use Prim.Native.Nat.{ℕ, zero, suc, _<_, _≤_}
 use native.Mathlib.Omega.{arith}
 use lib.Dec.{T, eqb, eqb-refl}
@@ -52,6 +52,10 @@ T-iff true true f g = refl
 T-iff true false f g = absurd (f tt)
 T-iff false true f g = absurd (g tt)
 T-iff false false f g = refl
+
+pub beq→eq : (a b : Bool) → T (Bool·beq a b) → a ≡ b
+beq→eq true true h = refl
+beq→eq false false h = refl
 
 pub eq→eqb : {a b : ℕ} → a ≡ b → T (eqb a b)
 eq→eqb {a} e = subst (λ (x : ℕ). T (eqb a x)) e (eqb-refl a)

@@ -40,20 +40,23 @@ pub any-elim : (n : ℕ) (f : ℕ → Bool) → T (any n f) → (i : ℕ) × (i 
 unfolding any
 any-elim zero f h = absurd h
 any-elim (suc n) f h =
-    elim (or-out (f n) (any n f) h)
-    [ inl k ↦ (n, lt-suc-self n, k)
-    | inr k ↦ (let r = any-elim n f k in (r .0, omega (arith, r .1), r .2)) ]
+    elim (or-out (f n) (any n f) h) [
+      | inl k ↦ (n, lt-suc-self n, k)
+      | inr k ↦ (let r = any-elim n f k in (r .0, omega (arith, r .1), r .2))
+    ]
 
 -- the finite search: f everywhere below n, or a number below n where it fails
 pub all-or : (n : ℕ) (f : ℕ → Bool) → T (all n f) ⊎ ((i : ℕ) × (i < n) × T (not (f i)))
 unfolding all
 all-or zero f = inl tt
 all-or (suc n) f =
-    elim (decide (f n))
-    [ inr k ↦ inr (n, lt-suc-self n, k)
-    | inl k ↦ elim (all-or n f)
-      [ inl r ↦ inl (and-in (f n) (all n f) k r)
-      | inr r ↦ inr (r .0, omega (arith, r .1), r .2) ] ]
+    elim (decide (f n)) [
+      | inr k ↦ inr (n, lt-suc-self n, k)
+      | inl k ↦ elim (all-or n f) [
+        | inl r ↦ inl (and-in (f n) (all n f) k r)
+        | inr r ↦ inr (r .0, omega (arith, r .1), r .2)
+      ]
+    ]
 
 pub all-ext : (n : ℕ) (f g : ℕ → Bool) → ((i : ℕ) → i < n → f i ≡ g i) → all n f ≡ all n g
 unfolding all
@@ -63,8 +66,10 @@ all-ext (suc n) f g h = ap₂ _&&_ (h n (lt-suc-self n)) (all-ext n f g (λ i l.
 -- the least number is the only one
 pub least-unique : {P : ℕ → Type 0} {i j : ℕ} → Least P i → Least P j → i ≡ j
 least-unique {P} {i} {j} a b =
-    elim (lt-or-ge i j)
-    [ inl l ↦ absurd (b .none-below i l (a .here))
-    | inr l ↦ elim (lt-or-ge j i)
-      [ inl k ↦ absurd (a .none-below j k (b .here))
-      | inr k ↦ omega arith ] ]
+    elim (lt-or-ge i j) [
+      | inl l ↦ absurd (b .none-below i l (a .here))
+      | inr l ↦ elim (lt-or-ge j i) [
+        | inl k ↦ absurd (a .none-below j k (b .here))
+        | inr k ↦ omega arith
+      ]
+    ]

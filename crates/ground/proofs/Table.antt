@@ -35,9 +35,10 @@ unfolding Within
 table-unique {n} {f} {g} {t} {u} same a b =
     ext-getD 0 t u (a .sixteen ∙ sym (b .sixteen))
     (λ j h. same-bits 8 (getD t j 0) (getD u j 0) (a .bytes j) (b .bytes j)
-      (λ k l. sym (truth-bit t j k l) ∙ agree (j * 8 + k) (omega (arith, a .sixteen)) ∙ truth-bit u j k l))
+    (λ k l. sym (truth-bit t j k l) ∙ agree (j * 8 + k) (omega (arith, a .sixteen)) ∙ truth-bit u j k l))
   where
     agree : (v : ℕ) → v < 128 → truth t v ≡ truth u v
-    agree v l = elim (lt-or-ge v (2 ^ n))
-      [ inl h ↦ a .tells v h ∙ same v h ∙ sym (b .tells v h)
-      | inr h ↦ a .within v h l ∙ sym (b .within v h l) ]
+    agree v l = elim (lt-or-ge v (2 ^ n)) [
+      | inl h ↦ a .tells v h ∙ same v h ∙ sym (b .tells v h)
+      | inr h ↦ a .within v h l ∙ sym (b .within v h l)
+    ]

@@ -2,3 +2,4 @@
 pub mod Digits
 pub mod Search
 pub mod Table
+pub mod Text

@@ -1,0 +1,10 @@
+-- The laws and theorems about formulas.
+pub mod Automaton
+pub mod Begins
+pub mod Broken
+pub mod TwoWords
+pub mod ScanLaws
+pub mod PartLaws
+pub mod Answers
+pub mod Meaning
+pub mod Unique

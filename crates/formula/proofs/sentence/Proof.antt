@@ -1,0 +1,54 @@
+-- `sentence` meets its contract: the sum that begins the text ends with it, or the text breaks.
+use native.Mathlib.Omega.{arith}
+use Rattle.formula.specs.Grammar as G
+use Rattle.formula.specs.declared.Refusal.the-variants.{Length, StrayByte, LetterPast, NotSentence, Settings}
+use Rattle.formula.proofs.Answers.{refusal, broken, whole}
+use Rattle.formula.proofs.PartLaws.{as-read, as-broken, sum-short}
+use borrow.Author.Needs.{needs}
+use Rattle.formula.proofs.sentence.Statement.{statement}
+use Rattle.formula.proofs.sentence.Tie as tie
+
+sum-requires : tie.Need-sum-requires
+sum-requires c κs = search needs
+
+enum-known-i : tie.Need-enum-known-i
+enum-known-i c = search needs
+
+refused-requires : tie.Need-refused-requires
+refused-requires c κs = search needs
+
+enum-known-w : tie.Need-enum-known-w
+enum-known-w c = search needs
+
+refused-requires-2 : tie.Need-refused-requires-2
+refused-requires-2 c κs = search needs
+
+within-requires : tie.Need-within-requires
+within-requires c κs = omega (arith, c .before .before .before .before .before .before .pre .0)
+
+bytes-requires : tie.Need-bytes-requires
+bytes-requires c κs = search needs
+
+returns : tie.Need-returns
+returns c = refusal (c .before .before .before .before .before .before .args .n) (c .before .before .before .before .before .before .args .text .now) (NotSentence (c .before .before .i .given .0 .0)) (c .refused .ensures) (broken (c .before .before .before .before .before .before .args .n) (c .before .before .before .before .before .before .args .text .now) (c .before .before .before .before .before .before .pre .0) (c .before .before .before .before .before .before .pre .1) (c .before .before .before .before .before .before .pre .2) (c .before .before .i .given .0 .0) (as-broken G.sum (c .before .before .before .before .before .before .args .text .now) 0 (c .before .before .i .given .1) (c .before .before .before .before .sum .ensures) 0))
+
+returns-2 : tie.Need-returns-2
+returns-2 c = refusal (c .before .before .before .before .before .before .before .args .n) (c .before .before .before .before .before .before .before .args .text .now) (NotSentence (c .before .before .before .w .given .0 .1 .0)) (c .refused2 .ensures) (broken (c .before .before .before .before .before .before .before .args .n) (c .before .before .before .before .before .before .before .args .text .now) (c .before .before .before .before .before .before .before .pre .0) (c .before .before .before .before .before .before .before .pre .1) (c .before .before .before .before .before .before .before .pre .2) (c .before .before .before .w .given .0 .1 .0) (sum-short (as-read G.sum (c .before .before .before .before .before .before .before .args .text .now) 0 (c .before .before .before .w .given .1) (c .before .before .before .before .before .sum .ensures)) (c .before .if1 .taken)))
+
+returns-3 : tie.Need-returns-3
+returns-3 c = whole (c .before .before .before .before .before .before .before .before .args .n) (c .before .before .before .before .before .before .before .before .args .text .now) (c .before .before .before .before .before .before .before .before .pre .0) (c .before .before .before .before .before .before .before .before .pre .1) (c .before .before .before .before .before .before .before .before .pre .2) (as-read G.sum (c .before .before .before .before .before .before .before .before .args .text .now) 0 (c .before .before .before .before .w .given .1) (c .before .before .before .before .before .before .sum .ensures)) (c .before .before .if1 .left) (c .before .within .ensures) (c .bytes .ensures)
+
+pub sentence-spec : {M : Type 1} → statement M
+sentence-spec =
+    tie.close
+    (tie.spec
+    sum-requires
+    enum-known-i
+    refused-requires
+    enum-known-w
+    refused-requires-2
+    within-requires
+    bytes-requires
+    returns
+    returns-2
+    returns-3)

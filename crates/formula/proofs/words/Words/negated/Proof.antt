@@ -1,0 +1,10 @@
+-- `Words::negated` meets its contract: `^` with all ones turns each of the 128 bits.
+use Rattle.formula.proofs.TwoWords.{not-holds}
+use Rattle.formula.proofs.words.Words.negated.Statement.{statement}
+use Rattle.formula.proofs.words.Words.negated.Tie as tie
+
+returns : tie.Need-returns
+returns c = not-holds (c .before .before .args .self)
+
+pub negated-spec : {M : Type 1} → statement M
+negated-spec = tie.close (tie.spec returns)

@@ -1,0 +1,6 @@
+-- What a reader must believe of formulas: the grammar and its meaning, and what `read` answers. `Words` and `Automaton` are inside:
+-- no public contract cites them.
+pub mod Grammar
+pub mod Read
+pub mod Words
+pub mod Automaton

@@ -1,0 +1,95 @@
+// The formula reader: the bytes of a formula, as `a|b&~c`, to its 16-byte table, or a numbered
+// refusal with its place. It takes any number of settings and any text. A refusal leaves nothing
+// behind: the table beside it is all zeros.
+mod parts;
+mod scan;
+mod words;
+
+ghost use mathlib.Core.Path.{_≡_};
+ghost use Prim.Native.Nat.{ℕ};
+ghost use lib.ListN.{replicate};
+ghost use Rattle.formula.specs.Read.{Reads, SettingsFit, LengthFits, Foreign};
+use parts::Part;
+use scan::Scanned;
+
+// Why a text is no formula of n settings.
+pub enum Refusal {
+    // The text is empty or over 255 bytes.
+    Length,
+    // The byte at this place is none that a formula may have.
+    StrayByte(usize),
+    // The letter at this place names no setting: it is at or past n.
+    LetterPast(usize),
+    // No sentence begins with the bytes up to this place and this one; or the text ends too soon.
+    NotSentence(usize),
+    // n is not 1 to 7.
+    Settings,
+}
+
+pub enum Answer {
+    // The text is a formula, and its table stands beside.
+    Table,
+    Refused(Refusal),
+}
+
+pub struct Reading {
+    pub answer: Answer,
+    pub table: [u8; 16],
+}
+
+pub const SETTINGS_MOST: usize = 7;
+
+pub const LENGTH_MOST: usize = 255;
+
+// A refusal, and nothing beside it.
+fn refused(why: Refusal) -> Reading
+    ensures { λ r. ⌜ (r .answer ≡ Answer.Refused why) × (r .table ≡ replicate 16 0) ⌝ }
+{
+    Reading {
+        answer: Answer::Refused(why),
+        table: [0u8; 16],
+    }
+}
+
+// The table of the formula `text` over n settings.
+pub fn read(n: usize, text: &[u8]) -> Reading
+    ensures { λ r. ⌜ Reads n (now (text .entry)) (r .answer) (r .table) ⌝ }
+{
+    if n < 1 {
+        return refused(Refusal::Settings);
+    }
+    if SETTINGS_MOST < n {
+        return refused(Refusal::Settings);
+    }
+    if text.len() < 1 {
+        return refused(Refusal::Length);
+    }
+    if LENGTH_MOST < text.len() {
+        return refused(Refusal::Length);
+    }
+    match scan::scan(n, text) {
+        Scanned::Stray(i) => refused(Refusal::StrayByte(i)),
+        Scanned::Past(i) => refused(Refusal::LetterPast(i)),
+        Scanned::Clean => sentence(n, text),
+    }
+}
+
+// The same where only refusal 4 is left: every byte is one that a formula may have.
+fn sentence(n: usize, text: &[u8]) -> Reading
+    requires { ⌜ SettingsFit n × LengthFits (now text) × ((j : ℕ) → Foreign n (now text) j → ⊥) ⌝ }
+    ensures { λ r. ⌜ Reads n (now (text .entry)) (r .answer) (r .table) ⌝ }
+{
+    match parts::sum(text, 0) {
+        Part::Broken(i) => refused(Refusal::NotSentence(i)),
+        Part::Read(w, end) => {
+            if end < text.len() {
+                refused(Refusal::NotSentence(end))
+            } else {
+                Reading {
+                    answer: Answer::Table,
+                    table: w.within(n).bytes(),
+                }
+            }
+        }
+    }
+}

@@ -1,0 +1,74 @@
+// Calls the library for a test program that can't link it: the archive is for x86-64, and the test program
+// runs on another processor. src/ffi/hosted.rs is the other end, and has the same numbers for the functions.
+//
+// A request on standard input is a row of 64-bit words, low byte first: the count of bytes that follow, the
+// function, the count of numbers, the count of rooms, the numbers, the size of each room; then the rooms'
+// bytes. A room has GUARD bytes in front of what is lent and GUARD after it, and its size counts them. The
+// reply on standard output is the result, one word, then all bytes of all rooms as the call left them.
+// The host ends where its input ends. It has no header of the C library at hand, and needs four functions.
+
+typedef unsigned char u8;
+typedef unsigned long u64;
+
+long read(int file, void *bytes, u64 size);
+long write(int file, const void *bytes, u64 size);
+void *realloc(void *old, u64 size);
+_Noreturn void _exit(int status);
+
+u64 pj_formula_read(u64 n, const u8 *text, u64 len, u8 *table);
+
+enum { GUARD = 32, ROOMS_MOST = 8 };
+enum { FORMULA_READ = 1 };
+
+static void fill(void *bytes, u64 size) {
+    for (u64 done = 0; done < size;) {
+        long count = read(0, (u8 *)bytes + done, size - done);
+        if (count <= 0) _exit(done == 0 && count == 0 ? 0 : 1);
+        done += (u64)count;
+    }
+}
+
+static void send(const void *bytes, u64 size) {
+    for (u64 done = 0; done < size;) {
+        long count = write(1, (const u8 *)bytes + done, size - done);
+        if (count <= 0) _exit(1);
+        done += (u64)count;
+    }
+}
+
+static u64 call(u64 function, const u64 *number, u8 *const *room, const u64 *lent) {
+    switch (function) {
+    case FORMULA_READ: return pj_formula_read(number[0], room[0], lent[0], room[1]);
+    }
+    _exit(2);
+}
+
+int main(void) {
+    u64 *request = 0;
+    u64 held = 0;
+    for (;;) {
+        u64 size;
+        fill(&size, sizeof size);
+        if (size > held) {
+            request = realloc(request, size);
+            if (request == 0) return 3;
+            held = size;
+        }
+        fill(request, size);
+
+        u64 function = request[0], numbers = request[1], rooms = request[2];
+        const u64 *number = request + 3, *sizes = number + numbers;
+        u8 *bytes = (u8 *)(sizes + rooms);
+        u8 *room[ROOMS_MOST];
+        u64 lent[ROOMS_MOST], all = 0;
+        if (rooms > ROOMS_MOST) return 2;
+        for (u64 i = 0; i < rooms; i++) {
+            room[i] = bytes + all + GUARD;
+            lent[i] = sizes[i] - 2 * GUARD;
+            all += sizes[i];
+        }
+        u64 result = call(function, number, room, lent);
+        send(&result, sizeof result);
+        send(bytes, all);
+    }
+}

@@ -1,0 +1,66 @@
+//! The route on other processors: host/host.c has the library in it, runs under the kit's emulator and is called
+//! through two pipes. The form of a request and its reply is told there.
+
+use std::io::{Read, Write};
+use std::process::{Child, ChildStdin, ChildStdout, Command, Stdio};
+use std::sync::{Mutex, OnceLock};
+
+use crate::room::Room;
+
+const FORMULA_READ: u64 = 1;
+
+pub fn formula_read(n: u64, text: &mut Room, table: &mut Room) -> u64 {
+    call(FORMULA_READ, &[n], &mut [text, table])
+}
+
+struct Host {
+    requests: ChildStdin,
+    replies: ChildStdout,
+    program: Child,
+}
+
+fn call(function: u64, numbers: &[u64], rooms: &mut [&mut Room]) -> u64 {
+    static HOST: OnceLock<Mutex<Host>> = OnceLock::new();
+    let host = HOST.get_or_init(|| Mutex::new(Host::start()));
+    host.lock().unwrap().call(function, numbers, rooms)
+}
+
+impl Host {
+    fn start() -> Host {
+        let mut program = Command::new(env!("PJ_START"))
+            .arg(env!("PJ_HOST"))
+            .stdin(Stdio::piped())
+            .stdout(Stdio::piped())
+            .spawn()
+            .unwrap_or_else(|error| panic!("{} did not start: {error}", env!("PJ_START")));
+        let requests = program.stdin.take().unwrap();
+        let replies = program.stdout.take().unwrap();
+        Host { requests, replies, program }
+    }
+
+    fn call(&mut self, function: u64, numbers: &[u64], rooms: &mut [&mut Room]) -> u64 {
+        let mut words = vec![function, numbers.len() as u64, rooms.len() as u64];
+        words.extend_from_slice(numbers);
+        words.extend(rooms.iter_mut().map(|room| room.whole_mut().len() as u64));
+        let all: usize = rooms.iter_mut().map(|room| room.whole_mut().len()).sum();
+
+        let mut request = ((words.len() * 8 + all) as u64).to_le_bytes().to_vec();
+        request.extend(words.iter().flat_map(|word| word.to_le_bytes()));
+        for room in rooms.iter_mut() {
+            request.extend_from_slice(room.whole_mut());
+        }
+        let mut reply = vec![0; 8 + all];
+        let answered = self.requests.write_all(&request).and_then(|()| self.replies.read_exact(&mut reply));
+        if let Err(error) = answered {
+            panic!("the library's host gave no answer ({error}); it ended: {:?}", self.program.wait());
+        }
+
+        let mut rest = &reply[8..];
+        for room in rooms.iter_mut() {
+            let (own, others) = rest.split_at(room.whole_mut().len());
+            room.whole_mut().copy_from_slice(own);
+            rest = others;
+        }
+        u64::from_le_bytes(reply[..8].try_into().unwrap())
+    }
+}
