@@ -11,7 +11,8 @@ use Rattle.book.specs.declared.rule.Right.the-variants.{Look as look-rule, Set 
 use Rattle.knowledge.specs.Acts.{ofKind, permitted}
 use Rattle.knowledge.specs.Fits.{known}
 use Rattle.knowledge.specs.declared.act.Act.the-variants.{Set, Look}
-use Rattle.knowledge.proofs.Fits.{guarded, known-take}
+use Rattle.knowledge.proofs.Fits.{guarded}
+use Rattle.knowledge.proofs.Known.{known-take}
 
 -- any kind but the two sets is a look
 pub kind-look : (kind i q : ℕ) → (kind ≡ 0 → ⊥) → (kind ≡ 1 → ⊥) → ofKind kind i q ≡ Look i q

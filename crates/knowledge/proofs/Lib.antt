@@ -2,6 +2,8 @@
 pub mod Seven
 pub mod Number
 pub mod Fits
+pub mod Known
 pub mod Acts
+mod Unique
 mod Loop
 mod Bytes
