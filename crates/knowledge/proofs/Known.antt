@@ -8,8 +8,9 @@ use lib.Dec.{T}
 use lib.ListN.{take}
 use Rattle.ground.specs.Table.{truth}
 use Rattle.ground.proofs.Bools.{or-left, or-right, or-out, T→true, T→false}
+use Rattle.knowledge.specs.Seven.{unknown}
 use Rattle.knowledge.specs.Fits.{fits, always, nowSide, startSide, fitsNow, fitsStart, known, learnSettled}
-use Rattle.knowledge.proofs.Fits.{always-at, always-intro, always-or, always-ext, always-take, fits-ext}
+use Rattle.knowledge.proofs.Fits.{always-at, always-intro, always-or, always-ext, always-take, always-more}
 
 module _ (n : ℕ) (d : ℕ → ℕ) (t : List ℕ) where
   -- "true at every fitting present valuation"
@@ -64,3 +65,17 @@ module _ (n : ℕ) (d e : ℕ → ℕ) (t : List ℕ) where
   unfolding learnSettled
   learn-ext same =
       ap₂ _||_ (always-ext true n (startSide d) (startSide e) t same) (always-ext false n (startSide d) (startSide e) t same)
+
+  -- where more is told, what was known and what was settled stays so
+  pub known-more : ((i : ℕ) → i < n → (nowSide d i ≡ unknown) ⊎ (nowSide d i ≡ nowSide e i)) → T (known n d t) → T (known n e t)
+  unfolding known
+  known-more more h = always-more n (nowSide d) (nowSide e) more true t h
+
+  pub learn-more : ((i : ℕ) → i < n → (startSide d i ≡ unknown) ⊎ (startSide d i ≡ startSide e i)) → T (learnSettled n d t) → T (learnSettled n e t)
+  unfolding learnSettled
+  learn-more more h =
+      elim (or-out (always true n (startSide d) t) (always false n (startSide d) t) h)
+      [ inl a ↦ or-left (always true n (startSide e) t) (always false n (startSide e) t)
+          (always-more n (startSide d) (startSide e) more true t a)
+      | inr a ↦ or-right (always true n (startSide e) t) (always false n (startSide e) t)
+          (always-more n (startSide d) (startSide e) more false t a) ]

@@ -3,6 +3,8 @@ pub mod Seven
 pub mod Number
 pub mod Fits
 pub mod Known
+pub mod Unknowns
+pub mod Outcomes
 pub mod Acts
 mod Unique
 mod Loop

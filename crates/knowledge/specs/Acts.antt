@@ -39,7 +39,7 @@ ofKind zero i q = Set i q false
 ofKind (suc zero) i q = Set i q true
 ofKind (suc (suc kind)) i q = Look i q
 
-abbrev named : Bool → Act → Named
+abbrev pub named : Bool → Act → Named
 named true a = One a
 named false a = Nothing
 
