@@ -74,8 +74,9 @@ module _ (n : ℕ) (d e : ℕ → ℕ) (t : List ℕ) where
   pub learn-more : ((i : ℕ) → i < n → (startSide d i ≡ unknown) ⊎ (startSide d i ≡ startSide e i)) → T (learnSettled n d t) → T (learnSettled n e t)
   unfolding learnSettled
   learn-more more h =
-      elim (or-out (always true n (startSide d) t) (always false n (startSide d) t) h)
-      [ inl a ↦ or-left (always true n (startSide e) t) (always false n (startSide e) t)
-          (always-more n (startSide d) (startSide e) more true t a)
-      | inr a ↦ or-right (always true n (startSide e) t) (always false n (startSide e) t)
-          (always-more n (startSide d) (startSide e) more false t a) ]
+      elim (or-out (always true n (startSide d) t) (always false n (startSide d) t) h) [
+        | inl a ↦ or-left (always true n (startSide e) t) (always false n (startSide e) t)
+            (always-more n (startSide d) (startSide e) more true t a)
+        | inr a ↦ or-right (always true n (startSide e) t) (always false n (startSide e) t)
+            (always-more n (startSide d) (startSide e) more false t a)
+      ]

@@ -77,7 +77,7 @@ module _ (d : ℕ → ℕ) where
   ]
 
 -- seven digits, whatever the number
-digits-long : (k : ℕ) → length (digitsOf k) ≡ 7
+pub digits-long : (k : ℕ) → length (digitsOf k) ≡ 7
 unfolding digitsOf
 digits-long k = refl
 

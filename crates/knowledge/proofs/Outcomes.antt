@@ -52,9 +52,10 @@ module _ (k i : ℕ) (b : Bool) where
 
   -- a set never loses start knowledge, so it settles no learn formula and unsettles none
   pub set-keeps-start : (j : ℕ) → startOf (digit 7 (setTo k i b) j) ≡ startOf (digit 7 k j)
-  set-keeps-start j = elim (ℕ-discrete j i)
-      [ yes e ↦ rw (e, set-here) (start-set (digit 7 k i) b small)
-      | no e ↦ ap startOf (set-other j e) ]
+  set-keeps-start j = elim (ℕ-discrete j i) [
+    | yes e ↦ rw (e, set-here) (start-set (digit 7 k i) b small)
+    | no e ↦ ap startOf (set-other j e)
+  ]
 
   pub set-keeps-learn : (n : ℕ) (t : List ℕ) → learnSettled n (digit 7 (setTo k i b)) t ≡ learnSettled n (digit 7 k) t
   set-keeps-learn n t = learn-ext n (digit 7 (setTo k i b)) (digit 7 k) t (λ j l. set-keeps-start j)
@@ -66,9 +67,10 @@ module _ (k i : ℕ) (b : Bool) where
   -- a look at digit 0 loses nothing: each side stays, or was unknown
   module _ (at : digit 7 k i ≡ 0) where
     more : (column : ℕ → ℕ) → column 0 ≡ unknown → (j : ℕ) → (column (digit 7 k j) ≡ unknown) ⊎ (column (digit 7 k j) ≡ column (digit 7 (lookAt k i b) j))
-    more column none j = elim (ℕ-discrete j i)
-        [ yes e ↦ inl (ap (λ (x : ℕ). column (digit 7 k x)) e ∙ ap column at ∙ none)
-        | no e ↦ inr (ap column (sym (look-other j e))) ]
+    more column none j = elim (ℕ-discrete j i) [
+      | yes e ↦ inl (ap (λ (x : ℕ). column (digit 7 k x)) e ∙ ap column at ∙ none)
+      | no e ↦ inr (ap column (sym (look-other j e)))
+    ]
 
     pub look-keeps-known : (n : ℕ) (t : List ℕ) → T (known n (digit 7 k) t) → T (known n (digit 7 (lookAt k i b)) t)
     unfolding nowOf

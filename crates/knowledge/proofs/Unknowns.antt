@@ -41,6 +41,7 @@ pub unknowns-change : (n i : ℕ) (d e : ℕ → ℕ) → i < n → ((j : ℕ) �
     → unknowns n e + counts (d i) ≡ unknowns n d + counts (e i)
 unfolding unknowns
 unknowns-change zero i d e h same = absurd (omega arith)
-unknowns-change (suc n) i d e h same = elim (ℕ-discrete n i)
-  [ yes q ↦ rw (q, unknowns-ext i e d (λ j l. same j (λ p. let z : i < i = rw p at l in omega arith))) (omega arith)
-  | no q ↦ (let l : i < n = omega arith in rw (same n q) (omega (arith, unknowns-change n i d e l same))) ]
+unknowns-change (suc n) i d e h same = elim (ℕ-discrete n i) [
+  | yes q ↦ rw (q, unknowns-ext i e d (λ j l. same j (λ p. let z : i < i = rw p at l in omega arith))) (omega arith)
+  | no q ↦ (let l : i < n = omega arith in rw (same n q) (omega (arith, unknowns-change n i d e l same)))
+]
