@@ -3,3 +3,4 @@ pub mod Bools
 pub mod Search
 pub mod Bits
 pub mod Table
+pub mod Digits

@@ -1,0 +1,54 @@
+-- "A present valuation fits if it agrees with every known present value, a start valuation if it agrees with every known start
+-- value. A rule is known to hold if it is true at every fitting present valuation." d i is the digit of setting i: of a
+-- knowledge number k it is digit 7 k i. A side tells for each setting whether a value is unknown, false or true (Seven).
+use mathlib.Core.Bool.{Bool, true, false, not, _||_}
+use mathlib.Core.List.{List}
+use Prim.Native.Nat.{ℕ, _^_}
+use lib.Dec.{eqb}
+use Rattle.ground.specs.Digits.{bit}
+use Rattle.ground.specs.Search.{all}
+use Rattle.ground.specs.Table.{truth}
+use Rattle.knowledge.specs.Seven.{unknown, told, startOf, nowOf}
+
+-- a value agrees with a side: nothing is known of it, or this is
+unfoldable pub agrees : ℕ → Bool → Bool
+agrees side value = eqb side unknown || eqb side (told value)
+
+-- the valuation v agrees with every value that the side tells of the n settings
+unfoldable pub fits : ℕ → (ℕ → ℕ) → ℕ → Bool
+fits n side v = all n (λ i. agrees (side i) (bit v i))
+
+abbrev pub implies : Bool → Bool → Bool
+implies a b = not a || b
+
+-- x is the value b
+abbrev pub is : Bool → Bool → Bool
+is true x = x
+is false x = not x
+
+-- the table has the value b at every valuation that fits the side
+unfoldable pub always : Bool → ℕ → (ℕ → ℕ) → List ℕ → Bool
+always b n side table = all (2 ^ n) (λ v. implies (fits n side v) (is b (truth table v)))
+
+-- what the digits tell of the values now, and of those at the start
+abbrev pub nowSide : (ℕ → ℕ) → ℕ → ℕ
+nowSide d i = nowOf (d i)
+
+abbrev pub startSide : (ℕ → ℕ) → ℕ → ℕ
+startSide d i = startOf (d i)
+
+-- "A present valuation fits if it agrees with every known present value"
+unfoldable pub fitsNow : ℕ → (ℕ → ℕ) → ℕ → Bool
+fitsNow n d v = fits n (nowSide d) v
+
+-- "a start valuation if it agrees with every known start value"
+unfoldable pub fitsStart : ℕ → (ℕ → ℕ) → ℕ → Bool
+fitsStart n d v = fits n (startSide d) v
+
+-- "A rule is known to hold if it is true at every fitting present valuation."
+unfoldable pub known : ℕ → (ℕ → ℕ) → List ℕ → Bool
+known n d rule = always true n (nowSide d) rule
+
+-- "each learn formula has one same value at all fitting start valuations"
+unfoldable pub learnSettled : ℕ → (ℕ → ℕ) → List ℕ → Bool
+learnSettled n d learn = always true n (startSide d) learn || always false n (startSide d) learn

@@ -1,0 +1,36 @@
+-- A knowledge state and its number. The digits of a state are a list; d i is the digit of setting i.
+use mathlib.Core.List.{List, [], _∷_}
+use Prim.Native.Nat.{ℕ, zero, suc, _+_, _*_, _^_}
+use lib.ListN.{getD}
+use Rattle.ground.specs.Digits.{digit, bit}
+use Rattle.knowledge.specs.Seven.{firstDigit}
+
+-- the digit of setting i in a state that holds these digits
+abbrev pub digitIn : List ℕ → ℕ → ℕ
+digitIn digits i = getD digits i 0
+
+-- "The knowledge number is the sum of digit × 7^i", over the first n settings
+unfoldable pub numberOf : ℕ → (ℕ → ℕ) → ℕ
+numberOf zero d = 0
+numberOf (suc n) d = numberOf n d + d n * 7 ^ n
+
+-- the digits of the seven settings in a knowledge number
+unfoldable pub digitsOf : ℕ → List ℕ
+digitsOf k = digit 7 k 0 ∷ digit 7 k 1 ∷ digit 7 k 2 ∷ digit 7 k 3 ∷ digit 7 k 4 ∷ digit 7 k 5 ∷ digit 7 k 6 ∷ []
+
+-- "At the start each digit is 0, 3 or 6": the digit of setting i, where bit i of known says that it is known, and bit i of
+-- values that it is true
+unfoldable pub firstAt : ℕ → ℕ → ℕ → ℕ
+firstAt known values i = firstDigit (bit known i) (bit values i)
+
+-- the seven digits at the start
+unfoldable pub firstDigits : ℕ → ℕ → List ℕ
+firstDigits known values =
+    firstAt known values 0
+    ∷ firstAt known values 1
+    ∷ firstAt known values 2
+    ∷ firstAt known values 3
+    ∷ firstAt known values 4
+    ∷ firstAt known values 5
+    ∷ firstAt known values 6
+    ∷ []

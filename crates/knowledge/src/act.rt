@@ -1,0 +1,139 @@
+// What a team can do, the byte of it in a plan, and whether it is allowed where a team knows so much.
+use crate::bits::bit_of;
+use crate::state::Knowledge;
+use book::Right;
+ghost use mathlib.Core.Path.{_≡_};
+ghost use mathlib.Core.Bool.{_&&_};
+ghost use lib.Dec.{ltb, leb};
+ghost use Rattle.ground.specs.Digits.{bit};
+ghost use Rattle.knowledge.specs.Number.{digitIn};
+ghost use Rattle.knowledge.specs.Acts.{ofKind, byteOf, actOf, offered, permitted, allowed};
+
+// An act, by a post, on a setting: each by its index.
+pub enum Act {
+    // the setting is set to the value
+    Set { setting: u8, post: u8, value: bool },
+    // the setting's present value is read
+    Look { setting: u8, post: u8 },
+}
+
+// What a byte of a plan names.
+pub enum Named {
+    One(Act),
+    // 0, which is a stop, and what is past the largest act
+    Nothing,
+}
+
+// An act by its kind: 0 set false, 1 set true, 2 look.
+fn of_kind(kind: u8, setting: u8, post: u8) -> Act
+    ensures { λ r. ⌜ r ≡ ofKind kind setting post ⌝ }
+{
+    if kind == 0 {
+        return Act::Set {
+            setting,
+            post,
+            value: false,
+        };
+    }
+    if kind == 1 {
+        return Act::Set {
+            setting,
+            post,
+            value: true,
+        };
+    }
+    Act::Look { setting, post }
+}
+
+// The act that a byte names.
+pub fn act_of(byte: u8) -> Named
+    ensures { λ r. ⌜ r ≡ actOf byte ⌝ }
+{
+    if byte == 0 {
+        return Named::Nothing;
+    }
+    if 168 < byte {
+        return Named::Nothing;
+    }
+    let place = byte - 1;
+    Named::One(of_kind(place / 56, place / 8 % 7, place % 8))
+}
+
+// Whether a book of n settings has the setting and the team has the post.
+fn offers(n: u8, team: u8, setting: u8, post: u8) -> bool
+    ensures { λ r. ⌜ r ≡ ltb setting n && bit team post ⌝ }
+{
+    if setting < n {
+        return bit_of(team, post);
+    }
+    false
+}
+
+impl Act {
+    // The act's byte; a setting past the seven or a post past the eight gives a number that is no byte
+    // of a plan.
+    pub fn byte(self) -> u16
+        ensures { λ r. ⌜ r ≡ byteOf self ⌝ }
+    {
+        match self {
+            Act::Set {
+                setting,
+                post,
+                value,
+            } => {
+                if value {
+                    1 + (7 + setting as u16) * 8 + post as u16
+                } else {
+                    1 + (setting as u16) * 8 + post as u16
+                }
+            }
+            Act::Look { setting, post } => 1 + (14 + setting as u16) * 8 + post as u16,
+        }
+    }
+
+    // Whether it is an act of a book with n settings and of this team: bit q for the post with index q.
+    pub fn offered(self, n: u8, team: u8) -> bool
+        ensures { λ r. ⌜ r ≡ offered n team self ⌝ }
+    {
+        match self {
+            Act::Set {
+                setting,
+                post,
+                value: _,
+            } => offers(n, team, setting, post),
+            Act::Look { setting, post } => offers(n, team, setting, post),
+        }
+    }
+}
+
+impl Knowledge {
+    // Whether the book's rules permit the act where this is known; never in a book of more than seven
+    // settings.
+    pub fn permits(self, n: u8, book: &[u8], act: Act) -> bool
+        ensures { λ r. ⌜ r ≡ leb n 7 && permitted n (now (book .entry)) (digitIn (self .digits)) act ⌝ }
+    {
+        match act {
+            Act::Set {
+                setting,
+                post,
+                value: _,
+            } => { self.known_to_hold(n, book, book::rule_at(setting, post, Right::Set)) }
+            Act::Look { setting, post } => {
+                if self.digit(setting) != 0 {
+                    return false;
+                }
+                self.known_to_hold(n, book, book::rule_at(setting, post, Right::Look))
+            }
+        }
+    }
+
+    // Whether the team may do the act.
+    pub fn allows(self, n: u8, book: &[u8], team: u8, act: Act) -> bool
+        ensures { λ r. ⌜ r ≡ leb n 7 && allowed n (now (book .entry)) team (digitIn (self .digits)) act ⌝ }
+    {
+        if act.offered(n, team) {
+            return self.permits(n, book, act);
+        }
+        false
+    }
+}

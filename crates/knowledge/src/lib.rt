@@ -1,0 +1,14 @@
+// What a team knows: one of seven digits for each setting, the acts that change one of them, which
+// valuations fit, and when a rule is known to hold. A question about more settings than seven is
+// answered with no. Nothing is written to what a caller lends.
+mod act;
+mod bits;
+mod digit;
+mod judge;
+mod state;
+mod valuation;
+
+pub use act::Act;
+pub use act::Named;
+pub use act::act_of;
+pub use state::Knowledge;
