@@ -1,0 +1,1 @@
+-- The laws of plans and ranks.

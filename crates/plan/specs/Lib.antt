@@ -1,0 +1,8 @@
+-- What a reader must believe of plans: what a plan is and when it works, ranks, the plan written and its bytes, a run on real
+-- settings, and the judgement on a plan's bytes. `Certificate` is inside: no public contract cites it.
+pub mod Plans
+pub mod Ranks
+pub mod Bytes
+pub mod Runs
+pub mod Check
+pub mod Certificate
