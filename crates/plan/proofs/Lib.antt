@@ -1,1 +1,3 @@
 -- The laws of plans and ranks.
+pub mod Acts
+pub mod Layers
