@@ -1,3 +1,5 @@
 -- The laws of plans and ranks.
 pub mod Acts
 pub mod Layers
+pub mod Pigeonhole
+pub mod Unknowns
