@@ -3,3 +3,4 @@ pub mod Acts
 pub mod Layers
 pub mod Pigeonhole
 pub mod Unknowns
+pub mod Class
