@@ -4,3 +4,4 @@ pub mod Layers
 pub mod Pigeonhole
 pub mod Unknowns
 pub mod Class
+pub mod Bound
