@@ -5,3 +5,5 @@ pub mod Pigeonhole
 pub mod Unknowns
 pub mod Class
 pub mod Bound
+pub mod Ranks
+pub mod Certificate
