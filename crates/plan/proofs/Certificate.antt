@@ -43,9 +43,9 @@ module _ {n : ℕ} {S : System} {table : ℕ → ℕ} (law : Lawful n S) (good :
   plan-at (suc h) k l b f = elim (good .reached k b f) [
     | inl g ↦ (stop, g, omega arith)
     | inr r ↦ act-then S (table k) k (r .0) (r .1) (λ x o.
-      let e = r .2 x o in
-      let w = plan-at h x (omega arith) (outcome-lt law (r .1) o b) (omega arith) in
-      (w .0, w .1, omega (arith, w .2)))
+        let e = r .2 x o in
+        let w = plan-at h x (omega arith) (outcome-lt law (r .1) o b) (omega arith) in
+        (w .0, w .1, omega (arith, w .2)))
   ]
 
   -- no plan is lower than the entry
@@ -65,9 +65,12 @@ module _ {n : ℕ} {S : System} {table : ℕ → ℕ} (law : Lawful n S) (good :
   certified l k b = elim (lt-or-ge (table k) 255) [
     | inl f ↦ (let w = plan-at (suc (table k)) k (omega arith) b f in inl record {
       here = (w .0, w .1, omega (arith, w .2, none-lower (w .0) k b (w .1)));
-      none-below = λ j m q. absurd (omega (arith, q .2, none-lower (q .0) k b (q .1)))
+      none-below = λ j m q. absurd (omega (arith, q .2, none-lower (q .0) k b (q .1)));
     })
-    | inr f ↦ inr (omega (arith, good .most k b), λ p w.
-      let v = short-plan law k p w in
-      absurd (omega (arith, v .2, none-lower (v .0) k b (v .1), pow-mono {i = suc n} {j = 8} (omega arith))))
+    | inr f ↦ inr (
+      omega (arith, good .most k b),
+      λ p w.
+          let v = short-plan law k p w in
+          absurd (omega (arith, v .2, none-lower (v .0) k b (v .1), pow-mono {i = suc n} {j = 8} (omega arith))),
+    )
   ]
