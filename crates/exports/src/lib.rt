@@ -16,7 +16,7 @@ pub extern "C" fn pj_formula_read(n: u64, text: &[u8], table: &mut [u8; 16]) -> 
     let answer = reading.answer;
     let found = reading.table;
     match answer {
-        Answer::Table => {
+        Answer::Accepted => {
             *table = found;
             0
         }

@@ -9,7 +9,7 @@ use Rattle.ground.specs.Text.{bytes}
 use Rattle.formula.specs.Read.{Reads, number, place}
 use Rattle.formula.specs.declared.Refusal.{Refusal}
 use Rattle.formula.specs.declared.Answer.{Answer}
-use Rattle.formula.specs.declared.Answer.the-variants.{Table, Refused}
+use Rattle.formula.specs.declared.Answer.the-variants.{Accepted, Refused}
 
 pub data Row : Type 0 where
   -- a formula over n settings, and byte 0 of its table
@@ -23,7 +23,7 @@ pub record Only (n : ℕ) (s : List ℕ) (answer : Answer) (table : List ℕ) : 
   pub no-other : (b : Answer) (u : List ℕ) → Reads n s b u → (b ≡ answer) × (u ≡ table)
 
 abbrev pub Holds : Row → Type 0
-Holds (reads n s byte) = (t : List ℕ) × Only n (bytes s) Table t × (getD t 0 0 ≡ byte)
+Holds (reads n s byte) = (t : List ℕ) × Only n (bytes s) Accepted t × (getD t 0 0 ≡ byte)
 Holds (refuses n s x p) = (r : Refusal) × Only n (bytes s) (Refused r) (replicate 16 0) × (number r ≡ x) × (place r ≡ p)
 
 -- every row of a table

@@ -16,7 +16,7 @@ fn show(name: &[u8], n: usize, text: &[u8]) {
     let answer = reading.answer;
     let table = reading.table;
     match answer {
-        Answer::Table => {
+        Answer::Accepted => {
             say(b" byte 0 is ");
             say_number(table[0] as u64);
         }
