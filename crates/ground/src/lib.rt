@@ -1,6 +1,9 @@
 // The ground that every other crate stands on: valuations and the 16-byte tables that are read at
 // them. It refuses nothing and lends nothing; its specs say what a bit, a digit and a table are, and
 // its proofs hold the laws about them that the other crates cite.
+ghost use mathlib.Core.Path.{_≡_};
+ghost use lib.ListN.{drop};
+ghost use Rattle.ground.specs.Table.{truth};
 
 // A valuation of the settings as they were at the start: bit i is setting i.
 pub struct Start(pub u8);
@@ -12,7 +15,9 @@ pub struct Present(pub u8);
 pub const TABLE: usize = 16;
 
 // Bit v of the table that begins at byte `from`; bytes that are not there count as 0.
-fn truth_at(bytes: &[u8], from: usize, v: u8) -> bool {
+fn truth_at(bytes: &[u8], from: usize, v: u8) -> bool
+    ensures { λ r. ⌜ r ≡ truth (drop from (now (bytes .entry))) v ⌝ }
+{
     let step = (v / 8) as usize;
     if bytes.len() <= from {
         return false;
@@ -26,14 +31,18 @@ fn truth_at(bytes: &[u8], from: usize, v: u8) -> bool {
 
 impl Start {
     // What the table that begins at byte `from` says of these start settings.
-    pub fn finds(self, bytes: &[u8], from: usize) -> bool {
+    pub fn finds(self, bytes: &[u8], from: usize) -> bool
+        ensures { λ r. ⌜ r ≡ truth (drop from (now (bytes .entry))) (self .0) ⌝ }
+    {
         truth_at(bytes, from, self.0)
     }
 }
 
 impl Present {
     // What the table that begins at byte `from` says of these present settings.
-    pub fn finds(self, bytes: &[u8], from: usize) -> bool {
+    pub fn finds(self, bytes: &[u8], from: usize) -> bool
+        ensures { λ r. ⌜ r ≡ truth (drop from (now (bytes .entry))) (self .0) ⌝ }
+    {
         truth_at(bytes, from, self.0)
     }
 }
