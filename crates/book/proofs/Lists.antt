@@ -9,7 +9,7 @@ use native.Mathlib.Numerals.{add-one}
 use lib.ListN.{length, getD, take, drop, set, length-take, length-drop, length-append, List·getD-append}
 use lib.Seq.{sets, sets-eq, length-take-le, take-all, take-suc, take-add, take-append-le, drop-append-le, drop-at, getD-append-add, getD-take, getD-drop}
 use Rattle.book.specs.Block.{inOrder}
-use Rattle.book.proofs.Answers.{lt-or-ge}
+use Rattle.ground.proofs.Bools.{lt-or-ge}
 
 pub sets-append : (l : List ℕ) (i : ℕ) (a b : List ℕ) → sets l i (a ++ b) ≡ sets (sets l i a) (i + length a) b
 sets-append l i [] b = rw add-zero
