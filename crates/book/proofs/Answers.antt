@@ -4,24 +4,8 @@ use mathlib.Core.Bool.{Bool, true, false, not}
 use Prim.Native.Nat.{ℕ, _+_, _≤_, _<_}
 use native.Mathlib.Omega.{arith}
 use native.Mathlib.Nat.{le-refl, lt-irrefl}
-use mathlib.Core.Logic.{_⊎_, inl, inr}
-use lib.Dec.{leb, ltb}
-use borrow.Author.Tests.{leb-true, leb-false, ltb-true, ltb-false, not-true, not-false}
+use borrow.Author.Tests.{not-true, not-false}
 use Rattle.book.specs.Inner.{Tells, Lowest}
-
-pub le-or-lt : (m n : ℕ) → (m ≤ n) ⊎ (n < m)
-le-or-lt m n = go (leb m n) refl
-  where
-    go : (b : Bool) → leb m n ≡ b → (m ≤ n) ⊎ (n < m)
-    go true e = inl (leb-true m n e)
-    go false e = inr (leb-false m n e)
-
-pub lt-or-ge : (m n : ℕ) → (m < n) ⊎ (n ≤ m)
-lt-or-ge m n = go (ltb m n) refl
-  where
-    go : (b : Bool) → ltb m n ≡ b → (m < n) ⊎ (n ≤ m)
-    go true e = inl (ltb-true m n e)
-    go false e = inr (ltb-false m n e)
 
 -- in the two arms of `if !question() { .. }`
 pub untold : (A : Type 0) (r : Bool) → Tells r A → not r ≡ true → A → ⊥

@@ -11,4 +11,5 @@ pub mod BlockLaws
 pub mod RefusalLaws
 pub mod SoundLaws
 pub mod RoundTrip
+pub mod RuleLaws
 pub mod Theorems

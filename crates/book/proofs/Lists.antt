@@ -1,5 +1,5 @@
 -- Runs of bytes written one after the other: `sets` composes along `++`, and what was written is read back. By induction on the first run.
-use mathlib.Core.Path.{_≡_, refl, sym, ap, ap₂, _∙_}
+use mathlib.Core.Path.{_≡_, refl, sym, ap, ap₂, _∙_, subst}
 use mathlib.Core.List.{List, [], _∷_, _++_, append-assoc}
 use mathlib.Core.Logic.{⊎-elim}
 use Prim.Native.Nat.{ℕ, zero, suc, _+_, _*_, _≤_, _<_}
@@ -7,9 +7,9 @@ use native.Mathlib.Nat.{add-zero, add-suc, suc-add, zero-add, mul-zero, mul-suc,
 use native.Mathlib.Omega.{arith}
 use native.Mathlib.Numerals.{add-one}
 use lib.ListN.{length, getD, take, drop, set, length-take, length-drop, length-append, List·getD-append}
-use lib.Seq.{sets, sets-eq, length-take-le, take-all, take-suc, take-add, take-append-le, drop-append-le, drop-at, getD-append-add, getD-take, getD-drop}
+use lib.Seq.{ext-getD, sets, sets-eq, length-take-le, take-all, take-suc, take-add, take-append-le, drop-append-le, drop-at, getD-append-add, getD-take, getD-drop}
 use Rattle.book.specs.Block.{inOrder}
-use Rattle.book.proofs.Answers.{lt-or-ge}
+use Rattle.ground.proofs.Bools.{lt-or-ge}
 
 pub sets-append : (l : List ℕ) (i : ℕ) (a b : List ℕ) → sets l i (a ++ b) ≡ sets (sets l i a) (i + length a) b
 sets-append l i [] b = rw add-zero
@@ -50,6 +50,16 @@ write-done room₀ room text to i h inv = inv ∙ ap (sets room₀ to) (take-all
 -- the length of a part that is there
 pub length-part : (l : List ℕ) (from n : ℕ) → from + n ≤ length l → length (take n (drop from l)) ≡ n
 length-part l from n h = simp (length-take, length-drop) (omega arith)
+
+-- two parts are equal where their bytes are
+pub part-same : (a b : List ℕ) (i j w : ℕ) → i + w ≤ length a → j + w ≤ length b → ((o : ℕ) → o < w → getD a (i + o) 0 ≡ getD b (j + o) 0) → take w (drop i a) ≡ take w (drop j b)
+part-same a b i j w ha hb same =
+    let la : length (take w (drop i a)) ≡ w = length-part a i w ha in
+    let lb : length (take w (drop j b)) ≡ w = length-part b j w hb in
+    ext-getD 0 _ _ (la ∙ sym lb)
+    (λ o k.
+    let low : o < w = subst (λ n. o < n) la k in
+    getD-part a i w o low ∙ same o low ∙ sym (getD-part b j w o low))
 
 -- ---- lists in order
 

@@ -2,12 +2,11 @@
 use mathlib.Core.Path.{_≡_, refl, sym, _∙_, ap}
 use mathlib.Core.List.{List, [], _∷_, _++_}
 use mathlib.Core.Logic.{_⊎_, inl, inr, ⊎-elim}
-use Prim.Native.Nat.{ℕ, _<_, _≤_}
-use native.Mathlib.Nat.{le-antisymm, not-suc-le-zero}
-use native.Mathlib.Omega.{arith}
+use Prim.Native.Nat.{ℕ}
+use native.Mathlib.Nat.{not-suc-le-zero}
 use Rattle.ground.specs.Search.{Least}
 use Rattle.book.specs.Order.{Row, only, First, Clear}
-use Rattle.book.proofs.Answers.{le-or-lt}
+use Rattle.ground.proofs.Search.{least-unique}
 
 -- a refusal whose place is 0
 pub least-only : {A : Type 0} → A → Least (only A) 0
@@ -15,12 +14,6 @@ least-only a = record { here = (a, refl); none-below = λ j h. absurd (not-suc-l
 
 pub none-only : {A : Type 0} → (A → ⊥) → (q : ℕ) → only A q → ⊥
 none-only never q g = never (g .0)
-
-pub least-unique : {P : ℕ → Type 0} {i j : ℕ} → Least P i → Least P j → i ≡ j
-least-unique {P} {i} {j} a b = le-antisymm (not-under a b) (not-under b a)
-  where
-    not-under : {x y : ℕ} → Least P x → Least P y → x ≤ y
-    not-under {x} {y} l k = ⊎-elim (λ h. h) (λ h. absurd (l .none-below y h (k .here))) (le-or-lt x y)
 
 -- the refusal that is given is one alone
 pub first-unique : (rows : List Row) (x y p q : ℕ) → First rows x p → First rows y q → (x ≡ y) × (p ≡ q)

@@ -21,7 +21,7 @@ use Rattle.book.specs.Rule.{tablePlace, table}
 use Rattle.book.specs.Sound.{Tables, SettingBlock}
 use Rattle.book.specs.Inner.{Tells, live, Clean}
 use Rattle.book.proofs.Lists.{getD-part}
-use Rattle.book.proofs.Answers.{le-or-lt, lt-or-ge}
+use Rattle.ground.proofs.Bools.{lt-or-ge}
 use Rattle.book.proofs.Bits.{high-bit, low-bits}
 
 pub live-none : (all m j : ℕ) → 32 * m ≤ j → live all m j ≡ 0
@@ -34,7 +34,7 @@ live-some all m j h = rw (live, lt-leb (32 * m) j h)
 
 pub live-most : (all m j : ℕ) → live all m j ≤ 8
 live-most all m j =
-    ⊎-elim (λ h. rw (live-none all m j h) (omega arith)) (λ h. rw (live-some all m j h) (omega arith)) (le-or-lt (32 * m) j)
+    ⊎-elim (λ h. rw (live-some all m j h) (omega arith)) (λ h. rw (live-none all m j h) (omega arith)) (lt-or-ge j (32 * m))
 
 -- where byte j of a setting's tables stands: post, right, byte of the table
 pub record Spot (j : ℕ) : Type 0 where
@@ -87,9 +87,6 @@ module _ (n m : ℕ) (bytes : List ℕ) (byte : (j : ℕ) → j < 256 → getD b
       let v : (tablePlace (s .q) (s .right) + s .o) % 16 ≡ s .o = place-mod (s .q) (s .right) (s .o) (s .low) in
       let here = s .here in
       ⊎-elim
-      (λ (l : 32 * m ≤ j).
-      let z : getD bytes j 0 ≡ 0 = sym e ∙ good .nobody (s .q) (s .right) (omega arith) (s .post) (s .o) (omega arith) (s .low) in
-      rw (live-none (2 ^ n) m j l, z) (lit< tt))
       (λ (l : j < 32 * m).
       let k = min 8 (2 ^ n - 8 * (j % 16)) in
       let full : k + (8 - k) ≡ 8 = omega arith in
@@ -98,7 +95,10 @@ module _ (n m : ℕ) (bytes : List ℕ) (byte : (j : ℕ) → j < 256 → getD b
       (λ b lo hi.
       rw (← here)
       (bits-off (s .q) (s .right) (s .o) b (s .post) (s .low) (omega arith) (omega arith)))))
-      (le-or-lt (32 * m) j)
+      (λ (l : 32 * m ≤ j).
+      let z : getD bytes j 0 ≡ 0 = sym e ∙ good .nobody (s .q) (s .right) (omega arith) (s .post) (s .o) (omega arith) (s .low) in
+      rw (live-none (2 ^ n) m j l, z) (lit< tt))
+      (lt-or-ge j (32 * m))
 
   pub tables-clean : Clean (2 ^ n) m 256 bytes
   unfolding Clean
@@ -122,9 +122,9 @@ module _ (n m : ℕ) (bytes : List ℕ) (clean : Clean (2 ^ n) m 256 bytes) wher
   live-under q right o b ho h =
       let v : (tablePlace q right + o) % 16 ≡ o = place-mod q right o ho in
       ⊎-elim
-      (λ l. rw (live-none (2 ^ n) m (tablePlace q right + o) l) (omega arith))
       (λ l. rw (live-some (2 ^ n) m (tablePlace q right + o) l) (omega arith))
-      (le-or-lt (32 * m) (tablePlace q right + o))
+      (λ l. rw (live-none (2 ^ n) m (tablePlace q right + o) l) (omega arith))
+      (lt-or-ge (tablePlace q right + o) (32 * m))
 
   pub clean-tables : Tables n m bytes
   unfolding Zeros Within truth

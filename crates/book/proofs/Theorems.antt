@@ -39,7 +39,7 @@ named x p =
     cond (eqb x 5) Settings (cond (eqb x 6) Length (cond (eqb x 7) (Check p) (cond (eqb x 8) Head (cond (eqb x 9) (StrayBit p) Room))))
 
 named-back : (r : Refusal) → named (number r) (place r) ≡ r
-unfolding named number place
+unfolding named
 named-back Settings = refl
 named-back Length = refl
 named-back (Check k) = refl

@@ -10,7 +10,7 @@ use Rattle.book.specs.Sound.{Settings, Posts, Head, Tables, SettingBlock
 use Rattle.book.specs.Order.{Row, only}
 
 -- "A refusal gives a number and a place. [..] Place is 0 unless named."
-unfoldable pub number : Refusal → ℕ
+abbrev pub number : Refusal → ℕ
 number NoSettings = 5
 number Length = 6
 number (Check k) = 7
@@ -18,7 +18,7 @@ number NoHead = 8
 number (StrayBit k) = 9
 number Room = 15
 
-unfoldable pub place : Refusal → ℕ
+abbrev pub place : Refusal → ℕ
 place NoSettings = 0
 place Length = 0
 place (Check k) = k

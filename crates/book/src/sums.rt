@@ -5,7 +5,7 @@ use super::S_AT;
 use super::T_AT;
 use super::bytes::peek;
 ghost use mathlib.Core.Path.{_≡_};
-ghost use Prim.Native.Nat.{_≤_};
+ghost use Prim.Native.Nat.{_+_, _%_, _^_, _≤_};
 ghost use lib.ListN.{drop};
 ghost use Rattle.book.specs.Block.{added, check, number16, block, RightCheck};
 ghost use Rattle.book.specs.Inner.{Tells, Lowest};
@@ -16,12 +16,19 @@ pub struct Sums {
     pub t: u16,
 }
 
+// The sum of two numbers, of which only the low 16 bits are kept.
+fn plus(a: u16, b: u16) -> u16
+    ensures { λ r. ⌜ r ≡ (a + b) % 2 ^ 16 ⌝ }
+{
+    std::num::wrapping_add_u16(a, b)
+}
+
 // The sums with one byte more.
 fn add(sums: Sums, byte: u8) -> Sums
     ensures { λ r. ⌜ r ≡ added sums byte ⌝ }
 {
-    let s = std::num::wrapping_add_u16(sums.s, byte as u16);
-    let t = std::num::wrapping_add_u16(sums.t, s);
+    let s = plus(sums.s, byte as u16);
+    let t = plus(sums.t, s);
     Sums { s, t }
 }
 

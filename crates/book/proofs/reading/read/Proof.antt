@@ -29,7 +29,6 @@ mul-if1 : tie.Need-mul-if1
 mul-if1 c = search needs
 
 returns : tie.Need-returns
-unfolding number place
 returns c = (no-room (now (c .before .before .before .before .before .before .before .args .room)) (book (c .before)) (c .if1 .taken), refl)
 
 copy-rights-requires : tie.Need-copy-rights-requires

@@ -36,7 +36,6 @@ is-whole-requires : tie.Need-is-whole-requires
 is-whole-requires c κs = search needs
 
 returns : tie.Need-returns
-unfolding number place
 returns c = refuse-length (now (c .before .before .before .args .book)) (untold (Whole (now (c .before .before .before .args .book))) (c .before .is-whole .result) (c .before .is-whole .ensures) (c .if1 .taken))
 
 first-wrong-requires : tie.Need-first-wrong-requires
@@ -44,14 +43,13 @@ unfolding blocks
 first-wrong-requires c κs = whole-length (whole c) .2
 
 returns-2 : tie.Need-returns-2
-unfolding number place blocks
+unfolding blocks
 returns-2 c = refuse-check (now (c .before .before .before .before .before .args .book)) (whole (c .before .before)) (c .before .first-wrong .ensures) (c .if2 .taken)
 
 is-head-requires : tie.Need-is-head-requires
 is-head-requires c κs = whole (c .before .before)
 
 returns-3 : tie.Need-returns-3
-unfolding number place
 returns-3 c = refuse-head (now (c .before .before .before .before .before .before .before .args .book)) (whole (c .before .before .before .before)) (checks (c .before .before)) (untold (RightHead (now (c .before .before .before .before .before .before .before .args .book))) (c .before .is-head .result) (c .before .is-head .ensures) (c .if3 .taken))
 
 shared-slice-read-n : tie.Need-shared-slice-read-n
@@ -73,7 +71,6 @@ add-t16 : tie.Need-add-t16
 add-t16 c = omega (arith, head-n-most (head (c .before .before .before .before)) (whole (c .before .before .before .before .before .before .before .before)), c .if4)
 
 returns-4 : tie.Need-returns-4
-unfolding number place
 returns-4 c =
     refuse-stray (now (c .before .before .before .before .before .before .before .before .before .before .before .args .book)) (whole (c .before .before .before .before .before .before .before .before)) (checks (c .before .before .before .before .before .before)) (head (c .before .before .before .before)) (strays (c .before))
     (subst (λ n. c .before .first-stray .result < n) (head-n (head (c .before .before .before .before))) (c .if4 .taken))

@@ -23,26 +23,21 @@ strays : (c : tie.After-first-stray) → Lowest (c .before .before .before .befo
 strays c = lowest-tables (now (c .before .before .before .before .before .before .before .before .args .rights)) (c .before .before .before .before .before .before .before .before .args .n) (c .before .before .before .before .before .before .before .before .args .m) (c .first-stray .result) (λ j. c .before .before .before .before .before .before .before .shared-slice-known .given j .fits) (c .first-stray .ensures)
 
 returns : tie.Need-returns
-unfolding number place
 returns c = refuse-settings (c .before .before .before .args .n) (c .before .before .before .args .m) (now (c .before .before .before .args .rights)) (now (c .before .before .before .args .room)) (λ s. omega (arith, s .least))
 
 returns-2 : tie.Need-returns-2
-unfolding number place
 returns-2 c = refuse-settings (c .before .before .before .before .args .n) (c .before .before .before .before .args .m) (now (c .before .before .before .before .args .rights)) (now (c .before .before .before .before .args .room)) (λ s. omega (arith, s .most))
 
 returns-3 : tie.Need-returns-3
-unfolding number place
 returns-3 c = refuse-posts (c .before .before .before .before .before .args .n) (c .before .before .before .before .before .args .m) (now (c .before .before .before .before .before .args .rights)) (now (c .before .before .before .before .before .args .room)) (settings (c .before)) (λ p. omega (arith, p .least))
 
 returns-4 : tie.Need-returns-4
-unfolding number place
 returns-4 c = refuse-posts (c .before .before .before .before .before .before .args .n) (c .before .before .before .before .before .before .args .m) (now (c .before .before .before .before .before .before .args .rights)) (now (c .before .before .before .before .before .before .args .room)) (settings (c .before .before)) (λ p. omega (arith, p .most))
 
 mul-if5 : tie.Need-mul-if5
 mul-if5 c = search needs
 
 returns-5 : tie.Need-returns-5
-unfolding number place
 returns-5 c = refuse-size (c .before .before .before .before .before .before .before .args .n) (c .before .before .before .before .before .before .before .args .m) (now (c .before .before .before .before .before .before .before .args .rights)) (now (c .before .before .before .before .before .before .before .args .room)) (settings (c .before .before .before)) (posts (c .before)) (c .if5 .taken)
 
 cast-first-stray : tie.Need-cast-first-stray
@@ -55,7 +50,6 @@ add-t15 : tie.Need-add-t15
 add-t15 c = search needs
 
 returns-6 : tie.Need-returns-6
-unfolding number place
 returns-6 c = refuse-tables (c .before .before .before .before .before .before .before .before .before .args .n) (c .before .before .before .before .before .before .before .before .before .args .m) (now (c .before .before .before .before .before .before .before .before .before .args .rights)) (now (c .before .before .before .before .before .before .before .before .before .args .room)) (settings (c .before .before .before .before .before)) (posts (c .before .before .before)) (c .before .before .if5 .left) (strays (c .before)) (c .if6 .taken)
 
 add-if7 : tie.Need-add-if7
@@ -65,7 +59,6 @@ mul-if7 : tie.Need-mul-if7
 mul-if7 c = search needs
 
 returns-7 : tie.Need-returns-7
-unfolding number place
 returns-7 c =
     refuse-room (c .before .before .before .before .before .before .before .before .before .before .args .n) (c .before .before .before .before .before .before .before .before .before .before .args .m) (now (c .before .before .before .before .before .before .before .before .before .before .args .rights)) (now (c .before .before .before .before .before .before .before .before .before .before .args .room)) (settings (c .before .before .before .before .before .before)) (posts (c .before .before .before .before)) (c .before .before .before .if5 .left)
     (lowest-all (strays (c .before .before)) (c .before .if6 .left)) (c .if7 .taken)
