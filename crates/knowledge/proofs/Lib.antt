@@ -10,5 +10,6 @@ pub mod Outcomes
 pub mod Acts
 pub mod Allowed
 pub mod Unique
+pub mod Examples
 pub mod Bytes
 mod Loop
