@@ -1,0 +1,73 @@
+-- A certified table is the table of ranks: an entry below 255 has a plan, by induction on the entry; no plan is lower than its
+-- state's entry, by induction on the plan; and at 255 no plan works, since one of height at most 254 would.
+use mathlib.Core.Path.{_≡_, refl, sym, ap, _∙_}
+use mathlib.Core.Logic.{_⊎_, inl, inr}
+use mathlib.Core.Bool.{Bool, true, false}
+use Prim.Native.Nat.{ℕ, zero, suc, max, _+_, _-_, _^_, _≤_, _<_}
+use native.Mathlib.Omega.{arith}
+use lib.Dec.{T}
+use lib.Pow.{pow-mono}
+use Rattle.ground.specs.Digits.{digit, put}
+use Rattle.ground.specs.Search.{Least}
+use Rattle.ground.proofs.Bools.{lt-or-ge}
+use Rattle.ground.proofs.Digits.{digit-lt, put-lt}
+use Rattle.knowledge.specs.Seven.{afterSet, afterLook}
+use Rattle.knowledge.specs.Acts.{setTo, lookAt}
+use Rattle.knowledge.specs.declared.act.Act.{Act}
+use Rattle.knowledge.specs.declared.act.Act.the-variants.{Set, Look}
+use Rattle.plan.specs.Plans.{System, may, Lawful, Outcome, after-set, after-look, Plan, stop, set-then, look-then, Works, height}
+use Rattle.plan.specs.Ranks.{Reach, Cannot, IsRank}
+use Rattle.plan.specs.Certificate.{Certified}
+use Rattle.plan.proofs.Acts.{after-a-set, after-a-look}
+use Rattle.plan.proofs.Layers.{Within, act-then}
+use Rattle.plan.proofs.Unknowns.{seven, set-lt, look-lt}
+use Rattle.plan.proofs.Bound.{short-plan}
+
+pub setTo-lt : (n k i : ℕ) (b : Bool) → k < 7 ^ n → i < n → setTo k i b < 7 ^ n
+unfolding setTo
+setTo-lt n k i b h l = put-lt seven k i n (afterSet (digit 7 k i) b) h l (set-lt (digit 7 k i) b (digit-lt seven k i))
+
+pub lookAt-lt : (n k i : ℕ) (b : Bool) → k < 7 ^ n → i < n → lookAt k i b < 7 ^ n
+unfolding lookAt
+lookAt-lt n k i b h l = put-lt seven k i n (afterLook b) h l (look-lt b)
+
+-- an act's outcomes are knowledge numbers of n settings again
+pub outcome-lt : {n : ℕ} {S : System} (law : Lawful n S) {k x : ℕ} {a : Act} → T (may S k a) → Outcome k a x → k < 7 ^ n → x < 7 ^ n
+outcome-lt {n} law {k} m (after-set i q b) h = setTo-lt n k i b h (law .setting-of k (Set i q b) m)
+outcome-lt {n} law {k} m (after-look i q b) h = lookAt-lt n k i b h (law .setting-of k (Look i q) m)
+
+module _ {n : ℕ} {S : System} {table : ℕ → ℕ} (law : Lawful n S) (good : Certified n S table) where
+  -- an entry below 255 has a plan of at most that height
+  plan-at : (h k : ℕ) → table k < h → k < 7 ^ n → table k < 255 → Within S (suc (table k)) k
+  plan-at zero k l b f = absurd (omega arith)
+  plan-at (suc h) k l b f = elim (good .reached k b f) [
+    | inl g ↦ (stop, g, omega arith)
+    | inr r ↦ act-then S (table k) k (r .0) (r .1) (λ x o.
+      let e = r .2 x o in
+      let w = plan-at h x (omega arith) (outcome-lt law (r .1) o b) (omega arith) in
+      (w .0, w .1, omega (arith, w .2)))
+  ]
+
+  -- no plan is lower than the entry
+  none-lower : (p : Plan) (k : ℕ) → k < 7 ^ n → Works S k p → table k ≤ height p
+  none-lower stop k b w = omega (arith, good .settled k b w)
+  none-lower (set-then i q v p) k b w =
+      good .least k b (Set i q v) (w .0) (suc (height p))
+      (λ x. after-a-set (λ x. table x < suc (height p))
+      (omega (arith, none-lower p (setTo k i v) (setTo-lt n k i v b (law .setting-of k (Set i q v) (w .0))) (w .1))))
+  none-lower (look-then i q p r) k b w =
+      good .least k b (Look i q) (w .0) (suc (max (height p) (height r)))
+      (λ x. after-a-look (λ x. table x < suc (max (height p) (height r)))
+      (omega (arith, none-lower p (lookAt k i false) (lookAt-lt n k i false b (law .setting-of k (Look i q) (w .0))) (w .1)))
+      (omega (arith, none-lower r (lookAt k i true) (lookAt-lt n k i true b (law .setting-of k (Look i q) (w .0))) (w .2))))
+
+  pub certified : n ≤ 7 → (k : ℕ) → k < 7 ^ n → IsRank S k (table k)
+  certified l k b = elim (lt-or-ge (table k) 255) [
+    | inl f ↦ (let w = plan-at (suc (table k)) k (omega arith) b f in inl record {
+      here = (w .0, w .1, omega (arith, w .2, none-lower (w .0) k b (w .1)));
+      none-below = λ j m q. absurd (omega (arith, q .2, none-lower (q .0) k b (q .1)))
+    })
+    | inr f ↦ inr (omega (arith, good .most k b), λ p w.
+      let v = short-plan law k p w in
+      absurd (omega (arith, v .2, none-lower (v .0) k b (v .1), pow-mono {i = suc n} {j = 8} (omega arith))))
+  ]

@@ -1,0 +1,66 @@
+-- The judgement on a plan's bytes: "the first fault in reading order, 17 before 18". Reading goes on from a list of pending states:
+-- the next byte is for the first of them; the true outcome of a look waits behind the false one.
+use mathlib.Core.Bool.{Bool, true, false}
+use mathlib.Core.List.{List, [], _∷_, _++_}
+use Prim.Native.Nat.{ℕ, zero, suc}
+use Rattle.knowledge.specs.Acts.{actOf, setTo, lookAt}
+use Rattle.knowledge.specs.declared.act.Act.{Act}
+use Rattle.knowledge.specs.declared.act.Act.the-variants.{Set, Look}
+use Rattle.knowledge.specs.declared.act.Named.{Named}
+use Rattle.knowledge.specs.declared.act.Named.the-variants.{One, Nothing}
+use Rattle.plan.specs.Plans.{System}
+
+pub data Fault : Type 0 where
+  -- 17 "byte names no act of this book and team"
+  no-act : Fault
+  -- 18 "act not permitted here, or look at a known setting"
+  not-permitted : Fault
+  -- 19 "stop where the goal isn't settled"
+  not-settled : Fault
+  -- 20 "plan ends too soon", at its length
+  too-soon : Fault
+  -- 21 "bytes after a whole plan", at the first of them
+  left-over : Fault
+
+pub data Verdict : Type 0 where
+  -- "acceptance is a bare yes"
+  accepted : Verdict
+  -- a fault and the index of its byte
+  faulty : Fault → ℕ → Verdict
+
+-- what one byte comes to at a state: the states that its plan goes on from, or a fault
+pub data Reading : Type 0 where
+  goes-on : List ℕ → Reading
+  fails : Fault → Reading
+
+-- the states after an act, the false outcome first
+abbrev pub outcomes : ℕ → Act → List ℕ
+outcomes k (Set i q b) = setTo k i b ∷ []
+outcomes k (Look i q) = lookAt k i false ∷ lookAt k i true ∷ []
+
+-- "17 before 18"
+abbrev pub readAct : System → ℕ → Named → Reading
+readAct S k Nothing = fails no-act
+readAct S k (One a) = elim (S .offers a) [
+  | false ↦ fails no-act
+  | true ↦ elim (S .permits k a) [ false ↦ fails not-permitted | true ↦ goes-on (outcomes k a) ]
+]
+
+-- a stop, or an act
+unfoldable pub readByte : System → ℕ → ℕ → Reading
+readByte S k zero = elim (S .goal k) [ false ↦ fails not-settled | true ↦ goes-on [] ]
+readByte S k (suc c) = readAct S k (actOf (suc c))
+
+-- the judgement on the bytes from index at on, where these states are pending
+abbrev pub judge : System → List ℕ → ℕ → List ℕ → Verdict
+judge S [] at [] = accepted
+judge S [] at (c ∷ cs) = faulty left-over at
+judge S (k ∷ ks) at [] = faulty too-soon at
+judge S (k ∷ ks) at (c ∷ cs) = elim (readByte S k c) [
+  | goes-on new ↦ judge S (new ++ ks) (suc at) cs
+  | fails f ↦ faulty f at
+]
+
+-- a plan's bytes, judged from the state k
+abbrev pub check : System → ℕ → List ℕ → Verdict
+check S k bytes = judge S (k ∷ []) 0 bytes
