@@ -7,7 +7,7 @@ use native.Mathlib.Omega.{arith}
 use lib.Dec.{T, ltb, leb, ltb→lt, leb→le, lit<, lit≤}
 use borrow.Author.Tests.{lt-ltb, le-leb}
 use Rattle.ground.proofs.Bools.{and-left, and-right}
-use Rattle.knowledge.specs.Acts.{settingOf, postOf, kindOf, byteOf, ofKind, named, actOf}
+use Rattle.knowledge.specs.Acts.{settingOf, postOf, kindOf, byteOf, planByte, ofKind, named, actOf}
 use Rattle.knowledge.specs.declared.act.Act.{Act}
 use Rattle.knowledge.specs.declared.act.Act.the-variants.{Set, Look}
 use Rattle.knowledge.specs.declared.act.Named.the-variants.{One}
@@ -72,6 +72,17 @@ act-of-byte a hi hq =
       post-part (kindOf a) (settingOf a) (postOf a) hi hq,
     )
     (ap One (of-kind-of a))
+
+-- what `byte` gives, on the seven settings by the eight posts
+pub plan-byte : (a : Act) → settingOf a < 7 → postOf a < 8 → planByte a ≡ byteOf a
+unfolding planByte
+plan-byte a hi hq = rw (lt-ltb (settingOf a) 7 hi, lt-ltb (postOf a) 8 hq)
+
+-- two acts with one byte are one act
+pub byte-injective : (a c : Act) → settingOf a < 7 → postOf a < 8 → settingOf c < 7 → postOf c < 8 → byteOf a ≡ byteOf c → a ≡ c
+byte-injective a c hi hq hj hp same =
+    let there = sym (act-of-byte a hi hq) ∙ ap actOf same ∙ act-of-byte c hj hp in
+    cc
 
 -- what a byte names has that byte, a setting below 7 and a post below 8
 named-one : (c : Bool) (x a : Act) → named c x ≡ One a → T c × (x ≡ a)

@@ -4,11 +4,13 @@ pub mod Seven
 pub mod Number
 pub mod States
 pub mod Fits
+pub mod Sides
 pub mod Known
 pub mod Unknowns
 pub mod Outcomes
 pub mod Acts
 pub mod Allowed
 pub mod Unique
+pub mod Examples
 pub mod Bytes
 mod Loop

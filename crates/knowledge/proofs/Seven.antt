@@ -1,5 +1,6 @@
 -- The laws of the seven digits: each is a test that antt computes at all seven rows of the table.
 use mathlib.Core.Path.{_≡_, refl, sym, ap, _∙_}
+use mathlib.Core.Logic.{_⊎_, inl, inr}
 use mathlib.Core.Bool.{Bool, true, false, _||_}
 use Prim.Native.Nat.{ℕ, _%_, _≤_, _<_}
 use native.Mathlib.Omega.{arith}
@@ -7,7 +8,7 @@ use lib.Dec.{T, eqb, ltb, eqb→eq, ltb→lt, lit<}
 use borrow.Author.Tests.{ne-eqb, le-ltb}
 use lib.ListN.{getD, List·getD-eq-default}
 use Rattle.ground.specs.Search.{all}
-use Rattle.ground.proofs.Bools.{and-left, and-right, eq→eqb}
+use Rattle.ground.proofs.Bools.{lt-or-ge}
 use Rattle.ground.proofs.Search.{all-at}
 use Rattle.knowledge.specs.Fits.{implies}
 use Rattle.knowledge.specs.Seven.{unknown, told, rows, rowOf, startOf, nowOf, afterSet, afterLook, firstDigit}
@@ -58,13 +59,19 @@ first-lt false value = lit< tt
 first-lt true false = lit< tt
 first-lt true true = lit< tt
 
-pub now-lt : (d : ℕ) → d < 7 → nowOf d < 3
+pub now-lt : (d : ℕ) → nowOf d < 3
 unfolding all nowOf
-now-lt d h = ltb→lt (nowOf d) 3 (all-at 7 (λ d. ltb (nowOf d) 3) tt d h)
+now-lt d = elim (lt-or-ge d 7) [
+  | inl h ↦ ltb→lt (nowOf d) 3 (all-at 7 (λ d. ltb (nowOf d) 3) tt d h)
+  | inr h ↦ rw (now-past d h) (lit< tt)
+]
 
-pub start-lt : (d : ℕ) → d < 7 → startOf d < 3
+pub start-lt : (d : ℕ) → startOf d < 3
 unfolding all startOf
-start-lt d h = ltb→lt (startOf d) 3 (all-at 7 (λ d. ltb (startOf d) 3) tt d h)
+start-lt d = elim (lt-or-ge d 7) [
+  | inl h ↦ ltb→lt (startOf d) 3 (all-at 7 (λ d. ltb (startOf d) 3) tt d h)
+  | inr h ↦ rw (start-past d h) (lit< tt)
+]
 
 -- after a look both values are known to be what was seen
 pub now-look : (b : Bool) → nowOf (afterLook b) ≡ told b
