@@ -7,3 +7,7 @@ pub mod Class
 pub mod Bound
 pub mod Ranks
 pub mod Certificate
+pub mod Bytes
+pub mod Size
+pub mod Written
+pub mod Encode
