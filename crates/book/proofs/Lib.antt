@@ -13,3 +13,4 @@ pub mod SoundLaws
 pub mod RoundTrip
 pub mod RuleLaws
 pub mod Theorems
+pub mod Small
