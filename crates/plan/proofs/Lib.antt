@@ -11,3 +11,6 @@ pub mod Bytes
 pub mod Size
 pub mod Written
 pub mod Encode
+pub mod Effects
+pub mod Secret
+pub mod Check
