@@ -14,3 +14,7 @@ pub mod Encode
 pub mod Effects
 pub mod Secret
 pub mod Check
+pub mod Pending
+pub mod Faults
+pub mod Trap
+pub mod Accepted
