@@ -1,5 +1,6 @@
 -- The laws of plans and ranks.
 pub mod Acts
+pub mod States
 pub mod Layers
 pub mod Pigeonhole
 pub mod Unknowns
@@ -18,3 +19,4 @@ pub mod Pending
 pub mod Faults
 pub mod Trap
 pub mod Accepted
+pub mod Sample

@@ -5,33 +5,16 @@ use mathlib.Core.Logic.{_⊎_, inl, inr}
 use mathlib.Core.List.{List, [], _∷_}
 use mathlib.Core.Bool.{Bool, true, false, not, _&&_, _||_}
 use Prim.Native.Nat.{ℕ, _<_}
-use lib.Dec.{T, eqb, eqb→eq}
-use Rattle.ground.specs.Search.{all}
+use lib.Dec.{T}
 use Rattle.ground.proofs.Bools.{and-left, and-right, or-out, both}
-use Rattle.ground.proofs.Search.{all-at}
-use Rattle.knowledge.specs.Acts.{settingOf, postOf, setTo, lookAt}
+use Rattle.knowledge.specs.Acts.{setTo, lookAt}
 use Rattle.knowledge.specs.Fits.{implies}
 use Rattle.knowledge.specs.declared.act.Act.{Act}
 use Rattle.knowledge.specs.declared.act.Act.the-variants.{Set, Look}
 use Rattle.plan.specs.Plans.{System, may, Lawful, Plan, stop, set-then, look-then, Works}
 use Rattle.plan.specs.Ranks.{Cannot}
-
-unfoldable pub elem : ℕ → List ℕ → Bool
-elem k [] = false
-elem k (x ∷ l) = eqb k x || elem k l
-
--- f at every state of the list
-unfoldable pub each : (ℕ → Bool) → List ℕ → Bool
-each f [] = true
-each f (x ∷ l) = f x && each f l
-
-each-at : (f : ℕ → Bool) (l : List ℕ) (k : ℕ) → T (each f l) → T (elem k l) → T (f k)
-unfolding each elem
-each-at f [] k h m = absurd m
-each-at f (x ∷ l) k h m = elim (or-out (eqb k x) (elem k l) m) [
-  | inl e ↦ rw (eqb→eq k x e) (and-left (f x) (each f l) h)
-  | inr r ↦ each-at f l k (and-right (f x) (each f l) h) r
-]
+use Rattle.plan.proofs.Acts.{every-act, every-at}
+use Rattle.plan.proofs.States.{elem, each, each-at, holds}
 
 -- one of the act's outcomes is in the list
 abbrev pub back : List ℕ → ℕ → Act → Bool
@@ -41,25 +24,6 @@ back l k (Look i q) = elem (lookAt k i false) l || elem (lookAt k i true) l
 -- if the act may be done at k, it leads back into the list
 abbrev pub caught : System → List ℕ → ℕ → Act → Bool
 caught S l k a = implies (may S k a) (back l k a)
-
--- f at every act of n settings and eight posts
-unfoldable pub every-act : ℕ → (Act → Bool) → Bool
-unfolding all
-every-act n f = all n (λ i. all 8 (λ q. f (Set i q false) && (f (Set i q true) && f (Look i q))))
-
-every-at : (n : ℕ) (f : Act → Bool) (a : Act) → T (every-act n f) → settingOf a < n → postOf a < 8 → T (f a)
-unfolding every-act
-every-at n f a h hi hq =
-    pick a (all-at 8 (three (settingOf a)) (all-at n (λ i. all 8 (three i)) h (settingOf a) hi) (postOf a) hq)
-  where
-    three : ℕ → ℕ → Bool
-    three i q = f (Set i q false) && (f (Set i q true) && f (Look i q))
-    pick : (a : Act) → T (three (settingOf a) (postOf a)) → T (f a)
-    pick (Set i q false) t = and-left (f (Set i q false)) (f (Set i q true) && f (Look i q)) t
-    pick (Set i q true) t =
-        and-left (f (Set i q true)) (f (Look i q)) (and-right (f (Set i q false)) (f (Set i q true) && f (Look i q)) t)
-    pick (Look i q) t =
-        and-right (f (Set i q true)) (f (Look i q)) (and-right (f (Set i q false)) (f (Set i q true) && f (Look i q)) t)
 
 -- the goal is settled nowhere in the list, and every act at a state of it leads back into it
 -- (who names it on an `unfolding` line unfolds all of it, so that the test computes)
@@ -80,9 +44,6 @@ module _ {n : ℕ} {S : System} (law : Lawful n S) (l : List ℕ) (t : T (trap n
       (every-at n (caught S l k) a
       (and-right (not (S .goal k)) (every-act n (caught S l k)) (each-at (λ k. not (S .goal k) && every-act n (caught S l k)) l k t m))
       (law .setting-of k a h) (law .post-of k a h))
-    where
-      holds : (a b : Bool) → T a → T (implies a b) → T b
-      holds true b x y = y
 
   no-plan : (p : Plan) (k : ℕ) → T (elem k l) → Works S k p → ⊥
   no-plan stop k m w = both (S .goal k) w (unsettled k m)
