@@ -5,9 +5,9 @@ use mathlib.Core.Logic.{_⊎_, inl, inr}
 use mathlib.Core.Bool.{Bool, true, false, _&&_, _||_}
 use Prim.Native.Nat.{ℕ, _<_}
 use lib.Dec.{T}
-use Rattle.ground.specs.Search.{any}
+use Rattle.ground.specs.Search.{all, any}
 use Rattle.ground.proofs.Bools.{and-in, and-left, and-right, or-left, or-right, or-out}
-use Rattle.ground.proofs.Search.{any-intro, any-elim}
+use Rattle.ground.proofs.Search.{all-at, any-intro, any-elim}
 use Rattle.knowledge.specs.Acts.{settingOf, postOf, setTo, lookAt}
 use Rattle.knowledge.specs.declared.act.Act.{Act}
 use Rattle.knowledge.specs.declared.act.Act.the-variants.{Set, Look}
@@ -77,6 +77,25 @@ some-out n f h =
     let r = any-elim n (λ i. any 8 (λ q. one-of f i q)) h in
     let s = any-elim 8 (λ q. one-of f (r .0) q) (r .2) in
     one-out n f (r .0) (s .0) (r .1) (s .1) (s .2)
+
+-- f at every act of n settings and eight posts
+unfoldable pub every-act : ℕ → (Act → Bool) → Bool
+unfolding all
+every-act n f = all n (λ i. all 8 (λ q. f (Set i q false) && (f (Set i q true) && f (Look i q))))
+
+pub every-at : (n : ℕ) (f : Act → Bool) (a : Act) → T (every-act n f) → settingOf a < n → postOf a < 8 → T (f a)
+unfolding every-act
+every-at n f a h hi hq =
+    pick a (all-at 8 (three (settingOf a)) (all-at n (λ i. all 8 (three i)) h (settingOf a) hi) (postOf a) hq)
+  where
+    three : ℕ → ℕ → Bool
+    three i q = f (Set i q false) && (f (Set i q true) && f (Look i q))
+    pick : (a : Act) → T (three (settingOf a) (postOf a)) → T (f a)
+    pick (Set i q false) t = and-left (f (Set i q false)) (f (Set i q true) && f (Look i q)) t
+    pick (Set i q true) t =
+        and-left (f (Set i q true)) (f (Look i q)) (and-right (f (Set i q false)) (f (Set i q true) && f (Look i q)) t)
+    pick (Look i q) t =
+        and-right (f (Set i q true)) (f (Look i q)) (and-right (f (Set i q false)) (f (Set i q true) && f (Look i q)) t)
 
 -- the act may be done at k, and f holds at each outcome
 abbrev pub can : System → (ℕ → Bool) → ℕ → Act → Bool

@@ -1,5 +1,6 @@
 -- The laws of plans and ranks.
 pub mod Acts
+pub mod States
 pub mod Layers
 pub mod Pigeonhole
 pub mod Unknowns
@@ -11,3 +12,11 @@ pub mod Bytes
 pub mod Size
 pub mod Written
 pub mod Encode
+pub mod Effects
+pub mod Secret
+pub mod Check
+pub mod Pending
+pub mod Faults
+pub mod Trap
+pub mod Accepted
+pub mod Sample

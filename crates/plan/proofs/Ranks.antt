@@ -1,7 +1,7 @@
 -- Ranks are unique, every state has one, and a rank below h is a place in layer h: the least layer of a state is one past the
 -- least height of a working plan.
 use mathlib.Core.Path.{_≡_, refl, sym, ap, _∙_}
-use mathlib.Core.Logic.{_⊎_, inl, inr}
+use mathlib.Core.Logic.{_⊎_, inl, inr, _↔_}
 use mathlib.Core.Bool.{Bool, not}
 use Prim.Native.Nat.{ℕ, zero, suc, _+_, _-_, _^_, _≤_, _<_}
 use native.Mathlib.Omega.{arith}
@@ -86,6 +86,11 @@ module _ {n : ℕ} {S : System} (law : Lawful n S) where
   rank-small k r l a =
       let w = short-plan law k (a .here .0) (a .here .1) in
       omega (arith, w .2, rank-least S k (inl a) (w .0) (w .1), pow-mono {i = suc n} {j = 8} (omega arith))
+
+  -- a rank other than 255 is there exactly where a plan works
+  pub rank-reach : (k r : ℕ) → n ≤ 7 → IsRank S k r → (r < 255) ↔ ((p : Plan) × Works S k p)
+  rank-reach k r l (inl a) = (λ h. (a .here .0, a .here .1), λ w. rank-small k r l a)
+  rank-reach k r l (inr a) = (λ h. absurd (omega (arith, a .0)), λ w. absurd (a .1 (w .0) (w .1)))
 
   -- a rank below h, and layer h
   pub rank-in : (k r h : ℕ) → IsRank S k r → r < h → h ≤ 255 → T (below n S h k)

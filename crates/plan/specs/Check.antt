@@ -38,18 +38,25 @@ abbrev pub outcomes : ℕ → Act → List ℕ
 outcomes k (Set i q b) = setTo k i b ∷ []
 outcomes k (Look i q) = lookAt k i false ∷ lookAt k i true ∷ []
 
--- "17 before 18"
-abbrev pub readAct : System → ℕ → Named → Reading
-readAct S k Nothing = fails no-act
-readAct S k (One a) = elim (S .offers a) [
-  | false ↦ fails no-act
-  | true ↦ elim (S .permits k a) [ false ↦ fails not-permitted | true ↦ goes-on (outcomes k a) ]
-]
+-- an act: is it of this book and team, and is it permitted here: "17 before 18"
+abbrev pub readAct : Bool → Bool → List ℕ → Reading
+readAct false permitted new = fails no-act
+readAct true false new = fails not-permitted
+readAct true true new = goes-on new
 
--- a stop, or an act
-unfoldable pub readByte : System → ℕ → ℕ → Reading
-readByte S k zero = elim (S .goal k) [ false ↦ fails not-settled | true ↦ goes-on [] ]
-readByte S k (suc c) = readAct S k (actOf (suc c))
+abbrev pub readNamed : System → ℕ → Named → Reading
+readNamed S k Nothing = fails no-act
+readNamed S k (One a) = readAct (S .offers a) (S .permits k a) (outcomes k a)
+
+-- a stop: is the goal settled
+abbrev pub readStop : Bool → Reading
+readStop false = fails not-settled
+readStop true = goes-on []
+
+-- a byte at the state k: "A stop is 0", any other names an act or nothing
+abbrev pub readByte : System → ℕ → ℕ → Reading
+readByte S k zero = readStop (S .goal k)
+readByte S k (suc c) = readNamed S k (actOf (suc c))
 
 -- the judgement on the bytes from index at on, where these states are pending
 abbrev pub judge : System → List ℕ → ℕ → List ℕ → Verdict

@@ -5,6 +5,7 @@ pub mod Plans
 pub mod Ranks
 pub mod Bytes
 pub mod Runs
+pub mod Secret
 pub mod Check
 pub mod Certificate
 pub mod Pending

@@ -1,0 +1,185 @@
+-- Either a permitted plan settles the formula at every stop, or two starts that differ on it run alike: walk to a stop where it is
+-- open. A look on the way was at a digit 0, where nobody had set the setting, so it read the start's value, which both starts share.
+use mathlib.Core.Path.{_≡_, refl, sym, ap, _∙_}
+use mathlib.Core.Logic.{_⊎_, inl, inr}
+use mathlib.Core.List.{List, [], _∷_}
+use mathlib.Core.Bool.{Bool, true, false, not, _||_}
+use Prim.Native.Nat.{ℕ, _^_, _<_}
+use native.Mathlib.Decide.{ℕ-discrete}
+use native.Mathlib.Omega.{arith}
+use lib.Dec.{T}
+use Rattle.ground.specs.Digits.{digit, bit}
+use Rattle.ground.specs.Table.{truth}
+use Rattle.ground.proofs.Bools.{T→true, T→false, decide, or-left, or-right, both}
+use Rattle.ground.proofs.Digits.{digit-lt}
+use Rattle.ground.proofs.Search.{all-at, all-intro, all-or}
+use Rattle.knowledge.specs.Seven.{startOf, afterSet, afterLook}
+use Rattle.knowledge.specs.Fits.{agrees, fits, implies, is, always, fitsStart, startSide, learnSettled}
+use Rattle.knowledge.specs.Acts.{setTo, lookAt}
+use Rattle.knowledge.specs.declared.act.Act.the-variants.{Set, Look}
+use Rattle.plan.specs.Plans.{System, Lawful, Plan, stop, set-then, look-then, Permitted, Works}
+use Rattle.plan.specs.Ranks.{Cannot}
+use Rattle.plan.specs.Runs.{change, did, saw, run}
+use Rattle.plan.specs.Secret.{Twins}
+use Rattle.plan.specs.Pending.{nought}
+use Rattle.plan.proofs.Unknowns.{seven, set-known, look-known}
+use Rattle.plan.proofs.Effects.{change-other, set-digit, set-digit-other, look-digit, look-digit-other, start-stays}
+
+-- what a look has shown at the start
+seen : (b x : Bool) → T (agrees (startOf (afterLook b)) x) → x ≡ b
+unfolding agrees startOf afterLook
+seen false false h = refl
+seen false true h = absurd h
+seen true false h = absurd h
+seen true true h = refl
+
+not-or : (a b : Bool) → T (not (a || b)) → T (not a) × T (not b)
+not-or false false h = (tt, tt)
+not-or false true h = absurd h
+not-or true b h = absurd h
+
+not-not : (a : Bool) → T (not (not a)) → a ≡ true
+not-not true h = refl
+not-not false h = absurd h
+
+not-nought : (d : ℕ) → nought d ≡ 0 → d ≡ 0 → ⊥
+not-nought d h z = omega (arith, h, ap nought z)
+
+implies-no : (a b : Bool) → T (not (implies a b)) → T a × T (not b)
+implies-no true false h = (tt, tt)
+implies-no true true h = absurd h
+implies-no false b h = absurd h
+
+module _ (n : ℕ) where
+  pub fits-set : (k i v : ℕ) (b : Bool) → T (fitsStart n (digit 7 (setTo k i b)) v) → T (fitsStart n (digit 7 k) v)
+  unfolding fitsStart fits
+  fits-set k i v b t =
+      all-intro n _ (λ j l. rw (start-stays k i j b) at
+      (all-at n (λ j. agrees (startSide (digit 7 (setTo k i b)) j) (bit v j)) t j l))
+
+  pub fits-look : (k i v : ℕ) (b : Bool) → digit 7 k i ≡ 0 → T (fitsStart n (digit 7 (lookAt k i b)) v) → T (fitsStart n (digit 7 k) v)
+  unfolding fitsStart fits agrees startOf
+  fits-look k i v b z t = all-intro n _ (λ j l. elim (ℕ-discrete j i) [
+    | yes e ↦ rw (e, z) tt
+    | no ne ↦ rw (look-digit-other k i j b ne) at (all-at n (λ j. agrees (startSide (digit 7 (lookAt k i b)) j) (bit v j)) t j l)
+  ])
+
+  -- a start that fits what a look has shown has that value
+  pub fits-seen : (k i v : ℕ) (b : Bool) → i < n → T (fitsStart n (digit 7 (lookAt k i b)) v) → bit v i ≡ b
+  unfolding fitsStart fits
+  fits-seen k i v b l t =
+      seen b (bit v i) (rw (look-digit k i b) at (all-at n (λ j. agrees (startSide (digit 7 (lookAt k i b)) j) (bit v j)) t i l))
+
+module _ (n : ℕ) (formula : List ℕ) where
+  -- where the formula has not the value b everywhere, a fitting start gives it another
+  always-no : (b : Bool) (side : ℕ → ℕ) → T (not (always b n side formula)) → (v : ℕ) × (v < 2 ^ n) × T (fits n side v) × T (not (is b (truth formula v)))
+  unfolding always
+  always-no b side h = elim (all-or (2 ^ n) (λ v. implies (fits n side v) (is b (truth formula v)))) [
+    | inl t ↦ both (always b n side formula) t h
+    | inr r ↦ (let c = implies-no (fits n side (r .0)) (is b (truth formula (r .0))) (r .2) in (r .0, r .1, c .0, c .1))
+  ]
+
+  -- the real settings are those of the start where nothing is known
+  abbrev Real : ℕ → ℕ → ℕ → Type 0
+  Real k v a = (i : ℕ) → i < n → digit 7 k i ≡ 0 → bit a i ≡ bit v i
+
+  -- two starts that differ on the formula, and run alike from all real settings that they can have come to
+  record Open (k : ℕ) (p : Plan) : Type 0 where
+    one : ℕ
+    other : ℕ
+    one-lt : one < 2 ^ n
+    other-lt : other < 2 ^ n
+    one-fits : T (fitsStart n (digit 7 k) one)
+    other-fits : T (fitsStart n (digit 7 k) other)
+    one-false : truth formula one ≡ false
+    other-true : truth formula other ≡ true
+    alike : (a b : ℕ) → Real k one a → Real k other b → run p a ≡ run p b
+
+  open-stop : (k : ℕ) → T (not (learnSettled n (digit 7 k) formula)) → Open k stop
+  unfolding learnSettled fitsStart
+  open-stop k h =
+      let side = startSide (digit 7 k) in
+      let c = not-or (always true n side formula) (always false n side formula) h in
+      let v = always-no true side (c .0) in
+      let w = always-no false side (c .1) in
+      record {
+        one = v .0; other = w .0; one-lt = v .1; other-lt = w .1; one-fits = v .2; other-fits = w .2;
+        one-false = T→false (truth formula (v .0)) (v .3); other-true = not-not (truth formula (w .0)) (w .3);
+        alike = λ a b x y. refl
+      }
+
+  -- an unknown setting after a set is another one, which was unknown before, and the set has not touched it
+  real-set : (k i v a : ℕ) (b : Bool) → Real k v a → Real (setTo k i b) v (change a i b)
+  real-set k i v a b real j l z = elim (ℕ-discrete j i) [
+    | yes e ↦ absurd (not-nought (afterSet (digit 7 k i) b) (set-known (digit 7 k i) b (digit-lt seven k i)) (sym (set-digit k i b) ∙ rw e at z))
+    | no ne ↦ change-other a i j b ne ∙ real j l (sym (set-digit-other k i j b ne) ∙ z)
+  ]
+
+  real-look : (k i v a : ℕ) (b : Bool) → Real k v a → Real (lookAt k i b) v a
+  real-look k i v a b real j l z = elim (ℕ-discrete j i) [
+    | yes e ↦ absurd (not-nought (afterLook b) (look-known b) (sym (look-digit k i b) ∙ rw e at z))
+    | no ne ↦ real j l (sym (look-digit-other k i j b ne) ∙ z)
+  ]
+
+  open-set : (k i q : ℕ) (b : Bool) (p : Plan) → Open (setTo k i b) p → Open k (set-then i q b p)
+  open-set k i q b p o = record {
+    one = o .one; other = o .other; one-lt = o .one-lt; other-lt = o .other-lt;
+    one-fits = fits-set n k i (o .one) b (o .one-fits); other-fits = fits-set n k i (o .other) b (o .other-fits);
+    one-false = o .one-false; other-true = o .other-true;
+    alike = λ a c x y. ap (λ l. did (Set i q b) ∷ l)
+      (o .alike (change a i b) (change c i b) (real-set k i (o .one) a b x) (real-set k i (o .other) c b y))
+  }
+
+  -- the plan that a look goes on with
+  abbrev taken : Bool → Plan → Plan → Plan
+  taken false p r = p
+  taken true p r = r
+
+  run-look : (i q a : ℕ) (b : Bool) (p r : Plan) → bit a i ≡ b → run (look-then i q p r) a ≡ saw (Look i q) b ∷ run (taken b p r) a
+  run-look i q a false p r e = rw e
+  run-look i q a true p r e = rw e
+
+  open-look : (k i q : ℕ) (b : Bool) (p r : Plan) → i < n → digit 7 k i ≡ 0 → Open (lookAt k i b) (taken b p r) → Open k (look-then i q p r)
+  open-look k i q b p r l z o = record {
+    one = o .one; other = o .other; one-lt = o .one-lt; other-lt = o .other-lt;
+    one-fits = fits-look n k i (o .one) b z (o .one-fits); other-fits = fits-look n k i (o .other) b z (o .other-fits);
+    one-false = o .one-false; other-true = o .other-true;
+    alike = λ a c x y.
+      run-look i q a b p r (x i l z ∙ fits-seen n k i (o .one) b l (o .one-fits))
+      ∙ ap (λ t. saw (Look i q) b ∷ t) (o .alike a c (real-look k i (o .one) a b x) (real-look k i (o .other) c b y))
+      ∙ sym (run-look i q c b p r (y i l z ∙ fits-seen n k i (o .other) b l (o .other-fits)))
+  }
+
+  -- a system in which nothing but the formula has to be settled
+  module _ {S : System} (law : Lawful n S) (enough : (k : ℕ) → T (learnSettled n (digit 7 k) formula) → T (S .goal k)) where
+    works-or-open : (p : Plan) (k : ℕ) → Permitted S k p → Works S k p ⊎ Open k p
+    works-or-open stop k m = elim (decide (learnSettled n (digit 7 k) formula)) [
+      | inl t ↦ inl (enough k t)
+      | inr t ↦ inr (open-stop k t)
+    ]
+    works-or-open (set-then i q b p) k m = elim (works-or-open p (setTo k i b) (m .1)) [
+      | inl w ↦ inl (m .0, w)
+      | inr o ↦ inr (open-set k i q b p o)
+    ]
+    works-or-open (look-then i q p r) k m = elim (works-or-open p (lookAt k i false) (m .1)) [
+      | inr o ↦ inr (open-look k i q false p r (law .setting-of k (Look i q) (m .0)) (law .looks-at k i q (m .0)) o)
+      | inl w ↦ elim (works-or-open r (lookAt k i true) (m .2)) [
+        | inr o ↦ inr (open-look k i q true p r (law .setting-of k (Look i q) (m .0)) (law .looks-at k i q (m .0)) o)
+        | inl x ↦ inl (m .0, w, x)
+      ]
+    ]
+
+    twins-of : (p : Plan) (k : ℕ) → Open k p → Twins n formula k p
+    twins-of p k o = record {
+      one = o .one; other = o .other; one-lt = o .one-lt; other-lt = o .other-lt; one-fits = o .one-fits; other-fits = o .other-fits;
+      differ = λ e. let z : false ≡ true = sym (o .one-false) ∙ e ∙ o .other-true in let c : _≡_ {A = ℕ} 0 1 = cc in omega arith;
+      same-run = o .alike (o .one) (o .other) (λ i l z. refl) (λ i l z. refl)
+    }
+
+    -- a permitted plan works, or leaves two starts that it cannot tell apart
+    pub works-or-twins : (p : Plan) (k : ℕ) → Permitted S k p → Works S k p ⊎ Twins n formula k p
+    works-or-twins p k m = elim (works-or-open p k m) [ inl w ↦ inl w | inr o ↦ inr (twins-of p k o) ]
+
+    -- demand 3: where no plan works, every permitted plan leaves such starts
+    pub secret : (k : ℕ) → Cannot S k → (p : Plan) → Permitted S k p → Twins n formula k p
+    secret k none p m = elim (works-or-twins p k m) [ inl w ↦ absurd (none p w) | inr t ↦ t ]
