@@ -4,16 +4,12 @@ use mathlib.Core.Bool.{Bool, true, false}
 use Prim.Native.Nat.{ℕ, _+_, _-_, _*_, _%_, _^_, _≤_, _<_, min}
 use lib.Dec.{leb}
 use lib.ListN.{length, getD}
+pub use Rattle.ground.specs.Tells.{Tells}
 use Rattle.book.specs.declared.writing.WriteAnswer.{WriteAnswer}
 use Rattle.book.specs.declared.writing.WriteAnswer.the-variants.{Written, Refused}
 use Rattle.book.specs.Written.{Writable}
 use Rattle.book.specs.Order.{First}
 use Rattle.book.specs.Refusals.{number, place, writeRows}
-
--- the answer to the question whether A holds
-abbrev pub Tells : Bool → Type 0 → Type 0
-Tells true A = A
-Tells false A = A → ⊥
 
 -- r is the lowest number below n at which P fails, and n where it fails at none
 pub record Lowest (n : ℕ) (P : ℕ → Type 0) (r : ℕ) : Type 0 where

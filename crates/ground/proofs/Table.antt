@@ -2,13 +2,14 @@
 use mathlib.Core.Path.{_≡_, refl, sym, ap, _∙_}
 use mathlib.Core.Logic.{_⊎_, inl, inr}
 use mathlib.Core.List.{List}
-use mathlib.Core.Bool.{Bool, false}
+use mathlib.Core.Bool.{Bool, true, false}
 use Prim.Native.Nat.{ℕ, _+_, _*_, _/_, _%_, _^_, _≤_, _<_}
 use native.Mathlib.Omega.{arith}
 use lib.Arith.{digits-div, digits-mod}
 use lib.Dec.{eqb, lit<}
-use lib.ListN.{length, getD, drop, List·getD-eq-default}
-use lib.Seq.{getD-drop, ext-getD}
+use lib.ListN.{length, getD, take, drop, List·getD-eq-default}
+use lib.Pow.{pow-mono}
+use lib.Seq.{getD-drop, getD-take, ext-getD}
 use Rattle.ground.specs.Digits.{bit, digit}
 use Rattle.ground.specs.Table.{truth, Within, TableOf}
 use Rattle.ground.proofs.Bits.{same-bits, bit-of-zero}
@@ -28,6 +29,32 @@ truth-out s from v h = rw (getD-drop, List·getD-eq-default s 0 h) (sym (bit-of-
 pub truth-bit : (t : List ℕ) (j k : ℕ) → k < 8 → truth t (j * 8 + k) ≡ bit (getD t j 0) k
 unfolding truth
 truth-bit t j k h = rw (digits-div j h, digits-mod j h)
+
+-- the first sixteen bytes say all that a table says
+pub truth-take : (t : List ℕ) (v : ℕ) → v < 128 → truth (take 16 t) v ≡ truth t v
+unfolding truth
+truth-take t v h = rw (getD-take 16 t (v / 8) 0 (omega arith))
+
+-- no bit past 2^n below v, and one more
+abbrev pub WithinTo : ℕ → List ℕ → ℕ → Type 0
+WithinTo n t v = (u : ℕ) → 2 ^ n ≤ u → u < v → truth t u ≡ false
+
+pub within-more : (n : ℕ) (t : List ℕ) (v : ℕ) → WithinTo n t v → truth t v ≡ false → WithinTo n t (v + 1)
+within-more n t v f e u l h = elim (lt-or-ge u v) [ inl m ↦ f u l m | inr m ↦ (let same : u ≡ v = omega arith in rw same e) ]
+
+-- a bit past 2^n
+pub not-within : (n : ℕ) (t : List ℕ) (v : ℕ) → 2 ^ n ≤ v → v < 128 → truth t v ≡ true → Within n t → ⊥
+unfolding Within
+not-within n t v l h e w = let z : true ≡ false = sym e ∙ w v l h in let y : _≡_ {A = ℕ} 0 1 = cc in omega arith
+
+pub within-all : (n : ℕ) (t : List ℕ) → WithinTo n t 128 → Within n t
+unfolding Within
+within-all n t f v l h = f v l h
+
+-- seven settings leave no bit past
+pub within-seven : (n : ℕ) (t : List ℕ) → 7 ≤ n → Within n t
+unfolding Within
+within-seven n t l v h k = absurd (omega (arith, pow-mono {i = 7} {j = n} l))
 
 -- two tables of one truth are one table
 pub table-unique : {n : ℕ} {f g : ℕ → Bool} {t u : List ℕ} → ((v : ℕ) → v < 2 ^ n → f v ≡ g v) → TableOf n f t → TableOf n g u → t ≡ u

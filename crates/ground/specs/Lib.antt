@@ -3,3 +3,4 @@ pub mod Digits
 pub mod Search
 pub mod Table
 pub mod Text
+pub mod Tells

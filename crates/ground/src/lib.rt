@@ -3,7 +3,8 @@
 // its proofs hold the laws about them that the other crates cite.
 ghost use mathlib.Core.Path.{_≡_};
 ghost use lib.ListN.{drop};
-ghost use Rattle.ground.specs.Table.{truth};
+ghost use Rattle.ground.specs.Table.{truth, Within};
+ghost use Rattle.ground.specs.Tells.{Tells};
 
 // A valuation of the settings as they were at the start: bit i is setting i.
 pub struct Start(pub u8);
@@ -31,6 +32,23 @@ fn truth_at(bytes: &[u8], from: usize, v: u8) -> bool
     }
     let byte = bytes[from + step];
     (byte >> (v % 8)) % 2 == 1
+}
+
+// Whether the table that begins at byte `from` has no bit at or above 2^n.
+pub fn within(bytes: &[u8], from: usize, n: u8) -> bool
+    ensures { λ r. ⌜ Tells r (Within n (drop from (now (bytes .entry)))) ⌝ }
+{
+    if 7 <= n {
+        return true;
+    }
+    let mut v: u8 = 1 << n;
+    while v < 128 {
+        if truth_at(bytes, from, v) {
+            return false;
+        }
+        v += 1;
+    }
+    true
 }
 
 impl Start {

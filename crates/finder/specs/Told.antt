@@ -1,0 +1,2 @@
+-- Inside.
+use Prim.Native.Nat.{ℕ}

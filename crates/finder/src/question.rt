@@ -1,0 +1,146 @@
+// The question, and which of refusals 6 to 12 it meets.
+use book::ReadAnswer;
+ghost use mathlib.Core.Path.{_≡_};
+ghost use Prim.Native.Nat.{_≤_};
+ghost use Rattle.ground.specs.Tells.{Tells};
+ghost use Rattle.finder.specs.Rows.{number, place, TeamFits, KnownFits, LearnWithin, GoalFits};
+ghost use Rattle.finder.specs.Finds.{Asks};
+
+// Who asks and what they know: bit q of `team` for the post with index q, bit i of `known` for
+// setting i, and bit i of `values` where it is known to be true.
+pub struct Question {
+    pub team: u8,
+    pub known: u8,
+    pub values: u8,
+}
+
+pub enum Refusal {
+    // The book is no book: 6 to 9.
+    Book(book::Refusal),
+    // The team is empty or has a post that the book has not.
+    Team,
+    // A setting past the book's is known, or one that is not known has a value.
+    Known,
+    // The make table or the learn tables have a wrong length, or a bit past 2^n.
+    Goal,
+    // The lent rank table is shorter than 7^n bytes.
+    Ranks,
+    // The plan is longer than the lent plan room.
+    PlanRoom,
+}
+
+impl Refusal {
+    // Paper 01's number of this refusal.
+    pub fn number(self) -> u64
+        ensures { λ r. ⌜ r ≡ number self ⌝ }
+    {
+        match self {
+            Refusal::Book(why) => why.number(),
+            Refusal::Team => 10,
+            Refusal::Known => 11,
+            Refusal::Goal => 12,
+            Refusal::Ranks => 13,
+            Refusal::PlanRoom => 14,
+        }
+    }
+
+    // Its place: 0 unless the refusal names one.
+    pub fn place(self) -> usize
+        ensures { λ r. ⌜ r ≡ place self ⌝ }
+    {
+        match self {
+            Refusal::Book(why) => why.place(),
+            Refusal::Team => 0,
+            Refusal::Known => 0,
+            Refusal::Goal => 0,
+            Refusal::Ranks => 0,
+            Refusal::PlanRoom => 0,
+        }
+    }
+}
+
+// Whether a question is valid.
+pub enum Asked {
+    // It is, over a book with this many settings and posts.
+    Valid { settings: u8, posts: u8 },
+    // It is not.
+    Not(Refusal),
+}
+
+// Whether the team has a post, and none past the m posts.
+fn team_fits(m: u8, team: u8) -> bool
+    requires { ⌜ m ≤ 8 ⌝ }
+    ensures { λ r. ⌜ Tells r (TeamFits m team) ⌝ }
+{
+    if team == 0 {
+        return false;
+    }
+    (team as u16) >> m == 0
+}
+
+// Whether only settings of the n are known, and only known ones have a value.
+fn known_fits(n: u8, known: u8, values: u8) -> bool
+    requires { ⌜ n ≤ 7 ⌝ }
+    ensures { λ r. ⌜ Tells r (KnownFits n known values) ⌝ }
+{
+    if known >> n != 0 {
+        return false;
+    }
+    known | values == known
+}
+
+// Whether the make table and the learn tables are whole and have no bit past 2^n.
+fn goal_fits(n: u8, make: &[u8], learn: &[u8]) -> bool
+    requires { ⌜ n ≤ 7 ⌝ }
+    ensures { λ r. ⌜ Tells r (GoalFits n (now (make .entry)) (now (learn .entry))) ⌝ }
+{
+    if make.len() != 16 {
+        return false;
+    }
+    if learn.len() % 16 != 0 {
+        return false;
+    }
+    if 4 < learn.len() / 16 {
+        return false;
+    }
+    if !ground::within(make, 0, n) {
+        return false;
+    }
+    learn_within(n, learn)
+}
+
+// Whether no learn table has a bit past 2^n.
+fn learn_within(n: u8, learn: &[u8]) -> bool
+    ensures { λ r. ⌜ Tells r (LearnWithin n (now (learn .entry))) ⌝ }
+{
+    let count = learn.len() / 16;
+    let mut j = 0;
+    while j < count {
+        if !ground::within(learn, 16 * j, n) {
+            return false;
+        }
+        j += 1;
+    }
+    true
+}
+
+// The book's numbers of settings and posts, or the first of refusals 6 to 12.
+pub fn ask(book: &[u8], question: Question, make: &[u8], learn: &[u8]) -> Asked
+    ensures { λ r. ⌜ Asks (now (book .entry)) question (now (make .entry)) (now (learn .entry)) r ⌝ }
+{
+    match book::sound(book) {
+        ReadAnswer::Refused(why) => Asked::Not(Refusal::Book(why)),
+        ReadAnswer::Book { settings, posts } => {
+            if !team_fits(posts, question.team) {
+                return Asked::Not(Refusal::Team);
+            }
+            if !known_fits(settings, question.known, question.values) {
+                return Asked::Not(Refusal::Known);
+            }
+            if !goal_fits(settings, make, learn) {
+                return Asked::Not(Refusal::Goal);
+            }
+            Asked::Valid { settings, posts }
+        }
+    }
+}
