@@ -53,7 +53,7 @@ fn of_kind(kind: u8, setting: u8, post: u8) -> Act
     Act::Look { setting, post }
 }
 
-// The byte of an act of this kind, 0 past the seven settings or the eight posts.
+// The byte of an act of this kind, one of the three; 0 past the seven settings or the eight posts.
 fn byte_of(kind: u8, setting: u8, post: u8) -> u8
     requires { ⌜ kind ≤ 2 ⌝ }
     ensures { λ r. ⌜ r ≡ orNone (ltb setting 7 && ltb post 8) (1 + (kind * 7 + setting) * 8 + post) ⌝ }
