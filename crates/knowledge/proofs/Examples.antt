@@ -28,7 +28,7 @@ b-set = refl
 -- "setting first and learning afterwards (P10)": after a set with nothing known, whether a was true at the start stays open; after
 -- a look, and a set after it, it is settled
 pub set-first : learnSettled 1 (digit 7 (setTo 0 0 false)) (2 ∷ []) ≡ false
-unfolding learnSettled always fits agrees all truth bit digit put startOf setTo afterSet
+unfolding learnSettled always fits agrees all truth bit digit put startOf nowOf setTo afterSet
 set-first = refl
 
 pub look-first : learnSettled 1 (digit 7 (setTo (lookAt 0 0 true) 0 false)) (2 ∷ []) ≡ true

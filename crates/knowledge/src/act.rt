@@ -25,6 +25,13 @@ pub enum Named {
     Nothing,
 }
 
+// How many settings and posts a byte can name, and how many bytes the acts of one kind take.
+const SETTINGS: u8 = 7;
+
+const POSTS: u8 = 8;
+
+const KIND: u8 = 56;
+
 // An act by its kind: 0 set false, 1 set true, 2 look.
 fn of_kind(kind: u8, setting: u8, post: u8) -> Act
     ensures { λ r. ⌜ r ≡ ofKind kind setting post ⌝ }
@@ -46,18 +53,18 @@ fn of_kind(kind: u8, setting: u8, post: u8) -> Act
     Act::Look { setting, post }
 }
 
-// The byte of an act of this kind, 0 past the seven settings or the eight posts.
+// The byte of an act of this kind, one of the three; 0 past the seven settings or the eight posts.
 fn byte_of(kind: u8, setting: u8, post: u8) -> u8
     requires { ⌜ kind ≤ 2 ⌝ }
     ensures { λ r. ⌜ r ≡ orNone (ltb setting 7 && ltb post 8) (1 + (kind * 7 + setting) * 8 + post) ⌝ }
 {
-    if 7 <= setting {
+    if SETTINGS <= setting {
         return 0;
     }
-    if 8 <= post {
+    if POSTS <= post {
         return 0;
     }
-    1 + (kind * 7 + setting) * 8 + post
+    1 + (kind * SETTINGS + setting) * POSTS + post
 }
 
 // Whether a book of n settings has the setting and the team has the post.
@@ -71,6 +78,9 @@ fn offers(n: u8, team: u8, setting: u8, post: u8) -> bool
 }
 
 impl Act {
+    // The largest byte of an act: three kinds of 56.
+    pub const LAST: u8 = 168;
+
     // The act that a byte names.
     pub fn of_byte(byte: u8) -> Named
         ensures { λ r. ⌜ r ≡ actOf byte ⌝ }
@@ -78,11 +88,11 @@ impl Act {
         if byte == 0 {
             return Named::Nothing;
         }
-        if 168 < byte {
+        if Act::LAST < byte {
             return Named::Nothing;
         }
         let place = byte - 1;
-        Named::One(of_kind(place / 56, place / 8 % 7, place % 8))
+        Named::One(of_kind(place / KIND, place / POSTS % SETTINGS, place % POSTS))
     }
 
     // The act's byte; 0, which names no act, for a setting past the seven or a post past the eight.

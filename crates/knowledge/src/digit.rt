@@ -3,6 +3,9 @@
 ghost use mathlib.Core.Path.{_≡_};
 ghost use Rattle.knowledge.specs.Seven.{startOf, nowOf, afterSet, afterLook, firstDigit};
 
+// How many knowledge digits there are.
+const DIGITS: u8 = 7;
+
 // The digit after a set: a row for each digit, a column for each value, false and true.
 const AFTER_SET: [[u8; 2]; 7] = [[1, 2], [1, 2], [1, 2], [3, 4], [3, 4], [5, 6], [5, 6]];
 
@@ -13,7 +16,7 @@ pub fn now_side(digit: u8) -> u8
     if digit == 0 {
         return 0;
     }
-    if 7 <= digit {
+    if DIGITS <= digit {
         return 0;
     }
     if digit % 2 == 1 {
@@ -32,7 +35,7 @@ pub fn start_side(digit: u8) -> u8
     if digit < 5 {
         return 1;
     }
-    if digit < 7 {
+    if digit < DIGITS {
         return 2;
     }
     0
@@ -42,7 +45,7 @@ pub fn start_side(digit: u8) -> u8
 pub fn after_set(digit: u8, value: bool) -> u8
     ensures { λ r. ⌜ r ≡ afterSet digit value ⌝ }
 {
-    if 7 <= digit {
+    if DIGITS <= digit {
         return 0;
     }
     let at = digit as usize;

@@ -12,7 +12,7 @@ ghost use Rattle.ground.specs.Table.{truth};
 ghost use Rattle.knowledge.specs.Number.{digitIn};
 ghost use Rattle.knowledge.specs.Fits.{implies, is, always, fitsNow, fitsStart, startSide, known, learnSettled};
 
-// How many valuations n settings have.
+// How many valuations n settings have, up to seven.
 fn valuations(n: u8) -> u8
     requires { ⌜ n ≤ 7 ⌝ }
     ensures { λ r. ⌜ r ≡ 2 ^ n ⌝ }
@@ -43,7 +43,7 @@ fn has_if_started(state: Knowledge, n: u8, v: Start, bytes: &[u8], from: usize, 
     !v.finds(bytes, from)
 }
 
-// Whether the table is true at every present valuation that fits.
+// Whether the table is true at every present valuation of up to seven settings that fits.
 fn true_now(state: Knowledge, n: u8, bytes: &[u8], from: usize) -> bool
     requires { ⌜ n ≤ 7 ⌝ }
     ensures { λ r. ⌜ r ≡ known n (digitIn (state .digits)) (drop from (now (bytes .entry))) ⌝ }
@@ -59,7 +59,7 @@ fn true_now(state: Knowledge, n: u8, bytes: &[u8], from: usize) -> bool
     true
 }
 
-// Whether the table has the value at every start valuation that fits.
+// Whether the table has the value at every start valuation of up to seven settings that fits.
 fn has_at_start(state: Knowledge, n: u8, bytes: &[u8], from: usize, value: bool) -> bool
     requires { ⌜ n ≤ 7 ⌝ }
     ensures { λ r. ⌜ r ≡ always value n (startSide (digitIn (state .digits))) (drop from (now (bytes .entry))) ⌝ }

@@ -12,7 +12,7 @@ pub struct Knowledge {
     digits: [u8; Knowledge::MOST],
 }
 
-// A digit's part of the knowledge number, at most that of the seventh setting.
+// A digit's part of the knowledge number; the power is at most 7^6, that of the seventh setting.
 fn weighed(digit: u8, power: u32) -> u32
     requires { ⌜ power ≤ 117649 ⌝ }
     ensures { λ r. ⌜ (r ≡ digit * power) × (r ≤ 255 * power) ⌝ }
@@ -29,7 +29,7 @@ fn first_at(known: u8, values: u8, i: u8) -> u8
 
 impl Knowledge {
     // The most settings that a state has digits for.
-    pub const MOST: usize = 7;
+    pub const MOST: usize = book::SETTINGS_MOST;
 
     // The state with this knowledge number; of a number with more than seven digits, the lowest seven.
     pub fn from_number(number: u32) -> Self
