@@ -1,20 +1,18 @@
+-- `team_fits` meets its contract: a shift leaves nothing of the team exactly where all its posts are below m.
+use native.Mathlib.Omega.{arith}
+use Rattle.finder.proofs.QuestionLaws.{team-tells}
 use borrow.Author.Needs.{needs}
 use Rattle.finder.proofs.question.team_fits.Statement.{statement}
 use Rattle.finder.proofs.question.team_fits.Tie as tie
-use Rattle.finder.proofs.question.team_fits.Reads as reads
-use Rattle.finder.proofs.question.team_fits.Lts as lts
 
--- src/question.rt:76:9
 returns : tie.Need-returns
-returns c = search needs
+returns c = λ f. f .someone (c .if1 .taken)
 
--- src/question.rt:78:5
 shr-result : tie.Need-shr-result
-shr-result c = search needs
+shr-result c = omega (arith, c .before .pre)
 
--- src/question.rt:71:1
 returns-2 : tie.Need-returns-2
-returns-2 c = ?
+returns-2 c = team-tells (c .before .args .m) (c .before .args .team) (omega (arith, c .before .fits .team)) (c .if1 .left)
 
 pub team-fits-spec : {M : Type 1} → statement M
 team-fits-spec = tie.close (tie.spec returns shr-result returns-2)

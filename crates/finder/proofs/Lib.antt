@@ -1,0 +1,3 @@
+-- The laws and theorems of the finder.
+pub mod QuestionLaws
+pub mod RowLaws
