@@ -2,7 +2,6 @@
 use native.Mathlib.Omega.{arith}
 use denote.Ref.{now}
 use Rattle.book.specs.Sound.{Settings, Posts, Tables, tablesOf}
-use Rattle.book.specs.Refusals.{number, place}
 use Rattle.book.specs.Inner.{Lowest}
 use Rattle.book.proofs.Answers.{lowest-all}
 use Rattle.book.proofs.RefusalLaws.{refuse-settings, refuse-posts, refuse-size, refuse-tables, refuse-room, lowest-tables}
