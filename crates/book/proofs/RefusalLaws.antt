@@ -10,7 +10,7 @@ use lib.ListN.{length, getD, take, drop}
 use lib.Seq.{getD-take}
 use Rattle.ground.specs.Search.{Least}
 use Rattle.book.specs.Block.{blocks, block, RightCheck}
-use Rattle.book.specs.Sound.{Settings, Posts, Tables, SettingBlock, Sound, tablesOf}
+use Rattle.book.specs.Sound.{SettingsFit, PostsFit, Tables, SettingBlock, Sound, tablesOf}
 use Rattle.book.specs.Order.{First}
 use Rattle.book.specs.Refusals.{Whole, settingsOf, postsOf, RightHead, bookRows, writeRows}
 use Rattle.book.specs.Inner.{Lowest, Clean}
@@ -130,16 +130,16 @@ module _ (book : List ℕ) where
 -- ---- the writer's
 
 module _ (n m : ℕ) (rights room : List ℕ) where
-  pub refuse-settings : (Settings n → ⊥) → First (writeRows n m rights room) 5 0
+  pub refuse-settings : (SettingsFit n → ⊥) → First (writeRows n m rights room) 5 0
   unfolding writeRows
   refuse-settings never = inl (refl, least-only never)
 
-  module _ (settings : Settings n) where
-    pub refuse-posts : (Posts m → ⊥) → First (writeRows n m rights room) 8 0
+  module _ (settings : SettingsFit n) where
+    pub refuse-posts : (PostsFit m → ⊥) → First (writeRows n m rights room) 8 0
     unfolding writeRows
     refuse-posts never = inr (none-only (λ f. f settings), inl (refl, least-only never))
 
-    module _ (posts : Posts m) where
+    module _ (posts : PostsFit m) where
       pub refuse-size : (length rights ≡ 256 * n → ⊥) → First (writeRows n m rights room) 6 0
       unfolding writeRows
       refuse-size never = inr (none-only (λ f. f settings), inr (none-only (λ f. f posts), inl (refl, least-only never)))

@@ -20,7 +20,7 @@ use Rattle.book.specs.declared.writing.WriteAnswer.{WriteAnswer}
 use Rattle.book.specs.declared.writing.WriteAnswer.the-variants.{Written, Refused as NotWritten}
 use Rattle.book.specs.Block.{check, sumsAfter, added, blocks}
 use Rattle.book.specs.Rule.{rulePlace}
-use Rattle.book.specs.Sound.{Settings as SettingsFit, Sound, rightsOf}
+use Rattle.book.specs.Sound.{SettingsFit, Sound, rightsOf}
 use Rattle.book.specs.Written.{bookOf, Writable}
 use Rattle.book.specs.Order.{only, First}
 use Rattle.book.specs.Refusals.{number, place, Whole, settingsOf, bookRows, readRows, writeRows}

@@ -1,7 +1,7 @@
 -- `book::writing::judge` meets its contract: each way out is the first refusal in the order, or none, by what was tested before it.
 use native.Mathlib.Omega.{arith}
 use denote.Ref.{now}
-use Rattle.book.specs.Sound.{Settings, Posts, Tables, tablesOf}
+use Rattle.book.specs.Sound.{SettingsFit, PostsFit, Tables, tablesOf}
 use Rattle.book.specs.Inner.{Lowest}
 use Rattle.book.proofs.Answers.{lowest-all}
 use Rattle.book.proofs.RefusalLaws.{refuse-settings, refuse-posts, refuse-size, refuse-tables, refuse-room, lowest-tables}
@@ -10,11 +10,11 @@ use Rattle.book.proofs.writing.judge.Statement.{statement}
 use Rattle.book.proofs.writing.judge.Tie as tie
 
 -- past the first two tests: 1 to 7 settings
-settings : (c : tie.Else2) → Settings (c .before .before .before .before .args .n)
+settings : (c : tie.Else2) → SettingsFit (c .before .before .before .before .args .n)
 settings c = record { least = c .before .if1 .left; most = c .if2 .left }
 
 -- past the next two: 1 to 8 posts
-posts : (c : tie.Else4) → Posts (c .before .before .before .before .before .before .args .m)
+posts : (c : tie.Else4) → PostsFit (c .before .before .before .before .before .before .args .m)
 posts c = record { least = c .before .if3 .left; most = c .if4 .left }
 
 -- what the search for a stray bit has found
