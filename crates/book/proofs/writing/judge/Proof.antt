@@ -60,7 +60,7 @@ mul-if7 c = search needs
 returns-7 : tie.Need-returns-7
 returns-7 c =
     refuse-room (c .before .before .before .before .before .before .before .before .before .before .args .n) (c .before .before .before .before .before .before .before .before .before .before .args .m) (now (c .before .before .before .before .before .before .before .before .before .before .args .rights)) (now (c .before .before .before .before .before .before .before .before .before .before .args .room)) (settings (c .before .before .before .before .before .before)) (posts (c .before .before .before .before)) (c .before .before .before .if5 .left)
-    (lowest-all (strays (c .before .before)) (c .before .if6 .left)) (c .if7 .taken)
+    (lowest-all (strays (c .before .before)) (c .before .if6 .left)) (omega (arith, c .if7))
 
 returns-8 : tie.Need-returns-8
 returns-8 c = (
@@ -70,7 +70,7 @@ returns-8 c = (
     size = c .before .before .before .if5 .left;
     tables = lowest-all (strays (c .before .before)) (c .before .if6 .left);
   },
-  c .if7 .left,
+  omega (arith, c .if7),
 )
 
 pub judge-spec : {M : Type 1} → statement M
