@@ -128,9 +128,15 @@ grow : (S : System) (k c : ℕ) (new ks cs : List ℕ) → Good S k c new → Pl
 grow S k c new ks cs (good-stop g) w = (stop, g, (cs, refl, w))
 grow S k c new ks cs (good-act c₁ (Set i q b) h e m) (p, w, (rest, f, more)) =
     (set-then i q b p, (m, w), (rest, ap₂ _∷_ (sym (byte-of-act c (Set i q b) e .0)) f, more))
-grow S k c new ks cs (good-act c₁ (Look i q) h e m) (p, w, (rest, f, (r, x, (last, g, more)))) =
-    (look-then i q p r, (m, w, x), (last,
-    ap₂ _∷_ (sym (byte-of-act c (Look i q) e .0)) (f ∙ ap (λ (l : List ℕ). encode p ++ l) g ∙ sym (append-assoc (encode p) (encode r) last)), more))
+grow S k c new ks cs (good-act c₁ (Look i q) h e m) (p, w, (rest, f, (r, x, (last, g, more)))) = (
+  look-then i q p r,
+  (m, w, x),
+  (
+    last,
+    ap₂ _∷_ (sym (byte-of-act c (Look i q) e .0)) (f ∙ ap (λ (l : List ℕ). encode p ++ l) g ∙ sym (append-assoc (encode p) (encode r) last)),
+    more,
+  ),
+)
 
 pub accepts-out : (S : System) (bytes ks : List ℕ) (at : ℕ) → judge S ks at bytes ≡ accepted → Plans S ks bytes
 accepts-out S [] [] at e = refl
@@ -146,6 +152,7 @@ accepts-out S (c ∷ cs) (k ∷ ks) at e =
 -- the check says yes exactly where the bytes are those of a plan that works
 pub check-exact : {n : ℕ} {S : System} (law : Lawful n S) (few : n ≤ 7) (k : ℕ) (bytes : List ℕ)
     → check S k bytes ≡ accepted ↔ ((p : Plan) × Works S k p × (bytes ≡ encode p))
-check-exact {n} {S} law few k bytes =
-    (λ e. let (p, w, (rest, f, z)) = accepts-out S bytes (k ∷ []) 0 e in (p, w, f ∙ ap (λ (l : List ℕ). encode p ++ l) z ∙ append-nil (encode p)),
-    λ (p, w, f). accepts-in law few (k ∷ []) 0 bytes (p, w, ([], f ∙ sym (append-nil (encode p)), refl)))
+check-exact {n} {S} law few k bytes = (
+  λ e. let (p, w, (rest, f, z)) = accepts-out S bytes (k ∷ []) 0 e in (p, w, f ∙ ap (λ (l : List ℕ). encode p ++ l) z ∙ append-nil (encode p)),
+  λ (p, w, f). accepts-in law few (k ∷ []) 0 bytes (p, w, ([], f ∙ sym (append-nil (encode p)), refl)),
+)

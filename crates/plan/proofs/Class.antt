@@ -121,6 +121,7 @@ set-stays n k y i b m l = go (digit 7 y i) refl
   where
     small : digit 7 y i < 7
     small = digit-lt seven y i
+
     go : (d : ℕ) → digit 7 y i ≡ d → Mates n k (setTo y i b) ⊎ (unknowns n (setTo y i b) < unknowns n k)
     go zero e = inr (omega (arith, mates-unknowns n k y m, unknowns-set n y i b l, ap nought e))
     go (suc d) e =

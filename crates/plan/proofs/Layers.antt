@@ -51,7 +51,7 @@ module _ {n : ℕ} {S : System} (law : Lawful n S) where
       elim (or-out (S .goal k) (some-act n (can S (below n S h) k)) t) [
         | inl g ↦ inl g
         | inr s ↦ (let r = some-out n (can S (below n S h) k) s in
-          inr (r .0, can-may S (below n S h) k (r .0) (r .1), λ x o. can-at S (below n S h) k (r .0) (r .1) o))
+            inr (r .0, can-may S (below n S h) k (r .0) (r .1), λ x o. can-at S (below n S h) k (r .0) (r .1) o))
       ]
 
   pub layer-zero : (k : ℕ) → T (below n S 0 k) → ⊥

@@ -1,6 +1,7 @@
 -- The laws of plans and ranks.
 pub mod Acts
 pub mod States
+pub mod Team
 pub mod Layers
 pub mod Pigeonhole
 pub mod Unknowns
@@ -8,6 +9,8 @@ pub mod Class
 pub mod Bound
 pub mod Ranks
 pub mod Certificate
+pub mod Table
+pub mod Compare
 pub mod Bytes
 pub mod Size
 pub mod Written

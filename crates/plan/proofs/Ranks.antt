@@ -50,20 +50,30 @@ module _ {n : ℕ} {S : System} (law : Lawful n S) where
   layer-rank k r least =
       let w = sound law (suc r) k (least .here) in
       record {
-        here = (w .0, w .1, elim (lt-or-ge (height (w .0)) r) [
-          | inl l ↦ absurd (least .none-below (height (w .0)) l (complete law (w .0) (suc (height (w .0))) k (w .1) (omega arith)))
-          | inr l ↦ omega (arith, w .2)
-        ]);
-        none-below = λ j l q. least .none-below j l (complete law (q .0) (suc j) k (q .1) (omega (arith, q .2)))
+        here = (
+          w .0,
+          w .1,
+          elim (lt-or-ge (height (w .0)) r) [
+            | inl l ↦ absurd (least .none-below (height (w .0)) l (complete law (w .0) (suc (height (w .0))) k (w .1) (omega arith)))
+            | inr l ↦ omega (arith, w .2)
+          ],
+        );
+        none-below = λ j l q. least .none-below j l (complete law (q .0) (suc j) k (q .1) (omega (arith, q .2)));
       }
 
   pub has-rank : (k : ℕ) → (r : ℕ) × IsRank S k r
   has-rank k = elim (decide (below n S (2 ^ suc n - 1) k)) [
     | inl t ↦ (let w = sound law (2 ^ suc n - 1) k t in
-      let r = first-of (λ i. below n S (suc i) k) (height (w .0)) (complete law (w .0) (suc (height (w .0))) k (w .1) (omega arith)) in
-      (r .0, inl (layer-rank k (r .0) (r .1))))
-    | inr t ↦ (255, inr (refl, λ p w. both (below n S (2 ^ suc n - 1) k)
-      (bound law (suc (height p)) k (complete law p (suc (height p)) k w (omega arith))) t))
+        let r = first-of (λ i. below n S (suc i) k) (height (w .0)) (complete law (w .0) (suc (height (w .0))) k (w .1) (omega arith)) in
+        (r .0, inl (layer-rank k (r .0) (r .1))))
+    | inr t ↦ (
+      255,
+      inr (
+        refl,
+        λ p w. both (below n S (2 ^ suc n - 1) k)
+            (bound law (suc (height p)) k (complete law p (suc (height p)) k w (omega arith))) t,
+      ),
+    )
   ]
 
   -- "A rank other than 255 is at most 2^(n+1) − 2."

@@ -39,14 +39,25 @@ pub written-height : (S : System) (p : Plan) (k r : ℕ) → Written S k p → I
 written-height S stop k r w a = rank-unique S k w a
 written-height S (set-then i q b p) k r w a =
     let o = w .0 .lowers .lower (setTo k i b) (after-set i q b) in
-    omega (arith, rank-unique S k (w .0 .is-rank) a, o .2, written-height S p (setTo k i b) (o .0) (w .1) (o .1),
-    rank-least S k a (set-then i q b p) (written-works S (set-then i q b p) k w))
+    omega (
+      arith,
+      rank-unique S k (w .0 .is-rank) a,
+      o .2,
+      written-height S p (setTo k i b) (o .0) (w .1) (o .1),
+      rank-least S k a (set-then i q b p) (written-works S (set-then i q b p) k w),
+    )
 written-height S (look-then i q p s) k r w a =
     let o = w .0 .lowers .lower (lookAt k i false) (after-look i q false) in
     let u = w .0 .lowers .lower (lookAt k i true) (after-look i q true) in
-    omega (arith, rank-unique S k (w .0 .is-rank) a, o .2, u .2,
-    written-height S p (lookAt k i false) (o .0) (w .1) (o .1), written-height S s (lookAt k i true) (u .0) (w .2) (u .1),
-    rank-least S k a (look-then i q p s) (written-works S (look-then i q p s) k w))
+    omega (
+      arith,
+      rank-unique S k (w .0 .is-rank) a,
+      o .2,
+      u .2,
+      written-height S p (lookAt k i false) (o .0) (w .1) (o .1),
+      written-height S s (lookAt k i true) (u .0) (w .2) (u .1),
+      rank-least S k a (look-then i q p s) (written-works S (look-then i q p s) k w),
+    )
 
 module _ {n : ℕ} {S : System} (law : Lawful n S) (few : n ≤ 7) where
   -- two acts chosen at a state are one
@@ -62,7 +73,7 @@ module _ {n : ℕ} {S : System} (law : Lawful n S) (few : n ≤ 7) where
   lowers-in : (k r : ℕ) (a : Act) → T (can S (below n S r) k a) → Lowers S k r a
   lowers-in k r a t = record {
     allowed = can-may S (below n S r) k a t;
-    lower = λ x o. rank-out law x r (can-at S (below n S r) k a t o)
+    lower = λ x o. rank-out law x r (can-at S (below n S r) k a t o);
   }
 
   lowers-out : (k r : ℕ) (a : Act) → r ≤ 255 → Lowers S k r a → T (can S (below n S r) k a)
@@ -89,16 +100,18 @@ module _ {n : ℕ} {S : System} (law : Lawful n S) (few : n ≤ 7) where
   choose : (k r : ℕ) (a : Act) → IsRank S k r → r ≤ 255 → T (can S (below n S r) k a) → (c : Act) × Chosen S k c
   choose k r a i h t =
       let f = first-of (λ c. good k r (actOf c)) (byteOf a) (good-in k r a t) in
-      let g = good-out k r (actOf (f .0)) (f .1 .here) in
-      (g .0, record {
-        rank = r;
-        is-rank = i;
-        lowers = lowers-in k r (g .0) (g .2);
-        smallest = λ c l. elim (lt-or-ge (byteOf c) (f .0)) [
-          | inl m ↦ absurd (f .1 .none-below (byteOf c) m (good-in k r c (lowers-out k r c h l)))
-          | inr m ↦ omega (arith, byte-of-act (f .0) (g .0) (g .1))
-        ]
-      })
+      let g = good-out k r (actOf (f .0)) (f .1 .here) in (
+        g .0,
+        record {
+          rank = r;
+          is-rank = i;
+          lowers = lowers-in k r (g .0) (g .2);
+          smallest = λ c l. elim (lt-or-ge (byteOf c) (f .0)) [
+            | inl m ↦ absurd (f .1 .none-below (byteOf c) m (good-in k r c (lowers-out k r c h l)))
+            | inr m ↦ omega (arith, byte-of-act (f .0) (g .0) (g .1))
+          ];
+        },
+      )
 
   -- the act chosen, and the plans written from its outcomes
   act-written : (k : ℕ) (a : Act) → Chosen S k a → ((x : ℕ) → Outcome k a x → (p : Plan) × Written S x p) → (p : Plan) × Written S k p
@@ -116,9 +129,9 @@ module _ {n : ℕ} {S : System} (law : Lawful n S) (few : n ≤ 7) where
       elim (layer-out law (suc r) k (complete law (a .here .0) (suc (suc r)) k (a .here .1) (omega (arith, a .here .2)))) [
         | inl g ↦ absurd (a .none-below 0 (omega arith) (stop, g, refl))
         | inr w ↦ (let c = choose k (suc r) (w .0) (inl a) (omega arith) (can-in S (below n S (suc r)) k (w .0) (w .1) (w .2)) in
-          let e = rank-unique S k (c .1 .is-rank) (inl a) in
-          act-written k (c .0) (c .1) (λ x o. let s = c .1 .lowers .lower x o in
-          written-within h x (s .0) (omega (arith, s .2)) (s .1) (omega (arith, s .2))))
+            let e = rank-unique S k (c .1 .is-rank) (inl a) in
+            act-written k (c .0) (c .1) (λ x o. let s = c .1 .lowers .lower x o in
+            written-within h x (s .0) (omega (arith, s .2)) (s .1) (omega (arith, s .2))))
       ]
 
   -- the plan written exists where the rank is not 255
