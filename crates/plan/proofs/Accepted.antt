@@ -1,18 +1,16 @@
 -- What is written is accepted, and no accepted plan is lower than the rank: both from the check's yes being a working plan's bytes.
 use mathlib.Core.Path.{_≡_, refl}
 use mathlib.Core.List.{List}
-use Prim.Native.Nat.{ℕ, _≤_, _<_, _*_, _^_, suc}
+use Prim.Native.Nat.{ℕ, _≤_, _<_}
 use native.Mathlib.Omega.{arith}
 use lib.ListN.{length}
 use Rattle.plan.specs.Plans.{System, Lawful, Plan, Works, height}
 use Rattle.plan.specs.Ranks.{IsRank, Written}
 use Rattle.plan.specs.Bytes.{encode}
 use Rattle.plan.specs.Check.{accepted, check}
-use Rattle.plan.specs.Pending.{unknowns}
 use Rattle.plan.proofs.Ranks.{rank-least}
-use Rattle.plan.proofs.Size.{works-permitted, size, size-most}
+use Rattle.plan.proofs.Size.{works-permitted, size-most}
 use Rattle.plan.proofs.Written.{written-works, written-height}
-use Rattle.plan.proofs.Encode.{encode-injective}
 use Rattle.plan.proofs.Check.{check-exact}
 
 module _ {n : ℕ} {S : System} (law : Lawful n S) (few : n ≤ 7) (k : ℕ) where

@@ -1,7 +1,6 @@
 -- Acts taken together: what holds of an act's outcomes, and a search over all acts of n settings and eight posts. Each by the
 -- two kinds of act.
-use mathlib.Core.Path.{_≡_, refl}
-use mathlib.Core.Logic.{_⊎_, inl, inr}
+use mathlib.Core.Logic.{inl, inr}
 use mathlib.Core.Bool.{Bool, true, false, _&&_, _||_}
 use Prim.Native.Nat.{ℕ, _<_}
 use lib.Dec.{T}

@@ -1,14 +1,12 @@
 -- A certified table is the table of ranks: an entry below 255 has a plan, by induction on the entry; no plan is lower than its
 -- state's entry, by induction on the plan; and at 255 no plan works, since one of height at most 254 would.
-use mathlib.Core.Path.{_≡_, refl, sym, ap, _∙_}
-use mathlib.Core.Logic.{_⊎_, inl, inr}
+use mathlib.Core.Logic.{inl, inr}
 use mathlib.Core.Bool.{Bool, true, false}
-use Prim.Native.Nat.{ℕ, zero, suc, max, _+_, _-_, _^_, _≤_, _<_}
+use Prim.Native.Nat.{ℕ, zero, suc, max, _^_, _≤_, _<_}
 use native.Mathlib.Omega.{arith}
 use lib.Dec.{T}
 use lib.Pow.{pow-mono}
-use Rattle.ground.specs.Digits.{digit, put}
-use Rattle.ground.specs.Search.{Least}
+use Rattle.ground.specs.Digits.{digit}
 use Rattle.ground.proofs.Bools.{lt-or-ge}
 use Rattle.ground.proofs.Digits.{digit-lt, put-lt}
 use Rattle.knowledge.specs.Seven.{afterSet, afterLook}
@@ -16,8 +14,8 @@ use Rattle.knowledge.specs.Acts.{setTo, lookAt}
 use Rattle.knowledge.specs.declared.act.Act.{Act}
 use Rattle.knowledge.specs.declared.act.Act.the-variants.{Set, Look}
 use Rattle.plan.specs.Plans.{System, may, Lawful, Outcome, after-set, after-look, Plan, stop, set-then, look-then, Works, height}
-use Rattle.plan.specs.Ranks.{Reach, Cannot, IsRank}
-use Rattle.plan.specs.Certificate.{Leads, Certified}
+use Rattle.plan.specs.Ranks.{IsRank}
+use Rattle.plan.specs.Certificate.{Certified}
 use Rattle.plan.proofs.Acts.{after-a-set, after-a-look}
 use Rattle.plan.proofs.Layers.{Within, act-then}
 use Rattle.plan.proofs.Unknowns.{seven, set-lt, look-lt}

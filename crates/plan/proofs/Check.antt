@@ -3,9 +3,8 @@
 use mathlib.Core.Path.{_≡_, refl, sym, ap, ap₂, _∙_}
 use mathlib.Core.Logic.{_↔_}
 use mathlib.Core.List.{List, [], _∷_, _++_, append-assoc, append-nil}
-use mathlib.Core.Bool.{Bool, true, false, not, _&&_}
+use mathlib.Core.Bool.{Bool, true, false, not}
 use Prim.Native.Nat.{ℕ, zero, suc, _+_, _≤_, _<_}
-use native.Mathlib.Nat.{add-zero, add-suc, suc-add, add-assoc}
 use native.Mathlib.Omega.{arith}
 use lib.Dec.{T}
 use lib.ListN.{length, length-append}
@@ -15,9 +14,9 @@ use Rattle.knowledge.specs.declared.act.Act.{Act}
 use Rattle.knowledge.specs.declared.act.Act.the-variants.{Set, Look}
 use Rattle.knowledge.specs.declared.act.Named.{Named}
 use Rattle.knowledge.specs.declared.act.Named.the-variants.{One, Nothing}
-use Rattle.plan.specs.Plans.{System, may, Lawful, Plan, stop, set-then, look-then, Works, height}
+use Rattle.plan.specs.Plans.{System, may, Lawful, Plan, stop, set-then, look-then, Works}
 use Rattle.plan.specs.Bytes.{encode}
-use Rattle.plan.specs.Check.{Fault, no-act, not-permitted, not-settled, too-soon, left-over, Verdict, accepted, faulty, Reading, goes-on, fails, outcomes, readAct, readNamed, readStop, readByte, judge, check}
+use Rattle.plan.specs.Check.{Fault, no-act, not-permitted, not-settled, Verdict, accepted, faulty, Reading, goes-on, fails, outcomes, readAct, readNamed, readStop, readByte, judge, check}
 use Rattle.plan.proofs.Bytes.{act-of-byte, byte-of-act, byte-positive}
 
 module _ (S : System) (k : ℕ) where

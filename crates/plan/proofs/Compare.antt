@@ -1,17 +1,15 @@
 -- Two systems compared: where every act of one has, in the other, an act with the same outcomes, each plan of the first has one in the
 -- second that works as well and is no higher. So more posts, or another post for an act, never raise a rank.
-use mathlib.Core.Path.{_≡_, refl, sym, _∙_}
-use mathlib.Core.Logic.{_⊎_, inl, inr}
-use mathlib.Core.Bool.{Bool, true, false}
+use mathlib.Core.Logic.{inl, inr}
+use mathlib.Core.Bool.{true, false}
 use Prim.Native.Nat.{ℕ, suc, max, _≤_, _<_}
-use native.Mathlib.Nat.{le-antisymm}
 use native.Mathlib.Omega.{arith}
 use lib.Dec.{T}
 use Rattle.knowledge.specs.Acts.{setTo, lookAt}
 use Rattle.knowledge.specs.declared.act.Act.{Act}
 use Rattle.knowledge.specs.declared.act.Act.the-variants.{Set, Look}
 use Rattle.plan.specs.Plans.{System, may, Outcome, after-set, after-look, Plan, stop, set-then, look-then, Works, height}
-use Rattle.plan.specs.Ranks.{Reach, IsRank}
+use Rattle.plan.specs.Ranks.{IsRank}
 use Rattle.plan.proofs.Acts.{after-a-set, after-a-look}
 use Rattle.plan.proofs.Layers.{Within, act-then}
 use Rattle.plan.proofs.Certificate.{Closed}

@@ -5,8 +5,8 @@ use mathlib.Core.List.{List, [], _∷_, _++_}
 use Prim.Native.Nat.{ℕ, suc, _+_}
 use native.Mathlib.Omega.{arith}
 use lib.ListN.{length}
-use Rattle.plan.specs.Plans.{System, Lawful}
-use Rattle.plan.specs.Check.{Fault, too-soon, left-over, Verdict, accepted, faulty, Reading, goes-on, fails, readByte, judge}
+use Rattle.plan.specs.Plans.{System}
+use Rattle.plan.specs.Check.{Fault, too-soon, left-over, faulty, Reading, goes-on, fails, readByte, judge}
 use Rattle.plan.proofs.Check.{judge-on, judge-fails}
 
 -- the bytes read without a fault, from pending states to pending states

@@ -3,14 +3,14 @@
 use mathlib.Core.Path.{_≡_}
 use mathlib.Core.List.{List, [], _∷_}
 use mathlib.Core.Bool.{Bool, true, false}
-use Prim.Native.Nat.{ℕ, suc, _+_, _≤_, _<_}
+use Prim.Native.Nat.{ℕ, _+_, _≤_}
 use native.Mathlib.Omega.{arith}
 use lib.Dec.{T}
 use lib.ListN.{length}
 use Rattle.knowledge.specs.Acts.{setTo, lookAt}
 use Rattle.knowledge.specs.declared.act.Act.the-variants.{Set, Look}
 use Rattle.plan.specs.Plans.{System, may, Lawful}
-use Rattle.plan.specs.Pending.{nought, unknowns, Waiting, Pending}
+use Rattle.plan.specs.Pending.{unknowns, Pending}
 use Rattle.plan.proofs.Unknowns.{unknowns-le, unknowns-set, unknowns-look}
 
 pub pending-first : (n k : ℕ) → Pending n k []

@@ -2,7 +2,7 @@
 -- open. A look on the way was at a digit 0, where nobody had set the setting, so it read the start's value, which both starts share.
 use mathlib.Core.Path.{_≡_, refl, sym, ap, _∙_}
 use mathlib.Core.Logic.{_⊎_, inl, inr}
-use mathlib.Core.List.{List, [], _∷_}
+use mathlib.Core.List.{List, _∷_}
 use mathlib.Core.Bool.{Bool, true, false, not, _||_}
 use Prim.Native.Nat.{ℕ, _^_, _<_}
 use native.Mathlib.Decide.{ℕ-discrete}
@@ -10,7 +10,7 @@ use native.Mathlib.Omega.{arith}
 use lib.Dec.{T}
 use Rattle.ground.specs.Digits.{digit, bit}
 use Rattle.ground.specs.Table.{truth}
-use Rattle.ground.proofs.Bools.{T→true, T→false, decide, or-left, or-right, both}
+use Rattle.ground.proofs.Bools.{T→false, decide, both}
 use Rattle.ground.proofs.Digits.{digit-lt}
 use Rattle.ground.proofs.Search.{all-at, all-intro, all-or}
 use Rattle.knowledge.specs.Seven.{startOf, afterSet, afterLook}

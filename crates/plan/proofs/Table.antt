@@ -1,15 +1,14 @@
 -- A table of ranks chooses the plan written: its entries say which acts lower the rank, and the first byte that names such an act is
 -- the smallest.
 use mathlib.Core.Path.{_≡_}
-use mathlib.Core.Logic.{_⊎_, inl, inr}
+use mathlib.Core.Logic.{inl, inr}
 use Prim.Native.Nat.{ℕ, _≤_, _<_}
 use native.Mathlib.Omega.{arith}
-use lib.Dec.{T}
 use Rattle.ground.proofs.Bools.{lt-or-ge}
 use Rattle.knowledge.specs.Acts.{byteOf, actOf}
 use Rattle.knowledge.specs.declared.act.Act.{Act}
 use Rattle.knowledge.specs.declared.act.Named.the-variants.{One}
-use Rattle.plan.specs.Plans.{System, may, Lawful, Outcome}
+use Rattle.plan.specs.Plans.{System, Lawful}
 use Rattle.plan.specs.Ranks.{IsRank, Lowers, Chosen}
 use Rattle.plan.specs.Certificate.{Leads}
 use Rattle.plan.proofs.Bytes.{act-of-byte, byte-of-act}

@@ -1,20 +1,20 @@
 -- A team's system is lawful: an act of this book and team has a setting below n and a post with a bit in the team's byte, and a look
 -- is permitted at the digit 0 alone.
-use mathlib.Core.Path.{_≡_, ap, _∙_}
-use mathlib.Core.Logic.{_⊎_, inl, inr}
+use mathlib.Core.Path.{_≡_}
+use mathlib.Core.Logic.{inl, inr}
 use mathlib.Core.List.{List}
-use mathlib.Core.Bool.{Bool, false, _&&_}
-use Prim.Native.Nat.{ℕ, _^_, _≤_, _<_}
+use mathlib.Core.Bool.{Bool, _&&_}
+use Prim.Native.Nat.{ℕ, _<_}
 use native.Mathlib.Omega.{arith}
-use lib.Dec.{T, eqb, ltb, eqb→eq, ltb→lt, lit<}
+use lib.Dec.{T, ltb, eqb→eq, ltb→lt, lit<}
 use lib.Pow.{pow-mono}
 use Rattle.ground.specs.Digits.{digit, bit}
 use Rattle.ground.proofs.Bools.{and-left, and-right, lt-or-ge}
 use Rattle.ground.proofs.Digits.{digit-above}
 use Rattle.knowledge.specs.Acts.{settingOf, postOf, offered, permitted}
 use Rattle.knowledge.specs.declared.act.Act.{Act}
-use Rattle.knowledge.specs.declared.act.Act.the-variants.{Set, Look}
-use Rattle.plan.specs.Plans.{System, may, Lawful}
+use Rattle.knowledge.specs.declared.act.Act.the-variants.{Look}
+use Rattle.plan.specs.Plans.{may, Lawful}
 use Rattle.plan.specs.Team.{ofTeam}
 
 post-lt : (team q : ℕ) → team < 256 → T (bit team q) → q < 8
