@@ -9,7 +9,8 @@ use Rattle.ground.specs.Digits.{bit}
 use Rattle.formula.specs.Grammar.{sum, meaning, IsSentence}
 use Rattle.formula.specs.Read.{number, place, SettingsFit, LengthFits, Foreign, Refuses, five, one, two, three, four, Reads}
 use Rattle.formula.specs.Words.{Holds, BytesOf, has}
-use Rattle.formula.specs.Automaton.{wants, breaks, verdict, Parsed, Scans}
+use Rattle.formula.specs.Automaton.{wants, breaks, verdict, Parsed}
+use Rattle.formula.specs.Scans.{Scans}
 use Rattle.formula.specs.declared.Refusal.{Refusal}
 use Rattle.formula.specs.declared.Refusal.the-variants.{Length, StrayByte, LetterPast, NotSentence, Settings}
 use Rattle.formula.specs.declared.Answer.{Answer}

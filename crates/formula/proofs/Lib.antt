@@ -8,3 +8,5 @@ pub mod PartLaws
 pub mod Answers
 pub mod Meaning
 pub mod Unique
+pub mod Small
+pub mod Computed

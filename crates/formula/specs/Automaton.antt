@@ -8,11 +8,7 @@ use lib.Dec.{T, eqb}
 use lib.ListN.{length, getD, drop}
 use Rattle.ground.specs.Text.{byte}
 use Rattle.formula.specs.Grammar.{Kind, sum, product, unit, Sentence, text, meaning}
-use Prim.Native.Nat.{_<_}
-use Rattle.formula.specs.Read.{isLetter, isStray, isPast, Foreign}
-use Rattle.ground.specs.Search.{Least}
-use Rattle.formula.specs.declared.scan.Scanned.{Scanned}
-use Rattle.formula.specs.declared.scan.Scanned.the-variants.{Clean, Stray, Past}
+use Rattle.formula.specs.Read.{isLetter}
 use Rattle.formula.specs.Words.{Holds}
 use Rattle.formula.specs.declared.words.Words.{Words}
 use Rattle.formula.specs.declared.parts.Part.{Part}
@@ -69,9 +65,3 @@ pub record Parsed (k : Kind) (s : List ℕ) (i : ℕ) (w : Words) (next : ℕ) :
 abbrev pub Parses : Kind → List ℕ → ℕ → Part → Type 0
 Parses k s i (Read w next) = Parsed k s i w next
 Parses k s i (Broken p) = (d : ℕ) → verdict (wants d) i (drop i s) ≡ breaks p
-
--- what the first look finds: no foreign byte, or the lowest place of one and of which kind it is
-abbrev pub Scans : ℕ → List ℕ → Scanned → Type 0
-Scans n s Clean = (i : ℕ) → Foreign n s i → ⊥
-Scans n s (Stray i) = Least (Foreign n s) i × T (isStray (getD s i 0))
-Scans n s (Past i) = Least (Foreign n s) i × T (isPast n (getD s i 0))

@@ -1,6 +1,7 @@
--- What a reader must believe of formulas: the grammar and its meaning, and what `read` answers. `Words` and `Automaton` are inside:
+-- What a reader must believe of formulas: the grammar and its meaning, and what `read` answers. `Words`, `Automaton` and `Scans` are inside:
 -- no public contract cites them.
 pub mod Grammar
 pub mod Read
 pub mod Words
+pub mod Scans
 pub mod Automaton

@@ -8,7 +8,7 @@ mod words;
 ghost use mathlib.Core.Path.{_≡_};
 ghost use Prim.Native.Nat.{ℕ};
 ghost use lib.ListN.{replicate};
-ghost use Rattle.formula.specs.Read.{Reads, SettingsFit, LengthFits, Foreign};
+ghost use Rattle.formula.specs.Read.{number, place, Reads, SettingsFit, LengthFits, Foreign};
 use parts::Part;
 use scan::Scanned;
 
@@ -24,6 +24,34 @@ pub enum Refusal {
     NotSentence(usize),
     // n is not 1 to 7.
     Settings,
+}
+
+impl Refusal {
+    // Paper 01's number of this refusal.
+    pub fn number(self) -> u64
+        ensures { λ r. ⌜ r ≡ number self ⌝ }
+    {
+        match self {
+            Refusal::Length => 1,
+            Refusal::StrayByte(_) => 2,
+            Refusal::LetterPast(_) => 3,
+            Refusal::NotSentence(_) => 4,
+            Refusal::Settings => 5,
+        }
+    }
+
+    // Its place: 0 unless the refusal names one.
+    pub fn place(self) -> usize
+        ensures { λ r. ⌜ r ≡ place self ⌝ }
+    {
+        match self {
+            Refusal::Length => 0,
+            Refusal::StrayByte(i) => i,
+            Refusal::LetterPast(i) => i,
+            Refusal::NotSentence(i) => i,
+            Refusal::Settings => 0,
+        }
+    }
 }
 
 pub enum Answer {

@@ -2,7 +2,7 @@
 // the settings.
 ghost use mathlib.Core.Path.{_≡_};
 ghost use Rattle.formula.specs.Read.{isLetter, isSign, isStray, isPast};
-ghost use Rattle.formula.specs.Automaton.{Scans};
+ghost use Rattle.formula.specs.Scans.{Scans};
 
 pub enum Scanned {
     Clean,

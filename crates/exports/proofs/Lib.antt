@@ -1,0 +1,2 @@
+-- What the C functions return is settled.
+pub mod Unique

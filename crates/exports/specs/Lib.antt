@@ -1,0 +1,3 @@
+-- What the C functions return and leave in lent memory.
+pub mod Packed
+pub mod Formula

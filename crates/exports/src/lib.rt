@@ -1,0 +1,33 @@
+// The C interface, and nothing else: each function hands its arguments to the crate that knows and
+// packs the answer into one number. A refusal is its number times 2^32 plus its place; a success has
+// 0 in the upper half. A slice is a pointer and a length; a table is a pointer to 16 bytes.
+ghost use mathlib.Core.Path.{_≡_};
+ghost use Prim.Native.Nat.{_<_, _^_};
+ghost use Rattle.exports.specs.Packed.{packed};
+ghost use Rattle.exports.specs.Formula.{FormulaRead};
+use formula::Answer;
+
+// The table of a formula. 0, or a refusal, which leaves the 16 bytes as they were.
+#[no_mangle]
+pub extern "C" fn pj_formula_read(n: u64, text: &[u8], table: &mut [u8; 16]) -> u64
+    ensures { λ r. ⌜ FormulaRead n (now (text .entry)) (now (table .entry)) r (now (table .exit)) ⌝ }
+{
+    let reading = formula::read(n as usize, text);
+    let answer = reading.answer;
+    let found = reading.table;
+    match answer {
+        Answer::Table => {
+            *table = found;
+            0
+        }
+        Answer::Refused(why) => refusal(why.number(), why.place() as u64),
+    }
+}
+
+// A refusal as one number.
+fn refusal(number: u64, place: u64) -> u64
+    requires { ⌜ (number < 256) × (place < 2 ^ 32) ⌝ }
+    ensures { λ r. ⌜ r ≡ packed number place ⌝ }
+{
+    (number << 32) + place
+}

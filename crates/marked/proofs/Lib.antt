@@ -1,0 +1,3 @@
+-- The marked examples, proved.
+pub mod FormulaRows
+pub mod Marked

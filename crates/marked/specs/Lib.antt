@@ -1,0 +1,3 @@
+-- The marked examples of paper 01.
+pub mod Row
+pub mod Table
