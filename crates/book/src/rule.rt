@@ -1,4 +1,7 @@
 // Where the table of a rule stands in a book.
+use super::BLOCK;
+use super::POST;
+use ground::TABLE;
 ghost use mathlib.Core.Path.{_≡_};
 ghost use Rattle.book.specs.Rule.{rulePlace};
 
@@ -15,9 +18,9 @@ pub enum Right {
 pub fn rule_at(setting: u8, post: u8, right: Right) -> usize
     ensures { λ r. ⌜ r ≡ rulePlace setting post right ⌝ }
 {
-    let place = 512 * (1 + setting as usize) + 32 * (post as usize);
+    let place = BLOCK * (1 + setting as usize) + POST * (post as usize);
     match right {
         Right::Look => place,
-        Right::Set => place + 16,
+        Right::Set => place + TABLE,
     }
 }

@@ -5,11 +5,23 @@ use mathlib.Core.List.{List}
 use Prim.Native.Nat.{ℕ}
 use Rattle.formula.specs.declared.Answer.{Answer}
 use Rattle.formula.proofs.Unique.{read-unique}
-use Rattle.exports.specs.Formula.{returned, left, FormulaRead}
+use Rattle.book.proofs.Theorems.{reads-one, writes-one}
+use Rattle.exports.specs.Formula.{returned, onReturn, FormulaRead}
+use Rattle.exports.specs.Book.{readReturned, writeReturned, BookRead, BookWritten}
 
 pub formula-read-unique : {n : ℕ} {s old : List ℕ} {r q : ℕ} {new other : List ℕ} → FormulaRead n s old r new → FormulaRead n s old q other → (r ≡ q) × (new ≡ other)
 formula-read-unique {n} {s} {old} a b =
     (let e = read-unique n s (a .answer) (b .answer) (a .found) (b .found) (a .reads) (b .reads) in (
       a .result-is ∙ ap returned (e .0) ∙ sym (b .result-is),
-      a .new-is ∙ ap (λ (x : Answer). left x old (a .found)) (e .0) ∙ ap (λ (t : List ℕ). left (b .answer) old t) (e .1) ∙ sym (b .new-is),
+      a .new-is ∙ ap (λ (x : Answer). onReturn x old (a .found)) (e .0) ∙ ap (λ (t : List ℕ). onReturn (b .answer) old t) (e .1) ∙ sym (b .new-is),
     ))
+
+pub book-read-unique : {book old : List ℕ} {r q : ℕ} {new other : List ℕ} → BookRead book old r new → BookRead book old q other → (r ≡ q) × (new ≡ other)
+book-read-unique {book} {old} {new = new} {other = other} a b =
+    let e = reads-one book old (a .answer) (b .answer) new other (a .reads) (b .reads) in
+    (a .result-is ∙ ap readReturned (e .0) ∙ sym (b .result-is), e .1)
+
+pub book-write-unique : {n m : ℕ} {rights old : List ℕ} {r q : ℕ} {new other : List ℕ} → BookWritten n m rights old r new → BookWritten n m rights old q other → (r ≡ q) × (new ≡ other)
+book-write-unique {n} {m} {rights} {old} {new = new} {other = other} a b =
+    let e = writes-one n m rights old (a .answer) (b .answer) new other (a .writes) (b .writes) in
+    (a .result-is ∙ ap writeReturned (e .0) ∙ sym (b .result-is), e .1)

@@ -4,21 +4,23 @@ use mathlib.Core.List.{List}
 use Prim.Native.Nat.{ℕ}
 use Rattle.formula.specs.Read.{Reads, number, place}
 use Rattle.formula.specs.declared.Answer.{Answer}
-use Rattle.formula.specs.declared.Answer.the-variants.{Table, Refused}
+use Rattle.formula.specs.declared.Answer.the-variants.{Accepted, Refused}
 use Rattle.exports.specs.Packed.{packed}
 
+-- "0", or the refusal as one number
 abbrev pub returned : Answer → ℕ
-returned Table = 0
+returned Accepted = 0
 returned (Refused r) = packed (number r) (place r)
 
 -- what the lent bytes hold on return, from what they held and what was found
-abbrev pub left : Answer → List ℕ → List ℕ → List ℕ
-left Table old found = found
-left (Refused r) old found = old
+abbrev pub onReturn : Answer → List ℕ → List ℕ → List ℕ
+onReturn Accepted old found = found
+onReturn (Refused r) old found = old
 
+-- the result and the 16 bytes after the call, from the 16 bytes before it
 pub record FormulaRead (n : ℕ) (s old : List ℕ) (result : ℕ) (new : List ℕ) : Type 0 where
   pub answer : Answer
   pub found : List ℕ
   pub reads : Reads n s answer found
   pub result-is : result ≡ returned answer
-  pub new-is : new ≡ left answer old found
+  pub new-is : new ≡ onReturn answer old found

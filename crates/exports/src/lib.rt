@@ -5,6 +5,9 @@ ghost use mathlib.Core.Path.{_≡_};
 ghost use Prim.Native.Nat.{_<_, _^_};
 ghost use Rattle.exports.specs.Packed.{packed};
 ghost use Rattle.exports.specs.Formula.{FormulaRead};
+ghost use Rattle.exports.specs.Book.{BookRead, BookWritten};
+use book::ReadAnswer;
+use book::WriteAnswer;
 use formula::Answer;
 
 // The table of a formula. 0, or a refusal, which leaves the 16 bytes as they were.
@@ -16,11 +19,35 @@ pub extern "C" fn pj_formula_read(n: u64, text: &[u8], table: &mut [u8; 16]) -> 
     let answer = reading.answer;
     let found = reading.table;
     match answer {
-        Answer::Table => {
+        Answer::Accepted => {
             *table = found;
             0
         }
         Answer::Refused(why) => refusal(why.number(), why.place() as u64),
+    }
+}
+
+// A book's rights, n × 256 bytes, at the start of the lent room. n * 256 + m, or a refusal, which
+// leaves the room as it was.
+#[no_mangle]
+pub extern "C" fn pj_book_read(book: &[u8], rights: &mut [u8]) -> u64
+    ensures { λ r. ⌜ BookRead (now (book .entry)) (now (rights .entry)) r (now (rights .exit)) ⌝ }
+{
+    match book::read(book, rights) {
+        ReadAnswer::Book { settings, posts } => (settings as u64) * 256 + posts as u64,
+        ReadAnswer::Refused(why) => refusal(why.number(), why.place() as u64),
+    }
+}
+
+// The book of n settings and m posts with these rights, at the start of the lent room. 0, or a
+// refusal, which leaves the room as it was.
+#[no_mangle]
+pub extern "C" fn pj_book_write(n: u64, m: u64, rights: &[u8], book: &mut [u8]) -> u64
+    ensures { λ r. ⌜ BookWritten n m (now (rights .entry)) (now (book .entry)) r (now (book .exit)) ⌝ }
+{
+    match book::write(n as usize, m as usize, rights, book) {
+        WriteAnswer::Written => 0,
+        WriteAnswer::Refused(why) => refusal(why.number(), why.place() as u64),
     }
 }
 

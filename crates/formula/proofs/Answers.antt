@@ -14,7 +14,7 @@ use Rattle.formula.specs.Scans.{Scans}
 use Rattle.formula.specs.declared.Refusal.{Refusal}
 use Rattle.formula.specs.declared.Refusal.the-variants.{Length, StrayByte, LetterPast, NotSentence, Settings}
 use Rattle.formula.specs.declared.Answer.{Answer}
-use Rattle.formula.specs.declared.Answer.the-variants.{Table, Refused}
+use Rattle.formula.specs.declared.Answer.the-variants.{Accepted, Refused}
 use Rattle.formula.specs.declared.scan.Scanned.{Scanned}
 use Rattle.formula.specs.declared.scan.Scanned.the-variants.{Clean, Stray, Past}
 use Rattle.formula.specs.declared.words.Words.{Words}
@@ -40,7 +40,7 @@ module _ (n : ℕ) (s : List ℕ) (fit : SettingsFit n) (size : LengthFits s) wh
     pub broken : (x : ℕ) → verdict (wants 0) 0 s ≡ breaks x → Refuses n s 4 x
     broken x v = four fit size clean (broken-no-sentence s x v) (broken-place s x v)
 
-    pub whole : {w u : Words} {next : ℕ} {t : List ℕ} → Parsed sum s 0 w next → length s ≤ next → Holds u (λ v. has w v && below n v) → BytesOf u t → Reads n s Table t
+    pub whole : {w u : Words} {next : ℕ} {t : List ℕ} → Parsed sum s 0 w next → length s ≤ next → Holds u (λ v. has w v && below n v) → BytesOf u t → Reads n s Accepted t
     whole {w} p l h b = record {
       settings = fit;
       size = size;

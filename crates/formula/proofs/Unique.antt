@@ -14,7 +14,7 @@ use Rattle.formula.specs.Read.{number, place, isLetter, isSign, isStray,
 use Rattle.formula.specs.declared.Refusal.{Refusal}
 use Rattle.formula.specs.declared.Refusal.the-variants.{Length, StrayByte, LetterPast, NotSentence, Settings}
 use Rattle.formula.specs.declared.Answer.{Answer}
-use Rattle.formula.specs.declared.Answer.the-variants.{Table, Refused}
+use Rattle.formula.specs.declared.Answer.the-variants.{Accepted, Refused}
 use Rattle.formula.proofs.Meaning.{unambiguous}
 
 breaks-unique : {s : List ℕ} {i j : ℕ} → BreaksAt s i → BreaksAt s j → i ≡ j
@@ -91,9 +91,9 @@ pub refusal-unique : (r q : Refusal) → number r ≡ number q → place r ≡ p
 refusal-unique r q e f = sym (named-of r) ∙ ap₂ named e f ∙ named-of q
 
 pub read-unique : (n : ℕ) (s : List ℕ) (a b : Answer) (t u : List ℕ) → Reads n s a t → Reads n s b u → (a ≡ b) × (t ≡ u)
-read-unique n s Table Table t u p q =
+read-unique n s Accepted Accepted t u p q =
     (refl, table-unique (λ v h. unambiguous (p .parsed .sentence) (q .parsed .sentence) (p .parsed .written ∙ sym (q .parsed .written)) v) (p .table) (q .table))
-read-unique n s Table (Refused r) t u p q = absurd (never-both p (q .0))
-read-unique n s (Refused r) Table t u p q = absurd (never-both q (p .0))
+read-unique n s Accepted (Refused r) t u p q = absurd (never-both p (q .0))
+read-unique n s (Refused r) Accepted t u p q = absurd (never-both q (p .0))
 read-unique n s (Refused r) (Refused x) t u p q =
     (let e = refuses-unique (p .0) (q .0) in (ap Refused (refusal-unique r x (e .0) (e .1)), p .1 ∙ sym (q .1)))

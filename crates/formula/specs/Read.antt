@@ -1,4 +1,4 @@
--- What `read` answers, for n settings and the text s. Order: "5, 1, then the lowest place of 2 or 3, then 4".
+-- What `read` answers, for n settings and the text s; `declared` are the enums of src/lib.rt. Order: "5, 1, then the lowest place of 2 or 3, then 4".
 use mathlib.Core.Path.{_≡_}
 use mathlib.Core.List.{List}
 use mathlib.Core.Bool.{Bool, not, _&&_, _||_}
@@ -12,7 +12,7 @@ use Rattle.formula.specs.Grammar.{meaning, IsSentence, Begins}
 use Rattle.formula.specs.declared.Refusal.{Refusal}
 use Rattle.formula.specs.declared.Refusal.the-variants.{Length, StrayByte, LetterPast, NotSentence, Settings}
 use Rattle.formula.specs.declared.Answer.{Answer}
-use Rattle.formula.specs.declared.Answer.the-variants.{Table, Refused}
+use Rattle.formula.specs.declared.Answer.the-variants.{Accepted, Refused}
 
 -- paper 01's number of each refusal
 abbrev pub number : Refusal → ℕ
@@ -67,7 +67,7 @@ pub data BreaksAt (s : List ℕ) : ℕ → Type 0 where
   at-byte : {i : ℕ} → Least (Breaks s) i → BreaksAt s i
   at-end : ((i : ℕ) → Breaks s i → ⊥) → BreaksAt s (length s)
 
--- a refusal's number and place are those of the first line that applies
+-- a refusal, by the order "5, 1, then the lowest place of 2 or 3, then 4": each case denies those before it
 pub data Refuses (n : ℕ) (s : List ℕ) : (number place : ℕ) → Type 0 where
   five : (SettingsFit n → ⊥) → Refuses n s 5 0
   one : SettingsFit n → (LengthFits s → ⊥) → Refuses n s 1 0
@@ -85,5 +85,5 @@ pub record Accepts (n : ℕ) (s : List ℕ) (t : List ℕ) : Type 0 where
 
 -- what `read` gives: the answer, and the 16 bytes beside it, which are all 0 with a refusal
 abbrev pub Reads : ℕ → List ℕ → Answer → List ℕ → Type 0
-Reads n s Table t = Accepts n s t
+Reads n s Accepted t = Accepts n s t
 Reads n s (Refused r) t = Refuses n s (number r) (place r) × (t ≡ replicate 16 0)

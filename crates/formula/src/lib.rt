@@ -20,7 +20,8 @@ pub enum Refusal {
     StrayByte(usize),
     // The letter at this place names no setting: it is at or past n.
     LetterPast(usize),
-    // No sentence begins with the bytes up to this place and this one; or the text ends too soon.
+    // No sentence begins with the bytes through this place; where the place is the length, the text
+    // stops before a sentence is whole.
     NotSentence(usize),
     // n is not 1 to 7.
     Settings,
@@ -56,17 +57,18 @@ impl Refusal {
 
 pub enum Answer {
     // The text is a formula, and its table stands beside.
-    Table,
+    Accepted,
+    // It is none, or n is out of bounds.
     Refused(Refusal),
 }
 
+// What reading a text gives: the answer, and the table of an accepted one, else sixteen zeros.
 pub struct Reading {
     pub answer: Answer,
     pub table: [u8; 16],
 }
 
-pub const SETTINGS_MOST: usize = 7;
-
+// The most bytes of a formula: "Formula: 1 to 255 bytes".
 pub const LENGTH_MOST: usize = 255;
 
 // A refusal, and nothing beside it.
@@ -79,14 +81,15 @@ fn refused(why: Refusal) -> Reading
     }
 }
 
-// The table of the formula `text` over n settings.
+// The table of the formula `text` over n settings, or the first refusal in the order 5, 1, the lowest
+// place of 2 or 3, 4.
 pub fn read(n: usize, text: &[u8]) -> Reading
     ensures { λ r. ⌜ Reads n (now (text .entry)) (r .answer) (r .table) ⌝ }
 {
     if n < 1 {
         return refused(Refusal::Settings);
     }
-    if SETTINGS_MOST < n {
+    if ground::SETTINGS_MOST < n {
         return refused(Refusal::Settings);
     }
     if text.len() < 1 {
@@ -114,7 +117,7 @@ fn sentence(n: usize, text: &[u8]) -> Reading
                 refused(Refusal::NotSentence(end))
             } else {
                 Reading {
-                    answer: Answer::Table,
+                    answer: Answer::Accepted,
                     table: w.within(n).bytes(),
                 }
             }

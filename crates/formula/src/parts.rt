@@ -2,6 +2,7 @@
 // on, and they call one another in a cycle in which what is left of the text falls.
 ghost use mathlib.Core.Path.{_≡_};
 ghost use lib.ListN.{length, getD};
+ghost use Rattle.ground.specs.Text.{byte};
 ghost use Rattle.formula.specs.Grammar.{sum, product, unit};
 ghost use Rattle.formula.specs.Automaton.{Parses};
 use crate::scan::is_letter;
@@ -83,9 +84,9 @@ pub fn sum(text: &[u8], at: usize) -> Part
     }
 }
 
-// A unit of one byte.
+// A unit of one byte, where no `~` and no bracket begins one.
 fn atom(text: &[u8], at: usize) -> Part
-    requires { ⌜ (getD (now text) at 0 ≡ 126 → ⊥) × (getD (now text) at 0 ≡ 40 → ⊥) ⌝ }
+    requires { ⌜ (getD (now text) at 0 ≡ byte "~" → ⊥) × (getD (now text) at 0 ≡ byte "(" → ⊥) ⌝ }
     ensures { λ r. ⌜ Parses unit (now (text .entry)) at r ⌝ }
 {
     let c = peek(text, at);

@@ -5,11 +5,15 @@ ghost use Rattle.formula.specs.Read.{isLetter, isSign, isStray, isPast};
 ghost use Rattle.formula.specs.Scans.{Scans};
 
 pub enum Scanned {
+    // Every byte is one that a formula over n settings may have.
     Clean,
+    // The byte at this place is none that a formula has, and all before it are clean.
     Stray(usize),
+    // The letter at this place is at or past n, and all before it are clean.
     Past(usize),
 }
 
+// A letter, a to g.
 pub fn is_letter(c: u8) -> bool
     ensures { λ r. ⌜ r ≡ isLetter c ⌝ }
 {
@@ -44,6 +48,7 @@ fn is_sign(c: u8) -> bool
     c == b')'
 }
 
+// A byte that no formula has.
 fn is_stray(c: u8) -> bool
     ensures { λ r. ⌜ r ≡ isStray c ⌝ }
 {
@@ -53,6 +58,7 @@ fn is_stray(c: u8) -> bool
     !is_sign(c)
 }
 
+// A letter at or past n.
 fn is_past(n: usize, c: u8) -> bool
     ensures { λ r. ⌜ r ≡ isPast n c ⌝ }
 {

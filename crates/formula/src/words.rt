@@ -41,6 +41,7 @@ impl Words {
         }
     }
 
+    // The letter with index i, for this crate alone: a is 0, g is 6.
     pub fn letter(i: u8) -> Words
         requires { ⌜ i < 7 ⌝ }
         ensures { λ r. ⌜ Holds r (λ v. bit v i) ⌝ }
@@ -85,7 +86,7 @@ impl Words {
         }
     }
 
-    // No bit past 2^n.
+    // No bit past 2^n, for this crate alone: n is at most 7.
     pub fn within(self, n: usize) -> Words
         requires { ⌜ n < 8 ⌝ }
         ensures { λ r. ⌜ Holds r (λ v. has self v && ltb v (2 ^ n)) ⌝ }

@@ -3,9 +3,9 @@
 -- Assumes nothing.
 use mathlib.Core.Path.{_≡_, refl, sym, _∙_, ap}
 use Prim.Native.Nat.{ℕ, zero, suc, _+_, _*_, _/_, _%_, _^_, _≤_, _<_}
-use native.Mathlib.Nat.{pow-zero, pow-suc, mod-lt, div-add-mod', div-lt-iff-lt-mul, div-eq-of-lt, zero-mod, mul-one, mul-assoc, add-mul, le-of-suc-le-suc, not-suc-le-zero}
+use native.Mathlib.Nat.{pow-zero, pow-suc, mod-lt, div-add-mod', div-lt-iff-lt-mul, div-eq-of-lt, zero-mod, mul-one, mul-assoc, add-mul, le-of-suc-le-suc, not-suc-le-zero, one-le-pow, pow-succ', mod-eq-of-lt}
 use native.Mathlib.Omega.{arith}
-use lib.Arith.{digits-lt, digits-div, digits-mod}
+use lib.Arith.{digits-lt, digits-div, digits-mod, mod-mul}
 use Rattle.ground.specs.Digits.{digit, put}
 use Rattle.ground.proofs.Bits.{digit-zero, digit-suc}
 
@@ -19,6 +19,15 @@ module _ {b : ℕ} (pos : 0 < b) where
   pub digit-above : (k i : ℕ) → k < b ^ i → digit b k i ≡ 0
   unfolding digit
   digit-above k i h = ap (λ (x : ℕ). x % b) (div-eq-of-lt h) ∙ zero-mod b
+
+  -- the lowest n + 1 digits: the lowest n of the number divided by the base, and the lowest digit
+  pub low-mod : (n k : ℕ) → k % b ^ suc n ≡ k / b % b ^ n * b + k % b
+  low-mod n k = rw pow-suc (mod-mul k (one-le-pow n b pos) pos)
+
+  -- the lowest n + 1 digits: the digit at place n, and the lowest n
+  pub high-mod : (n k : ℕ) → k % b ^ suc n ≡ digit b k n * b ^ n + k % b ^ n
+  unfolding digit
+  high-mod n k = rw pow-succ' (mod-mul k pos (one-le-pow n b pos))
 
   pub put-same : (k i d : ℕ) → d < b → digit b (put b k i d) i ≡ d
   unfolding put
@@ -73,6 +82,23 @@ module _ {b : ℕ} (pos : 0 < b) where
   put-sum k (suc i) d =
       let up = ap (λ (x : ℕ). x * b) (put-sum (k / b) i d) in
       simp (digit-suc, pow-suc, ← mul-assoc) (omega (arith, div-add-mod' k b, simp add-mul at up))
+
+  -- the digits below place n are those of the number modulo b ^ n
+  pub digit-mod : (n k i : ℕ) → i < n → digit b (k % b ^ n) i ≡ digit b k i
+  digit-mod zero k i h = absurd (not-suc-le-zero h)
+  digit-mod (suc n) k zero h = rw (low-mod n k, digit-zero, digit-zero) (digits-mod (k / b % b ^ n) (mod-lt k pos))
+  digit-mod (suc n) k (suc i) h =
+      rw (low-mod n k, digit-suc, digit-suc, digits-div (k / b % b ^ n) (mod-lt k pos))
+      (digit-mod n (k / b) i (le-of-suc-le-suc h))
+
+  -- a digit put in front of a number of n digits: the digit at place n, and those below it
+  pub digit-top : (n x y : ℕ) → x < b ^ n → y < b → digit b (y * b ^ n + x) n ≡ y
+  unfolding digit
+  digit-top n x y h l = ap (λ (z : ℕ). z % b) (digits-div y h) ∙ mod-eq-of-lt l
+
+  pub digit-low : (n x y i : ℕ) → x < b ^ n → i < n → digit b (y * b ^ n + x) i ≡ digit b x i
+  digit-low n x y i h l =
+      sym (digit-mod n (y * b ^ n + x) i l) ∙ ap (λ (z : ℕ). digit b z i) (digits-mod y h)
 
   -- numbers of n digits with the same digits are the same
   pub same-digits : (n k l : ℕ) → k < b ^ n → l < b ^ n → ((i : ℕ) → i < n → digit b k i ≡ digit b l i) → k ≡ l

@@ -1,4 +1,4 @@
--- Tests over all numbers below n, as computed answers.
+-- Tests over all numbers below n, as computed answers, and the least number with a property.
 use Prim.Native.Nat.{ℕ, zero, suc, _<_}
 use mathlib.Core.Bool.{Bool, true, false, _&&_, _||_}
 

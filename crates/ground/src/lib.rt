@@ -11,10 +11,14 @@ pub struct Start(pub u8);
 // A valuation of the settings as they are now: bit i is setting i.
 pub struct Present(pub u8);
 
-// The bytes of one formula's table.
+// The most settings: "Settings n: 1 to 7".
+pub const SETTINGS_MOST: usize = 7;
+
+// The bytes of one formula's table: "A formula's table is 16 bytes".
 pub const TABLE: usize = 16;
 
-// Bit v of the table that begins at byte `from`; bytes that are not there count as 0.
+// Bit v of the bytes from `from` on, lowest first; bytes that are not there count as 0. A table has
+// the bits below 128.
 fn truth_at(bytes: &[u8], from: usize, v: u8) -> bool
     ensures { λ r. ⌜ r ≡ truth (drop from (now (bytes .entry))) v ⌝ }
 {

@@ -1,13 +1,14 @@
 -- The laws of the seven digits: each is a test that antt computes at all seven rows of the table.
 use mathlib.Core.Path.{_≡_, refl, sym, ap, _∙_}
+use mathlib.Core.Logic.{_⊎_, inl, inr}
 use mathlib.Core.Bool.{Bool, true, false, _||_}
 use Prim.Native.Nat.{ℕ, _%_, _≤_, _<_}
 use native.Mathlib.Omega.{arith}
-use lib.Dec.{T, eqb, ltb, leb, eqb→eq, ltb→lt}
+use lib.Dec.{T, eqb, ltb, eqb→eq, ltb→lt, lit<}
 use borrow.Author.Tests.{ne-eqb, le-ltb}
 use lib.ListN.{getD, List·getD-eq-default}
 use Rattle.ground.specs.Search.{all}
-use Rattle.ground.proofs.Bools.{and-left, and-right, eq→eqb}
+use Rattle.ground.proofs.Bools.{lt-or-ge}
 use Rattle.ground.proofs.Search.{all-at}
 use Rattle.knowledge.specs.Fits.{implies}
 use Rattle.knowledge.specs.Seven.{unknown, told, rows, rowOf, startOf, nowOf, afterSet, afterLook, firstDigit}
@@ -40,6 +41,69 @@ pub start-set : (d : ℕ) (b : Bool) → d < 7 → startOf (afterSet d b) ≡ st
 unfolding all startOf afterSet
 start-set d false h = at-digit (λ d. startOf (afterSet d false)) startOf tt d h
 start-set d true h = at-digit (λ d. startOf (afterSet d true)) startOf tt d h
+
+-- every digit is a digit, and every side one of three
+pub set-lt : (d : ℕ) (b : Bool) → d < 7 → afterSet d b < 7
+unfolding all afterSet
+set-lt d false h = ltb→lt (afterSet d false) 7 (all-at 7 (λ d. ltb (afterSet d false) 7) tt d h)
+set-lt d true h = ltb→lt (afterSet d true) 7 (all-at 7 (λ d. ltb (afterSet d true) 7) tt d h)
+
+pub look-lt : (b : Bool) → afterLook b < 7
+unfolding afterLook
+look-lt false = lit< tt
+look-lt true = lit< tt
+
+pub first-lt : (known value : Bool) → firstDigit known value < 7
+unfolding firstDigit
+first-lt false value = lit< tt
+first-lt true false = lit< tt
+first-lt true true = lit< tt
+
+pub now-lt : (d : ℕ) → nowOf d < 3
+unfolding all nowOf
+now-lt d = elim (lt-or-ge d 7) [
+  | inl h ↦ ltb→lt (nowOf d) 3 (all-at 7 (λ d. ltb (nowOf d) 3) tt d h)
+  | inr h ↦ rw (now-past d h) (lit< tt)
+]
+
+pub start-lt : (d : ℕ) → startOf d < 3
+unfolding all startOf
+start-lt d = elim (lt-or-ge d 7) [
+  | inl h ↦ ltb→lt (startOf d) 3 (all-at 7 (λ d. ltb (startOf d) 3) tt d h)
+  | inr h ↦ rw (start-past d h) (lit< tt)
+]
+
+-- after a look both values are known to be what was seen
+pub now-look : (b : Bool) → nowOf (afterLook b) ≡ told b
+unfolding nowOf afterLook
+now-look false = refl
+now-look true = refl
+
+pub start-look : (b : Bool) → startOf (afterLook b) ≡ told b
+unfolding startOf afterLook
+start-look false = refl
+start-look true = refl
+
+-- digit 0 alone leaves the present value unknown, and a set never leaves it so
+pub now-unknown : (d : ℕ) → d < 7 → nowOf d ≡ unknown → d ≡ 0
+unfolding all nowOf
+now-unknown d h e =
+    eqb→eq d 0 (rw e at (all-at 7 (λ d. implies (eqb (nowOf d) 0) (eqb d 0)) tt d h))
+
+pub set-known : (d : ℕ) (b : Bool) → d < 7 → afterSet d b ≡ 0 → ⊥
+unfolding nowOf
+set-known d false h e = let z : _≡_ {A = ℕ} 0 1 = sym (ap nowOf e) ∙ now-set d false h in omega arith
+set-known d true h e = let z : _≡_ {A = ℕ} 0 2 = sym (ap nowOf e) ∙ now-set d true h in omega arith
+
+pub look-known : (b : Bool) → afterLook b ≡ 0 → ⊥
+unfolding nowOf
+look-known false e = let z : _≡_ {A = ℕ} 0 1 = sym (ap nowOf e) ∙ now-look false in omega arith
+look-known true e = let z : _≡_ {A = ℕ} 0 2 = sym (ap nowOf e) ∙ now-look true in omega arith
+
+-- where the start value is known, the present value is known too
+pub start-then-now : (d : ℕ) → d < 7 → nowOf d ≡ unknown → startOf d ≡ unknown
+unfolding startOf
+start-then-now d h e = rw (now-unknown d h e)
 
 -- what is known at the start has the digit of a look
 pub first-known : (b : Bool) → firstDigit true b ≡ afterLook b

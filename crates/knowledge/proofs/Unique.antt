@@ -1,15 +1,69 @@
--- Any two results that a public function's contract allows are equal.
+-- Every public function's contract determines its result: any two results that it allows for the same arguments are equal. Each
+-- theorem speaks of the function's own contract, as the check reads it: `Post` at the lifetimes, the arguments, the result and the
+-- arguments at exit. No function here writes to what it is lent, so the result is all there is to determine.
 use mathlib.Core.Path.{_≡_, sym, _∙_}
-use mathlib.Core.List.{List}
-use Prim.Native.Nat.{ℕ}
-use borrow.Fn.Kind.{PK}
-use borrow.Fn.Kinds.{Out}
-use Rattle.knowledge.proofs.act.act_of.Reads as act-of
-use Rattle.knowledge.proofs.state.Knowledge.known_to_hold.Reads as known-to-hold
+use Rattle.knowledge.specs.declared.state.Knowledge.{Knowledge}
 use Rattle.knowledge.proofs.state.Knowledge.from_number.Reads as from-number
+use Rattle.knowledge.proofs.state.Knowledge.at_start.Reads as at-start
+use Rattle.knowledge.proofs.state.Knowledge.number.Reads as number
+use Rattle.knowledge.proofs.state.Knowledge.digit.Reads as digit
+use Rattle.knowledge.proofs.state.Knowledge.after_set.Reads as after-set
+use Rattle.knowledge.proofs.state.Knowledge.after_look.Reads as after-look
+use Rattle.knowledge.proofs.state.Knowledge.fits_present.Reads as fits-present
+use Rattle.knowledge.proofs.state.Knowledge.fits_start.Reads as fits-start
+use Rattle.knowledge.proofs.state.Knowledge.known_to_hold.Reads as known-to-hold
+use Rattle.knowledge.proofs.state.Knowledge.learn_settled.Reads as learn-settled
+use Rattle.knowledge.proofs.act.Act.of_byte.Reads as of-byte
+use Rattle.knowledge.proofs.act.Act.byte.Reads as byte
+use Rattle.knowledge.proofs.act.Act.offered.Reads as offered
+use Rattle.knowledge.proofs.state.Knowledge.permits.Reads as permits
+use Rattle.knowledge.proofs.state.Knowledge.allows.Reads as allows
 
-act-of-only : (κs : _) (a : _) (x y : _) (s : _) → act-of.Post κs a x s → act-of.Post κs a y s → x ≡ y
-act-of-only κs a x y s p q = p ∙ sym q
+-- two states with the same digits are the same state
+same-state : {x y : Knowledge} → x .digits ≡ y .digits → x ≡ y
+same-state p = λ i. record { digits = p i }
 
-known-to-hold-only : (κs : _) (a : _) (x y : _) (s : _) → known-to-hold.Post κs a x s → known-to-hold.Post κs a y s → x ≡ y
-known-to-hold-only κs a x y s p q = p ∙ sym q
+pub from-number-unique : (κs : _) (a : _) (x y : _) (s : _) → from-number.Post κs a x s → from-number.Post κs a y s → x ≡ y
+from-number-unique κs a x y s p q = same-state (p ∙ sym q)
+
+pub at-start-unique : (κs : _) (a : _) (x y : _) (s : _) → at-start.Post κs a x s → at-start.Post κs a y s → x ≡ y
+at-start-unique κs a x y s p q = same-state (p ∙ sym q)
+
+pub number-unique : (κs : _) (a : _) (x y : _) (s : _) → number.Post κs a x s → number.Post κs a y s → x ≡ y
+number-unique κs a x y s p q = p ∙ sym q
+
+pub digit-unique : (κs : _) (a : _) (x y : _) (s : _) → digit.Post κs a x s → digit.Post κs a y s → x ≡ y
+digit-unique κs a x y s p q = p ∙ sym q
+
+pub after-set-unique : (κs : _) (a : _) (x y : _) (s : _) → after-set.Post κs a x s → after-set.Post κs a y s → x ≡ y
+after-set-unique κs a x y s p q = same-state (p ∙ sym q)
+
+pub after-look-unique : (κs : _) (a : _) (x y : _) (s : _) → after-look.Post κs a x s → after-look.Post κs a y s → x ≡ y
+after-look-unique κs a x y s p q = same-state (p ∙ sym q)
+
+pub fits-present-unique : (κs : _) (a : _) (x y : _) (s : _) → fits-present.Post κs a x s → fits-present.Post κs a y s → x ≡ y
+fits-present-unique κs a x y s p q = p ∙ sym q
+
+pub fits-start-unique : (κs : _) (a : _) (x y : _) (s : _) → fits-start.Post κs a x s → fits-start.Post κs a y s → x ≡ y
+fits-start-unique κs a x y s p q = p ∙ sym q
+
+pub known-to-hold-unique : (κs : _) (a : _) (x y : _) (s : _) → known-to-hold.Post κs a x s → known-to-hold.Post κs a y s → x ≡ y
+known-to-hold-unique κs a x y s p q = p ∙ sym q
+
+pub learn-settled-unique : (κs : _) (a : _) (x y : _) (s : _) → learn-settled.Post κs a x s → learn-settled.Post κs a y s → x ≡ y
+learn-settled-unique κs a x y s p q = p ∙ sym q
+
+pub of-byte-unique : (κs : _) (a : _) (x y : _) (s : _) → of-byte.Post κs a x s → of-byte.Post κs a y s → x ≡ y
+of-byte-unique κs a x y s p q = p ∙ sym q
+
+pub byte-unique : (κs : _) (a : _) (x y : _) (s : _) → byte.Post κs a x s → byte.Post κs a y s → x ≡ y
+byte-unique κs a x y s p q = p ∙ sym q
+
+pub offered-unique : (κs : _) (a : _) (x y : _) (s : _) → offered.Post κs a x s → offered.Post κs a y s → x ≡ y
+offered-unique κs a x y s p q = p ∙ sym q
+
+pub permits-unique : (κs : _) (a : _) (x y : _) (s : _) → permits.Post κs a x s → permits.Post κs a y s → x ≡ y
+permits-unique κs a x y s p q = p ∙ sym q
+
+pub allows-unique : (κs : _) (a : _) (x y : _) (s : _) → allows.Post κs a x s → allows.Post κs a y s → x ≡ y
+allows-unique κs a x y s p q = p ∙ sym q

@@ -33,13 +33,21 @@ kindOf (Look i q) = 2
 unfoldable pub byteOf : Act → ℕ
 byteOf a = 1 + (kindOf a * 7 + settingOf a) * 8 + postOf a
 
+abbrev pub orNone : Bool → ℕ → ℕ
+orNone true byte = byte
+orNone false byte = 0
+
+-- the byte of an act on one of the seven settings by one of the eight posts, and 0, which names no act, for any other
+unfoldable pub planByte : Act → ℕ
+planByte a = orNone (ltb (settingOf a) 7 && ltb (postOf a) 8) (byteOf a)
+
 -- the act of a kind, a setting and a post
 abbrev pub ofKind : ℕ → ℕ → ℕ → Act
 ofKind zero i q = Set i q false
 ofKind (suc zero) i q = Set i q true
 ofKind (suc (suc kind)) i q = Look i q
 
-abbrev named : Bool → Act → Named
+abbrev pub named : Bool → Act → Named
 named true a = One a
 named false a = Nothing
 

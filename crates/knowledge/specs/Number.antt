@@ -9,10 +9,14 @@ use Rattle.knowledge.specs.Seven.{firstDigit}
 abbrev pub digitIn : List ℕ → ℕ → ℕ
 digitIn digits i = getD digits i 0
 
+-- the sum of digit × b^i, for i below n
+unfoldable pub sumOf : ℕ → ℕ → (ℕ → ℕ) → ℕ
+sumOf b zero d = 0
+sumOf b (suc n) d = sumOf b n d + d n * b ^ n
+
 -- "The knowledge number is the sum of digit × 7^i", over the first n settings
-unfoldable pub numberOf : ℕ → (ℕ → ℕ) → ℕ
-numberOf zero d = 0
-numberOf (suc n) d = numberOf n d + d n * 7 ^ n
+abbrev pub numberOf : ℕ → (ℕ → ℕ) → ℕ
+numberOf n d = sumOf 7 n d
 
 -- the digits of the seven settings in a knowledge number
 unfoldable pub digitsOf : ℕ → List ℕ

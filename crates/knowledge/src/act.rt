@@ -4,10 +4,11 @@ use crate::state::Knowledge;
 use book::Right;
 ghost use mathlib.Core.Path.{_≡_};
 ghost use mathlib.Core.Bool.{_&&_};
+ghost use Prim.Native.Nat.{_+_, _*_, _≤_};
 ghost use lib.Dec.{ltb, leb};
 ghost use Rattle.ground.specs.Digits.{bit};
 ghost use Rattle.knowledge.specs.Number.{digitIn};
-ghost use Rattle.knowledge.specs.Acts.{ofKind, byteOf, actOf, offered, permitted, allowed};
+ghost use Rattle.knowledge.specs.Acts.{ofKind, orNone, planByte, actOf, offered, permitted, allowed};
 
 // An act, by a post, on a setting: each by its index.
 pub enum Act {
@@ -45,18 +46,18 @@ fn of_kind(kind: u8, setting: u8, post: u8) -> Act
     Act::Look { setting, post }
 }
 
-// The act that a byte names.
-pub fn act_of(byte: u8) -> Named
-    ensures { λ r. ⌜ r ≡ actOf byte ⌝ }
+// The byte of an act of this kind, 0 past the seven settings or the eight posts.
+fn byte_of(kind: u8, setting: u8, post: u8) -> u8
+    requires { ⌜ kind ≤ 2 ⌝ }
+    ensures { λ r. ⌜ r ≡ orNone (ltb setting 7 && ltb post 8) (1 + (kind * 7 + setting) * 8 + post) ⌝ }
 {
-    if byte == 0 {
-        return Named::Nothing;
+    if 7 <= setting {
+        return 0;
     }
-    if 168 < byte {
-        return Named::Nothing;
+    if 8 <= post {
+        return 0;
     }
-    let place = byte - 1;
-    Named::One(of_kind(place / 56, place / 8 % 7, place % 8))
+    1 + (kind * 7 + setting) * 8 + post
 }
 
 // Whether a book of n settings has the setting and the team has the post.
@@ -70,10 +71,23 @@ fn offers(n: u8, team: u8, setting: u8, post: u8) -> bool
 }
 
 impl Act {
-    // The act's byte; a setting past the seven or a post past the eight gives a number that is no byte
-    // of a plan.
-    pub fn byte(self) -> u16
-        ensures { λ r. ⌜ r ≡ byteOf self ⌝ }
+    // The act that a byte names.
+    pub fn of_byte(byte: u8) -> Named
+        ensures { λ r. ⌜ r ≡ actOf byte ⌝ }
+    {
+        if byte == 0 {
+            return Named::Nothing;
+        }
+        if 168 < byte {
+            return Named::Nothing;
+        }
+        let place = byte - 1;
+        Named::One(of_kind(place / 56, place / 8 % 7, place % 8))
+    }
+
+    // The act's byte; 0, which names no act, for a setting past the seven or a post past the eight.
+    pub fn byte(self) -> u8
+        ensures { λ r. ⌜ r ≡ planByte self ⌝ }
     {
         match self {
             Act::Set {
@@ -82,12 +96,12 @@ impl Act {
                 value,
             } => {
                 if value {
-                    1 + (7 + setting as u16) * 8 + post as u16
+                    byte_of(1, setting, post)
                 } else {
-                    1 + (setting as u16) * 8 + post as u16
+                    byte_of(0, setting, post)
                 }
             }
-            Act::Look { setting, post } => 1 + (14 + setting as u16) * 8 + post as u16,
+            Act::Look { setting, post } => byte_of(2, setting, post),
         }
     }
 

@@ -81,7 +81,7 @@ impl Knowledge {
     pub fn known_to_hold(self, n: u8, bytes: &[u8], from: usize) -> bool
         ensures { λ r. ⌜ r ≡ leb n 7 && known n (digitIn (self .digits)) (drop from (now (bytes .entry))) ⌝ }
     {
-        if n <= 7 {
+        if n as usize <= Knowledge::MOST {
             return true_now(self, n, bytes, from);
         }
         false
@@ -92,7 +92,7 @@ impl Knowledge {
     pub fn learn_settled(self, n: u8, bytes: &[u8], from: usize) -> bool
         ensures { λ r. ⌜ r ≡ leb n 7 && learnSettled n (digitIn (self .digits)) (drop from (now (bytes .entry))) ⌝ }
     {
-        if 7 < n {
+        if Knowledge::MOST < n as usize {
             return false;
         }
         if has_at_start(self, n, bytes, from, true) {

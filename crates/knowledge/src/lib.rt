@@ -10,5 +10,4 @@ mod valuation;
 
 pub use act::Act;
 pub use act::Named;
-pub use act::act_of;
 pub use state::Knowledge;

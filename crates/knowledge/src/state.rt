@@ -9,7 +9,7 @@ ghost use Rattle.knowledge.specs.Number.{digitIn, numberOf, digitsOf, fi
 
 // What a team knows: the digit of each setting.
 pub struct Knowledge {
-    digits: [u8; 7],
+    digits: [u8; Knowledge::MOST],
 }
 
 // A digit's part of the knowledge number, at most that of the seventh setting.

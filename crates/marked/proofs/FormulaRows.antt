@@ -14,7 +14,7 @@ use Rattle.formula.specs.Automaton.{isAtom, step, verdict}
 use Rattle.formula.specs.declared.Refusal.{Refusal}
 use Rattle.formula.specs.declared.Refusal.the-variants.{LetterPast, NotSentence}
 use Rattle.formula.specs.declared.Answer.{Answer}
-use Rattle.formula.specs.declared.Answer.the-variants.{Table, Refused}
+use Rattle.formula.specs.declared.Answer.the-variants.{Accepted, Refused}
 use Rattle.formula.proofs.Computed.{foreign, bounds, clean, tabled, accepted, broken-at, letter-past-at}
 use Rattle.formula.proofs.Unique.{read-unique}
 use Rattle.marked.specs.Row.{Only, Holds, reads, refuses}
@@ -37,13 +37,13 @@ pub p1 : Holds (reads 3 "a|b&~c" 174)
 unfolding bounds clean foreign isStray isPast isLetter isSign all tabled truth bit digit meaning text at first
 p1 = (
   first 174,
-  only Table (first 174) (accepted 3 (bytes "a|b&~c") tt tt (product-or (one-unit (at 0 tt)) (one-product (unit-and (at 1 tt) (one-unit (negated (at 2 tt)))))) refl (first 174) refl tt),
+  only Accepted (first 174) (accepted 3 (bytes "a|b&~c") tt tt (product-or (one-unit (at 0 tt)) (one-product (unit-and (at 1 tt) (one-unit (negated (at 2 tt)))))) refl (first 174) refl tt),
   refl,
 )
 
 pub p2 : Holds (reads 2 "~a&b" 4)
 unfolding bounds clean foreign isStray isPast isLetter isSign all tabled truth bit digit meaning text at first
-p2 = (first 4, only Table (first 4) (accepted 2 (bytes "~a&b") tt tt (one-product (unit-and (negated (at 0 tt)) (one-unit (at 1 tt)))) refl (first 4) refl tt), refl)
+p2 = (first 4, only Accepted (first 4) (accepted 2 (bytes "~a&b") tt tt (one-product (unit-and (negated (at 0 tt)) (one-unit (at 1 tt)))) refl (first 4) refl tt), refl)
 
 pub p3 : Holds (refuses 1 "a&" 4 2)
 unfolding bounds clean foreign isStray isPast isLetter isSign all verdict step isAtom

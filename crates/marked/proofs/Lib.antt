@@ -1,3 +1,4 @@
 -- The marked examples, proved.
 pub mod FormulaRows
+pub mod BookRows
 pub mod Marked

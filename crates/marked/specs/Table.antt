@@ -1,6 +1,7 @@
 -- Paper 01, "Marked examples and near misses", as one table. It grows with the crates; the theorem is `marked` of proofs/Marked.
 use mathlib.Core.List.{List, [], _∷_}
-use Rattle.marked.specs.Row.{Row, reads, refuses}
+use lib.ListN.{replicate}
+use Rattle.marked.specs.Row.{Row, reads, refuses, sums}
 
 abbrev pub examples : List Row
 examples =
@@ -14,4 +15,7 @@ examples =
     ∷ refuses 1 "a)" 4 1
     -- P5 `c`, n = 2: 3 at 0
     ∷ refuses 2 "c" 3 0
+    -- P13 check of 508 zero bytes: 1 and 508; of 508 bytes 255: 64005 and 3830
+    ∷ sums (replicate 508 0) 1 508
+    ∷ sums (replicate 508 255) 64005 3830
     ∷ []

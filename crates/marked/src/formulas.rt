@@ -1,13 +1,7 @@
 // The formula reader's examples: P1 to P5, and texts of 255 and 256 bytes.
+use crate::say::say;
+use crate::say::say_number;
 use formula::Answer;
-
-fn say(text: &[u8]) {
-    io::write_all(1, text);
-}
-
-fn say_number(x: u64) {
-    io::print_decimal(1, x);
-}
 
 // One line: the example's name, then byte 0 of the table or the refusal.
 fn show(name: &[u8], n: usize, text: &[u8]) {
@@ -16,7 +10,7 @@ fn show(name: &[u8], n: usize, text: &[u8]) {
     let answer = reading.answer;
     let table = reading.table;
     match answer {
-        Answer::Table => {
+        Answer::Accepted => {
             say(b" byte 0 is ");
             say_number(table[0] as u64);
         }

@@ -1,5 +1,6 @@
 -- `knowledge::digit::start_side` meets its contract: the digits stand in the order of what they tell of the start.
 use mathlib.Core.Path.{sym}
+use native.Mathlib.Omega.{arith}
 use Rattle.knowledge.proofs.Seven.{start-low, start-middle, start-high, start-past}
 use Rattle.knowledge.proofs.digit.start_side.Statement.{statement}
 use Rattle.knowledge.proofs.digit.start_side.Tie as tie
@@ -8,10 +9,10 @@ returns : tie.Need-returns
 returns c = sym (start-low _ (c .if1 .taken))
 
 returns-2 : tie.Need-returns-2
-returns-2 c = sym (start-middle _ (c .before .if1 .left) (c .if2 .taken))
+returns-2 c = sym (start-middle (c .before .before .args .digit) (omega arith) (omega arith))
 
 returns-3 : tie.Need-returns-3
-returns-3 c = sym (start-high _ (c .before .if2 .left) (c .if3 .taken))
+returns-3 c = sym (start-high (c .before .before .before .args .digit) (omega arith) (omega arith))
 
 returns-4 : tie.Need-returns-4
 returns-4 c = sym (start-past _ (c .if3 .left))

@@ -1,7 +1,7 @@
 -- `knowledge::Knowledge::number` meets its contract: seven bytes, each times its power, have a sum that fits.
 use borrow.Author.Needs.{needs}
 use native.Mathlib.Omega.{arith}
-use Rattle.knowledge.specs.Number.{numberOf}
+use Rattle.knowledge.specs.Number.{sumOf}
 use Rattle.knowledge.proofs.state.Knowledge.number.Statement.{statement}
 use Rattle.knowledge.proofs.state.Knowledge.number.Tie as tie
 
@@ -66,7 +66,7 @@ add-result-3 : tie.Need-add-result-3
 add-result-3 c = omega arith
 
 returns : tie.Need-returns
-unfolding numberOf
+unfolding sumOf
 returns c = omega arith
 
 pub number-spec : {M : Type 1} → statement M

@@ -2,7 +2,7 @@
 use borrow.Author.Needs.{needs}
 use mathlib.Core.Path.{sym, _∙_}
 use Rattle.knowledge.specs.Number.{digitIn}
-use Rattle.knowledge.proofs.Acts.{set-permitted, look-permitted, look-refused}
+use Rattle.knowledge.proofs.Allowed.{set-permitted, look-permitted, look-refused}
 use Rattle.knowledge.proofs.state.Knowledge.permits.Statement.{statement}
 use Rattle.knowledge.proofs.state.Knowledge.permits.Tie as tie
 

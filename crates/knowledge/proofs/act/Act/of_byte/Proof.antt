@@ -1,12 +1,12 @@
--- `knowledge::act::act_of` meets its contract: by the tests of the byte.
+-- `knowledge::Act::of_byte` meets its contract: by the tests of the byte.
 use borrow.Author.Needs.{needs}
 use mathlib.Core.Path.{ap}
 use native.Mathlib.Omega.{arith}
 use borrow.Author.Tests.{lt-ltb, le-leb, lt-leb}
 use Rattle.knowledge.specs.Acts.{actOf}
 use Rattle.knowledge.specs.declared.act.Named.the-variants.{One}
-use Rattle.knowledge.proofs.act.act_of.Statement.{statement}
-use Rattle.knowledge.proofs.act.act_of.Tie as tie
+use Rattle.knowledge.proofs.act.Act.of_byte.Statement.{statement}
+use Rattle.knowledge.proofs.act.Act.of_byte.Tie as tie
 
 returns : tie.Need-returns
 unfolding actOf
@@ -28,5 +28,5 @@ unfolding actOf
 returns-3 c =
     rw (lt-ltb 0 (c .before .before .before .args .byte) (omega arith), le-leb _ 168 (c .before .if2 .left)) (ap One (c .of-kind .ensures))
 
-pub act-of-spec : {M : Type 1} → statement M
-act-of-spec = tie.close (tie.spec returns returns-2 sub-place of-kind-requires returns-3)
+pub of-byte-spec : {M : Type 1} → statement M
+of-byte-spec = tie.close (tie.spec returns returns-2 sub-place of-kind-requires returns-3)

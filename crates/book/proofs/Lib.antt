@@ -1,0 +1,16 @@
+-- Laws that belong to no one function, and the theorems that others cite.
+pub mod Lists
+pub mod Bits
+pub mod Answers
+pub mod OrderLaws
+pub mod CheckLaws
+pub mod StrayLaws
+pub mod BookLaws
+pub mod WriteLaws
+pub mod BlockLaws
+pub mod RefusalLaws
+pub mod SoundLaws
+pub mod RoundTrip
+pub mod RuleLaws
+pub mod Theorems
+pub mod Small

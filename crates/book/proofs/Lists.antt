@@ -1,0 +1,108 @@
+-- Runs of bytes written one after the other: `sets` composes along `++`, and what was written is read back. By induction on the first run.
+use mathlib.Core.Path.{_≡_, refl, sym, ap, ap₂, _∙_, subst}
+use mathlib.Core.List.{List, [], _∷_, _++_, append-assoc}
+use mathlib.Core.Logic.{⊎-elim}
+use Prim.Native.Nat.{ℕ, zero, suc, _+_, _*_, _≤_, _<_}
+use native.Mathlib.Nat.{add-zero, add-suc, suc-add, zero-add, mul-zero, mul-suc, mul-le-mul-left, le-of-eq, not-suc-le-zero}
+use native.Mathlib.Omega.{arith}
+use native.Mathlib.Numerals.{add-one}
+use lib.ListN.{length, getD, take, drop, set, length-take, length-drop, length-append, List·getD-append}
+use lib.Seq.{ext-getD, sets, sets-eq, length-take-le, take-all, take-suc, take-add, take-append-le, drop-append-le, drop-at, getD-append-add, getD-take, getD-drop}
+use Rattle.book.specs.Block.{inOrder}
+use Rattle.ground.proofs.Bools.{lt-or-ge}
+
+pub sets-append : (l : List ℕ) (i : ℕ) (a b : List ℕ) → sets l i (a ++ b) ≡ sets (sets l i a) (i + length a) b
+sets-append l i [] b = rw add-zero
+sets-append l i (x ∷ a) b = rw (add-suc, ← suc-add) (sets-append (set l i x) (suc i) a b)
+
+-- a run of k bytes, and one byte more
+pub sets-snoc : (l : List ℕ) (i : ℕ) (a : List ℕ) (k v : ℕ) → length a ≡ k → set (sets l i a) (i + k) v ≡ sets l i (a ++ v ∷ [])
+sets-snoc l i a k v e = ap (λ (n : ℕ). set (sets l i a) (i + n) v) (sym e) ∙ sym (sets-append l i a (v ∷ []))
+
+-- what was written is there
+pub getD-sets : (l : List ℕ) (i : ℕ) (vs : List ℕ) (j : ℕ) → i + length vs ≤ length l → j < length vs → getD (sets l i vs) (i + j) 0 ≡ getD vs j 0
+getD-sets l i vs j h k =
+    let e : length (take i l) ≡ i = length-take-le i l (omega arith) in
+    ap (λ (s : List ℕ). getD s (i + j) 0) (sets-eq vs l i h ∙ append-assoc (take i l) vs (drop (i + length vs) l))
+    ∙ ap (λ (n : ℕ). getD (take i l ++ (vs ++ drop (i + length vs) l)) (n + j) 0) (sym e)
+    ∙ getD-append-add (take i l) (vs ++ drop (i + length vs) l) j 0
+    ∙ List·getD-append vs (drop (i + length vs) l) 0 j k
+
+-- a run from the start of a room: the run, and then what the room held past it
+pub sets-front : (l vs : List ℕ) → length vs ≤ length l → sets l 0 vs ≡ vs ++ drop (length vs) l
+sets-front l vs h = sets-eq vs l 0 (omega arith) ∙ rw zero-add
+
+-- byte j of a part
+pub getD-part : (l : List ℕ) (from n j : ℕ) → j < n → getD (take n (drop from l)) j 0 ≡ getD l (from + j) 0
+getD-part l from n j h = getD-take n (drop from l) j 0 h ∙ getD-drop from l j 0
+
+-- one turn of a loop that writes `text` byte by byte, and its end
+pub write-step : (room₀ room text : List ℕ) (to i v : ℕ) → i < length text → getD text i 0 ≡ v → room ≡ sets room₀ to (take i text) → set room (to + i) v ≡ sets room₀ to (take (i + 1) text)
+write-step room₀ room text to i v h e inv =
+    ap (λ (s : List ℕ). set s (to + i) v) inv
+    ∙ sets-snoc room₀ to (take i text) i v (length-take-le i text (omega arith))
+    ∙ ap (λ (x : ℕ). sets room₀ to (take i text ++ x ∷ [])) (sym e)
+    ∙ ap (sets room₀ to) (sym (take-suc text i 0 h) ∙ ap (λ (k : ℕ). take k text) (sym (add-one i)))
+
+pub write-done : (room₀ room text : List ℕ) (to i : ℕ) → length text ≤ i → room ≡ sets room₀ to (take i text) → room ≡ sets room₀ to text
+write-done room₀ room text to i h inv = inv ∙ ap (sets room₀ to) (take-all i text h)
+
+-- the length of a part that is there
+pub length-part : (l : List ℕ) (from n : ℕ) → from + n ≤ length l → length (take n (drop from l)) ≡ n
+length-part l from n h = simp (length-take, length-drop) (omega arith)
+
+-- two parts are equal where their bytes are
+pub part-same : (a b : List ℕ) (i j w : ℕ) → i + w ≤ length a → j + w ≤ length b → ((o : ℕ) → o < w → getD a (i + o) 0 ≡ getD b (j + o) 0) → take w (drop i a) ≡ take w (drop j b)
+part-same a b i j w ha hb same =
+    let la : length (take w (drop i a)) ≡ w = length-part a i w ha in
+    let lb : length (take w (drop j b)) ≡ w = length-part b j w hb in
+    ext-getD 0 _ _ (la ∙ sym lb)
+    (λ o k.
+    let low : o < w = subst (λ n. o < n) la k in
+    getD-part a i w o low ∙ same o low ∙ sym (getD-part b j w o low))
+
+-- ---- lists in order
+
+module _ (f : ℕ → List ℕ) (w : ℕ) where
+  pub length-inOrder : (n : ℕ) → ((i : ℕ) → i < n → length (f i) ≡ w) → length (inOrder f n) ≡ w * n
+  unfolding inOrder
+  length-inOrder zero e = sym (mul-zero w)
+  length-inOrder (suc n) e =
+      length-append (inOrder f n) (f n)
+      ∙ ap₂ _+_ (length-inOrder n (λ i h. e i (omega arith))) (e n (omega arith))
+      ∙ sym (mul-suc w n)
+
+  -- part i of them is the i-th
+  pub part-inOrder : (n : ℕ) → ((i : ℕ) → i < n → length (f i) ≡ w) → (i : ℕ) → i < n → take w (drop (w * i) (inOrder f n)) ≡ f i
+  unfolding inOrder
+  part-inOrder zero e i h = absurd (not-suc-le-zero h)
+  part-inOrder (suc n) e i h =
+      let a : length (inOrder f n) ≡ w * n = length-inOrder n (λ j k. e j (omega arith)) in
+      ⊎-elim
+      (λ (l : i < n).
+      let fits : w * i + w ≤ length (inOrder f n) = rw (a, ← mul-suc) (mul-le-mul-left w l) in
+      let at : w * i ≤ length (inOrder f n) = omega arith in
+      let left : w ≤ length (drop (w * i) (inOrder f n)) = rw length-drop (omega arith) in
+      ap (take w) (drop-append-le (w * i) (inOrder f n) (f n) at)
+      ∙ take-append-le w (drop (w * i) (inOrder f n)) (f n) left
+      ∙ part-inOrder n (λ j k. e j (omega arith)) i l)
+      (λ (l : n ≤ i).
+      let s : n ≡ i = omega arith in
+      ap (take w) (drop-at (inOrder f n) (f n) (w * i) (a ∙ ap (λ k. w * k) s))
+      ∙ ap (λ k. take w (f k)) s
+      ∙ take-all w (f i) (le-of-eq (e i h)))
+      (lt-or-ge i n)
+
+pub inOrder-same : (f g : ℕ → List ℕ) (n : ℕ) → ((i : ℕ) → i < n → f i ≡ g i) → inOrder f n ≡ inOrder g n
+unfolding inOrder
+inOrder-same f g zero e = refl
+inOrder-same f g (suc n) e = ap₂ _++_ (inOrder-same f g n (λ i h. e i (omega arith))) (e n (omega arith))
+
+-- a list's own parts, in order
+pub inOrder-parts : (l : List ℕ) (w n : ℕ) → inOrder (λ i. take w (drop (w * i) l)) n ≡ take (w * n) l
+unfolding inOrder
+inOrder-parts l w zero = sym (ap (λ k. take k l) (mul-zero w))
+inOrder-parts l w (suc n) =
+    ap (λ (s : List ℕ). s ++ take w (drop (w * n) l)) (inOrder-parts l w n)
+    ∙ sym (take-add (w * n) w l)
+    ∙ ap (λ k. take k l) (sym (mul-suc w n))

@@ -1,0 +1,135 @@
+-- What is promised of the book, in one place: for each public function, that any two results that its contract allows are the same, the room
+-- included; the two round trips; what a rule of a sound book is. All for every n at once.
+use mathlib.Core.Path.{_≡_, refl, sym, ap, ap₂, _∙_, subst}
+use mathlib.Core.Bool.{Bool, true, false, cond}
+use mathlib.Core.List.{List, [], _∷_, _++_}
+use Prim.Native.Nat.{ℕ, _+_, _-_, _*_, _/_, _%_, _≤_, _<_}
+use native.Mathlib.Omega.{arith}
+use lib.Dec.{eqb}
+use lib.ListN.{length, getD, take, drop, replicate}
+use lib.Seq.{take-at, take-take, drop-drop, getD-take}
+use Rattle.ground.specs.Digits.{bit}
+use Rattle.ground.specs.Table.{truth, Within}
+use Rattle.book.specs.declared.sums.Sums.{Sums}
+use Rattle.book.specs.declared.rule.Right.{Right}
+use Rattle.book.specs.declared.refusal.Refusal.{Refusal}
+use Rattle.book.specs.declared.refusal.Refusal.the-variants.{Settings, Length, Check, Head, StrayBit, Room}
+use Rattle.book.specs.declared.reading.ReadAnswer.{ReadAnswer}
+use Rattle.book.specs.declared.reading.ReadAnswer.the-variants.{Book, Refused}
+use Rattle.book.specs.declared.writing.WriteAnswer.{WriteAnswer}
+use Rattle.book.specs.declared.writing.WriteAnswer.the-variants.{Written, Refused as NotWritten}
+use Rattle.book.specs.Block.{check, sumsAfter, added, block}
+use Rattle.book.specs.Rule.{tablePlace, table, rulePlace, rule}
+use Rattle.book.specs.Sound.{Sound, rightsOf, tablesOf}
+use Rattle.book.specs.Written.{settingBlock, bookOf, Writable}
+use Rattle.book.specs.Order.{First, Clear}
+use Rattle.book.specs.Refusals.{number, place, bookRows, readRows, writeRows}
+use Rattle.book.specs.Promise.{Judges, Reads, Writes}
+use Rattle.book.proofs.OrderLaws.{first-unique, first-clear, clear-append, none-only}
+use Rattle.book.proofs.RefusalLaws.{none-block}
+use Rattle.book.proofs.WriteLaws.{length-rights}
+use Rattle.book.proofs.SoundLaws.{sound-settings, sound-posts, sound-clear, length-book, writable-clear, read-clear}
+use Rattle.book.proofs.RoundTrip.{book-again, read-writable, written-sound, rights-again}
+
+-- ---- one result alone
+
+-- a refusal is known by its number and place
+named : ℕ → ℕ → Refusal
+named x p =
+    cond (eqb x 5) Settings (cond (eqb x 6) Length (cond (eqb x 7) (Check p) (cond (eqb x 8) Head (cond (eqb x 9) (StrayBit p) Room))))
+
+named-back : (r : Refusal) → named (number r) (place r) ≡ r
+unfolding named
+named-back Settings = refl
+named-back Length = refl
+named-back (Check k) = refl
+named-back Head = refl
+named-back (StrayBit k) = refl
+named-back Room = refl
+
+pub refusal-one : (r s : Refusal) → number r ≡ number s → place r ≡ place s → r ≡ s
+refusal-one r s x p = sym (named-back r) ∙ ap₂ named x p ∙ named-back s
+
+-- `check_of`
+pub check-one : (bytes : List ℕ) (from : ℕ) (a b : Sums) → a ≡ check (drop from bytes) → b ≡ check (drop from bytes) → a ≡ b
+check-one bytes from a b p q = p ∙ sym q
+
+-- `rule_at`
+pub rule-at-one : (setting post : ℕ) (right : Right) (a b : ℕ) → a ≡ rulePlace setting post right → b ≡ rulePlace setting post right → a ≡ b
+rule-at-one setting post right a b p q = p ∙ sym q
+
+-- a book's two numbers
+pub sound-one : {book : List ℕ} {n m k l : ℕ} → Sound book n m → Sound book k l → (n ≡ k) × (m ≡ l)
+sound-one s t = (sym (sound-settings s) ∙ sound-settings t, sym (sound-posts s) ∙ sound-posts t)
+
+-- `sound`
+pub judges-one : (book : List ℕ) (a b : ReadAnswer) → Judges book a → Judges book b → a ≡ b
+judges-one book (Book n m) (Book k l) s t = let e = sound-one s t in ap₂ Book (e .0) (e .1)
+judges-one book (Book n m) (Refused r) s f = absurd (first-clear (bookRows book) (number r) (place r) f (sound-clear s))
+judges-one book (Refused r) (Book n m) f s = absurd (first-clear (bookRows book) (number r) (place r) f (sound-clear s))
+judges-one book (Refused r) (Refused s) f g =
+    let e = first-unique (bookRows book) (number r) (number s) (place r) (place s) f g in
+    ap Refused (refusal-one r s (e .0) (e .1))
+
+-- `read`
+pub reads-one : (book room : List ℕ) (a b : ReadAnswer) (x y : List ℕ) → Reads book room a x → Reads book room b y → (a ≡ b) × (x ≡ y)
+reads-one book room (Book n m) (Book k l) x y p q =
+    let e = sound-one (p .0) (q .0) in
+    (ap₂ Book (e .0) (e .1), p .2 ∙ ap (λ i. rightsOf book i ++ drop (256 * i) room) (e .0) ∙ sym (q .2))
+reads-one book room (Book n m) (Refused r) x y p q = absurd (first-clear (readRows book room) (number r) (place r) (q .0) (read-clear room (p .0) (p .1)))
+reads-one book room (Refused r) (Book n m) x y p q = absurd (first-clear (readRows book room) (number r) (place r) (p .0) (read-clear room (q .0) (q .1)))
+reads-one book room (Refused r) (Refused s) x y p q =
+    let e = first-unique (readRows book room) (number r) (number s) (place r) (place s) (p .0) (q .0) in
+    (ap Refused (refusal-one r s (e .0) (e .1)), p .1 ∙ sym (q .1))
+
+-- `write`
+pub writes-one : (n m : ℕ) (rights room : List ℕ) (a b : WriteAnswer) (x y : List ℕ) → Writes n m rights room a x → Writes n m rights room b y → (a ≡ b) × (x ≡ y)
+writes-one n m rights room Written Written x y p q = (refl, p .2 ∙ sym (q .2))
+writes-one n m rights room Written (NotWritten r) x y p q =
+    absurd (first-clear (writeRows n m rights room) (number r) (place r) (q .0) (writable-clear room (p .0) (p .1)))
+writes-one n m rights room (NotWritten r) Written x y p q =
+    absurd (first-clear (writeRows n m rights room) (number r) (place r) (p .0) (writable-clear room (q .0) (q .1)))
+writes-one n m rights room (NotWritten r) (NotWritten s) x y p q =
+    let e = first-unique (writeRows n m rights room) (number r) (number s) (place r) (place s) (p .0) (q .0) in
+    (ap NotWritten (refusal-one r s (e .0) (e .1)), p .1 ∙ sym (q .1))
+
+-- ---- the round trips
+
+-- a book that reads, written from what was read, is the same bytes
+pub read-then-write : (book room after out : List ℕ) (n m : ℕ) (answer : WriteAnswer) (out′ : List ℕ) → ((j : ℕ) → getD book j 0 < 256)
+    → Reads book room (Book n m) after → Writes n m (take (256 * n) after) out answer out′ → 512 * (1 + n) ≤ length out
+    → (answer ≡ Written) × (out′ ≡ book ++ drop (512 * (1 + n)) out)
+read-then-write book room after out n m answer out′ byte read write h =
+    writes-one n m (take (256 * n) after) out answer Written out′ (book ++ drop (512 * (1 + n)) out) write (
+      subst (Writable n m) (sym same) (read-writable byte (read .0)),
+      h,
+      ap (λ (b : List ℕ). b ++ drop (512 * (1 + n)) out) (sym (ap (bookOf n m) same ∙ book-again byte (read .0))),
+    )
+  where
+    same : take (256 * n) after ≡ rightsOf book n
+    same = ap (take (256 * n)) (read .2) ∙ take-at (rightsOf book n) _ (256 * n) (length-rights book n (omega (arith, read .0 .size)))
+
+-- rights that are written read back as the same rights
+pub write-then-read : (n m : ℕ) (rights room after out : List ℕ) (answer : ReadAnswer) (out′ : List ℕ)
+    → Writes n m rights room Written after → Reads (take (512 * (1 + n)) after) out answer out′ → 256 * n ≤ length out
+    → (answer ≡ Book n m) × (out′ ≡ rights ++ drop (256 * n) out)
+write-then-read n m rights room after out answer out′ write read h =
+    reads-one (take (512 * (1 + n)) after) out answer (Book n m) out′ (rights ++ drop (256 * n) out) read (
+      subst (λ b. Sound b n m) (sym same) (written-sound (write .0)),
+      h,
+      ap (λ (r : List ℕ). r ++ drop (256 * n) out) (sym (ap (λ b. rightsOf b n) same ∙ rights-again (write .0))),
+    )
+  where
+    same : take (512 * (1 + n)) after ≡ bookOf n m rights
+    same = ap (take (512 * (1 + n))) (write .2) ∙ take-at (bookOf n m rights) _ (512 * (1 + n)) (length-book n m rights (write .0 .size))
+
+-- ---- P13
+
+-- "check of 508 zero bytes: 1 and 508; of 508 bytes 255: 64005 and 3830"
+pub p13-zeros : check (replicate 508 0) ≡ record { s = 1; t = 508 }
+unfolding check sumsAfter added
+p13-zeros = refl
+
+pub p13-ones : check (replicate 508 255) ≡ record { s = 64005; t = 3830 }
+unfolding check sumsAfter added
+p13-ones = refl

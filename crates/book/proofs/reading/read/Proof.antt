@@ -1,0 +1,62 @@
+-- `book::read` meets its contract: what `sound` found, then the room, then the rights in it.
+use native.Mathlib.Omega.{arith}
+use mathlib.Core.Path.{refl}
+use denote.Ref.{now}
+use Rattle.book.specs.Sound.{Sound}
+use Rattle.book.specs.Refusals.{number, place}
+use Rattle.book.proofs.SoundLaws.{judged-book, judged-refused, no-room, read-room}
+use borrow.Author.Needs.{needs}
+use Rattle.book.proofs.reading.read.Statement.{statement}
+use Rattle.book.proofs.reading.read.Tie as tie
+
+-- in the arm of a book, the book is sound
+book : (c : tie.After-known-told2) → Sound (now (c .before .before .before .before .before .before .args .book)) (c .before .answer2 .given .0 .0) (c .before .answer2 .given .0 .1 .0)
+book c = judged-book (now (c .before .before .before .before .before .before .args .book)) (c .before .before .before .sound .result) (c .before .answer2 .given .0 .0) (c .before .answer2 .given .0 .1 .0) (c .before .before .before .sound .ensures) (c .before .answer2 .given .1)
+
+sound-requires : tie.Need-sound-requires
+sound-requires c κs = search needs
+
+enum-known-answer : tie.Need-enum-known-answer
+enum-known-answer c = search needs
+
+enum-known-answer-2 : tie.Need-enum-known-answer-2
+enum-known-answer-2 c = search needs
+
+cast-n : tie.Need-cast-n
+cast-n c = search needs
+
+mul-if1 : tie.Need-mul-if1
+mul-if1 c = search needs
+
+returns : tie.Need-returns
+returns c = (no-room (now (c .before .before .before .before .before .before .before .args .room)) (book (c .before)) (c .if1 .taken), refl)
+
+copy-rights-requires : tie.Need-copy-rights-requires
+copy-rights-requires c κs = let s = book (c .before .before) in omega (arith, s .settings .most, s .size, c .before .if1)
+
+returns-2 : tie.Need-returns-2
+returns-2 c =
+    (judged-refused (now (c .before .before .before .before .before .before .args .book)) (now (c .before .before .before .before .before .before .args .room)) (c .before .before .before .sound .result) (c .before .answer .given .0 .0) (c .before .before .before .sound .ensures) (c .before .answer .given .1), refl)
+
+same-length : tie.Need-same-length
+same-length c = search needs
+
+returns-3 : tie.Need-returns-3
+returns-3 c =
+    let s = book (c .before .before .before .before .before) in
+    (s, c .before .before .before .before .if1 .left, read-room (now (c .before .before .before .before .before .before .before .before .before .before .before .args .room)) _ s (c .before .before .before .before .if1 .left) (c .before .before .copy-rights .ensures))
+
+pub read-spec : {M : Type 1} → statement M
+read-spec =
+    tie.close
+    (tie.spec
+    sound-requires
+    enum-known-answer
+    enum-known-answer-2
+    cast-n
+    mul-if1
+    returns
+    copy-rights-requires
+    returns-2
+    same-length
+    returns-3)

@@ -1,0 +1,40 @@
+-- `book::writing::write_head` meets its contract: two stores, the zeros and the check are one run of 512 bytes.
+use native.Mathlib.Omega.{arith}
+use mathlib.Core.Path.{refl, ap, _∙_}
+use mathlib.Core.List.{[], _∷_}
+use Prim.Native.Nat.{ℕ, suc}
+use denote.Ref.{now}
+use lib.ListN.{length-set, replicate, length-replicate}
+use Rattle.book.specs.Written.{headBlock}
+use Rattle.book.proofs.WriteLaws.{run-on, seal-on}
+use borrow.Author.Needs.{needs}
+use Rattle.book.proofs.writing.write_head.Statement.{statement}
+use Rattle.book.proofs.writing.write_head.Tie as tie
+
+slice-write-room : tie.Need-slice-write-room
+slice-write-room c = search needs
+
+slice-write-room-2 : tie.Need-slice-write-room-2
+slice-write-room-2 c = simp length-set (omega arith)
+
+zeros-requires : tie.Need-zeros-requires
+zeros-requires c κs = simp length-set (omega arith)
+
+seal-requires : tie.Need-seal-requires
+seal-requires c κs = rw (c .before .before .before .zeros .kept .1 .0) (simp length-set (omega (arith, c .before .before .before .before .before .before .pre)))
+
+same-length : tie.Need-same-length
+same-length c = c .before .before .seal .kept .0 ∙ c .before .before .before .before .before .before .zeros .kept .1 .0 ∙ simp length-set
+
+returns : tie.Need-returns
+unfolding headBlock
+returns c =
+    let a = c .before .before .before .before .before .before .before .before .before .args in
+    seal-on (now (a .room)) _ _ (a .n ∷ a .m ∷ replicate 506 0) 0 (ap (λ k. suc (suc k)) (length-replicate {A = ℕ} 506 0)) (c .before .before .before .before .before .before .before .before .before .pre)
+    (run-on (now (a .room)) _ _ (a .n ∷ a .m ∷ []) (replicate 506 0) 0 2 refl refl (c .before .before .before .before .before .before .zeros .ensures))
+    (c .before .before .seal .ensures)
+
+pub write-head-spec : {M : Type 1} → statement M
+write-head-spec =
+    tie.close
+    (tie.spec slice-write-room slice-write-room-2 zeros-requires seal-requires same-length returns)

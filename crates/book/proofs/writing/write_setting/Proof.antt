@@ -1,0 +1,61 @@
+-- `book::writing::write_setting` meets its contract: the tables, the zeros and the check are one run of 512 bytes.
+use native.Mathlib.Omega.{arith}
+use mathlib.Core.Path.{_≡_}
+use mathlib.Core.List.{_++_}
+use Prim.Native.Nat.{_+_, _*_}
+use denote.Ref.{now}
+use lib.ListN.{length, length-append, length-replicate, replicate}
+use Rattle.book.specs.Sound.{tablesOf}
+use Rattle.book.specs.Written.{settingBlock}
+use Rattle.book.proofs.WriteLaws.{run-on, seal-on, length-tables}
+use borrow.Author.Needs.{needs}
+use Rattle.book.proofs.writing.write_setting.Statement.{statement}
+use Rattle.book.proofs.writing.write_setting.Tie as tie
+
+add-at : tie.Need-add-at
+add-at c = search needs
+
+mul-at : tie.Need-mul-at
+mul-at c = search needs
+
+mul-copy : tie.Need-mul-copy
+mul-copy c = search needs
+
+copy-requires : tie.Need-copy-requires
+copy-requires c κs = search needs
+
+add-zeros : tie.Need-add-zeros
+add-zeros c = search needs
+
+zeros-requires : tie.Need-zeros-requires
+zeros-requires c κs = search needs
+
+seal-requires : tie.Need-seal-requires
+seal-requires c κs = search needs
+
+same-length : tie.Need-same-length
+same-length c = search needs
+
+returns : tie.Need-returns
+unfolding settingBlock tablesOf
+returns c =
+    let a = c .before .before .before .before .before .before .before .before .before .before .before .before .before .before .args in
+    let tables = tablesOf (now (a .rights)) (a .i) in
+    let e : length (tablesOf (now (a .rights)) (a .i)) ≡ 256 = length-tables (now (a .rights)) (a .i) (c .before .before .before .before .before .before .before .before .before .before .before .before .before .before .pre .1) in
+    seal-on (now (a .room)) _ _ (tables ++ replicate 252 0) (512 * (1 + a .i)) (simp (length-append, length-replicate) (omega arith)) (omega (arith, c .before .before .before .before .before .before .before .before .before .before .before .before .before .before .pre))
+    (run-on (now (a .room)) _ _ tables (replicate 252 0) (512 * (1 + a .i)) (512 * (1 + a .i) + 256) (omega arith) (c .before .before .before .before .before .before .before .before .before .before .copy .ensures) (c .before .before .before .before .before .before .zeros .ensures))
+    (c .before .before .seal .ensures)
+
+pub write-setting-spec : {M : Type 1} → statement M
+write-setting-spec =
+    tie.close
+    (tie.spec
+    add-at
+    mul-at
+    mul-copy
+    copy-requires
+    add-zeros
+    zeros-requires
+    seal-requires
+    same-length
+    returns)

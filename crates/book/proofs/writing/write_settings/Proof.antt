@@ -1,0 +1,61 @@
+-- `book::writing::write_settings` meets its contract: after i turns the blocks of i settings stand in the room.
+use borrow.Author.Needs.{needs}
+use mathlib.Core.Path.{_≡_, refl, ap, _∙_}
+use Prim.Native.Nat.{_≤_, _-_}
+use native.Mathlib.Omega.{arith}
+use denote.Ref.{now}
+use lib.ListN.{length}
+use lib.Seq.{sets}
+use Rattle.book.specs.Block.{inOrder}
+use Rattle.book.specs.Written.{settingBlocks}
+use Rattle.book.proofs.WriteLaws.{settings-step}
+use Rattle.book.proofs.writing.write_settings.Statement.{statement}
+use Rattle.book.proofs.writing.write_settings.Tie as tie
+
+abbrev Inv-loop : tie.InvT-loop
+Inv-loop rights n room₀ i₀ room i = (i ≤ n) × (length room ≡ length room₀) × (room ≡ sets room₀ 512 (settingBlocks rights i))
+
+abbrev μ-loop : tie.MeasureT-loop
+μ-loop rights n room₀ i₀ room i = n - i
+
+loop-holds : tie.Need-loop-holds Inv-loop μ-loop
+unfolding settingBlocks inOrder
+loop-holds c = (search needs, refl, refl)
+
+write-setting-requires : tie.Need-write-setting-requires Inv-loop μ-loop
+write-setting-requires c κs = omega (arith, c .before .before .before .before .before .pre, c .before .before .loop .inv, c .before .loop-test)
+
+add-i : tie.Need-add-i Inv-loop μ-loop
+add-i c = omega (arith, c .before .before .before .before .before .before .before .before .pre, c .before .before .before .before .loop-test)
+
+loop-less : tie.Need-loop-less Inv-loop μ-loop
+loop-less c = omega (arith, c .before .before .before .before .loop-test)
+
+loop-again : tie.Need-loop-again Inv-loop μ-loop
+loop-again c =
+    let a = c .before .before .before .before .before .before .before .before .args in
+    let r = c .before .before .before .before .before .loop in (
+      omega (arith, c .before .before .before .before .loop-test),
+      c .before .before .write-setting .kept .1 .1 .0 ∙ r .inv .1,
+      settings-step (now (a .rights)) (now (a .room)) (r .room) _ (r .i) (omega (arith, c .before .before .before .before .before .before .before .before .pre, c .before .before .before .before .loop-test)) (r .inv .2) (c .before .before .write-setting .ensures),
+    )
+
+same-length : tie.Need-same-length Inv-loop μ-loop
+same-length c = omega arith
+
+returns : tie.Need-returns Inv-loop μ-loop
+returns c = c .before .loop .inv .2 ∙ ap (λ k. sets (now (c .before .before .before .before .args .room)) 512 (settingBlocks (now (c .before .before .before .before .args .rights)) k)) (omega (arith, c .before .loop .inv .0, c .loop-test))
+
+pub write-settings-spec : {M : Type 1} → statement M
+write-settings-spec =
+    tie.close
+    (tie.spec
+    Inv-loop
+    μ-loop
+    loop-holds
+    write-setting-requires
+    add-i
+    loop-less
+    loop-again
+    same-length
+    returns)

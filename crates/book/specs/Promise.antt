@@ -1,0 +1,29 @@
+-- What the public functions promise, for every input: the answer, and all of the lent room on return.
+use mathlib.Core.Path.{_≡_}
+use mathlib.Core.List.{List, _++_}
+use Prim.Native.Nat.{ℕ, _+_, _*_, _≤_}
+use lib.ListN.{length, drop}
+use Rattle.book.specs.declared.reading.ReadAnswer.{ReadAnswer}
+use Rattle.book.specs.declared.reading.ReadAnswer.the-variants.{Book, Refused}
+use Rattle.book.specs.declared.writing.WriteAnswer.{WriteAnswer}
+use Rattle.book.specs.declared.writing.WriteAnswer.the-variants.{Written, Refused as NotWritten}
+use Rattle.book.specs.Sound.{Sound, rightsOf}
+use Rattle.book.specs.Written.{bookOf, Writable}
+use Rattle.book.specs.Order.{First}
+use Rattle.book.specs.Refusals.{number, place, bookRows, readRows, writeRows}
+
+-- `sound`: the book's n and m, or the first of "the book's 6 to 9"
+abbrev pub Judges : List ℕ → ReadAnswer → Type 0
+Judges book (Book n m) = Sound book n m
+Judges book (Refused r) = First (bookRows book) (number r) (place r)
+
+-- `read`: "a book read [..] fills the first 256 × n [..] bytes of its room and no others"; a refusal "writes nothing"
+abbrev pub Reads : List ℕ → List ℕ → ReadAnswer → List ℕ → Type 0
+Reads book room (Book n m) after = Sound book n m × (256 * n ≤ length room) × (after ≡ rightsOf book n ++ drop (256 * n) room)
+Reads book room (Refused r) after = First (readRows book room) (number r) (place r) × (after ≡ room)
+
+-- `write`: "a book [..] written fills the first [..] 512 × (1 + n) bytes of its room and no others"; a refusal "writes nothing"
+abbrev pub Writes : ℕ → ℕ → List ℕ → List ℕ → WriteAnswer → List ℕ → Type 0
+Writes n m rights room Written after =
+    Writable n m rights × (512 * (1 + n) ≤ length room) × (after ≡ bookOf n m rights ++ drop (512 * (1 + n)) room)
+Writes n m rights room (NotWritten r) after = First (writeRows n m rights room) (number r) (place r) × (after ≡ room)

@@ -1,0 +1,122 @@
+// From rights in memory to a book's bytes.
+use super::BLOCK;
+use super::HEAD_ZEROS;
+use super::POSTS_MOST;
+use super::S_AT;
+use super::SETTING_ZEROS;
+use super::SETTINGS_MOST;
+use super::T_AT;
+use super::TABLES;
+use super::bytes::copy;
+use super::bytes::put16;
+use super::bytes::zeros;
+use super::refusal::Refusal;
+use super::stray::first_stray;
+use super::sums::check_of;
+ghost use mathlib.Core.Path.{_≡_};
+ghost use mathlib.Core.List.{_++_};
+ghost use Prim.Native.Nat.{_+_, _*_, _≤_};
+ghost use lib.ListN.{length, drop};
+ghost use lib.Seq.{sets};
+ghost use Rattle.book.specs.Block.{check};
+ghost use Rattle.book.specs.Sound.{tablesOf};
+ghost use Rattle.book.specs.Written.{bytes16, headBlock, settingBlock, settingBlocks};
+ghost use Rattle.book.specs.Promise.{Writes};
+ghost use Rattle.book.specs.Inner.{MayWrite};
+
+// What the writer says.
+pub enum WriteAnswer {
+    // the book stands at the start of the room
+    Written,
+    // nothing was written
+    Refused(Refusal),
+}
+
+// Writes the check of the block that begins at `at`.
+fn seal(room: &mut [u8], at: usize)
+    requires { ⌜ at + 512 ≤ length (now room) ⌝ }
+    ensures { λ _. ⌜ now (room .exit) ≡ sets (now (room .entry)) (at + 508) (bytes16 (check (drop at (now (room .entry))) .s) ++ bytes16 (check (drop at (now (room .entry))) .t)) ⌝ }
+{
+    let sums = check_of(room, at);
+    put16(sums.s, room, at + S_AT);
+    put16(sums.t, room, at + T_AT);
+}
+
+// Writes the head block.
+fn write_head(n: u8, m: u8, room: &mut [u8])
+    requires { ⌜ 512 ≤ length (now room) ⌝ }
+    ensures { λ _. ⌜ now (room .exit) ≡ sets (now (room .entry)) 0 (headBlock n m) ⌝ }
+{
+    room[0] = n;
+    room[1] = m;
+    zeros(HEAD_ZEROS, room, 2);
+    seal(room, 0);
+}
+
+// Writes the block of setting i.
+fn write_setting(rights: &[u8], i: usize, room: &mut [u8])
+    requires { ⌜ (i ≤ 7) × (256 * (1 + i) ≤ length (now rights)) × (512 * (2 + i) ≤ length (now room)) ⌝ }
+    ensures { λ _. ⌜ now (room .exit) ≡ sets (now (room .entry)) (512 * (1 + i)) (settingBlock (tablesOf (now (rights .entry)) i)) ⌝ }
+{
+    let at = BLOCK * (1 + i);
+    copy(rights, TABLES * i, TABLES, room, at);
+    zeros(SETTING_ZEROS, room, at + TABLES);
+    seal(room, at);
+}
+
+// Writes the blocks of the first n settings.
+fn write_settings(rights: &[u8], n: usize, room: &mut [u8])
+    requires { ⌜ (n ≤ 7) × (256 * n ≤ length (now rights)) × (512 * (1 + n) ≤ length (now room)) ⌝ }
+    ensures { λ _. ⌜ now (room .exit) ≡ sets (now (room .entry)) 512 (settingBlocks (now (rights .entry)) n) ⌝ }
+{
+    let mut i = 0;
+    while i < n {
+        write_setting(rights, i, room);
+        i += 1;
+    }
+}
+
+// The first of the writer's refusals that these numbers, rights and this length of the room meet.
+fn judge(n: usize, m: usize, rights: &[u8], room: &[u8]) -> WriteAnswer
+    ensures { λ r. ⌜ MayWrite n m (now (rights .entry)) (now (room .entry)) r ⌝ }
+{
+    if n < 1 {
+        return WriteAnswer::Refused(Refusal::Settings);
+    }
+    if SETTINGS_MOST < n {
+        return WriteAnswer::Refused(Refusal::Settings);
+    }
+    if m < 1 {
+        return WriteAnswer::Refused(Refusal::Head);
+    }
+    if POSTS_MOST < m {
+        return WriteAnswer::Refused(Refusal::Head);
+    }
+    if rights.len() != TABLES * n {
+        return WriteAnswer::Refused(Refusal::Length);
+    }
+    let stray = first_stray(rights, 0, TABLES, TABLES, n, m as u8);
+    if stray < n {
+        return WriteAnswer::Refused(Refusal::StrayBit(stray + 1));
+    }
+    if room.len() < BLOCK * (1 + n) {
+        return WriteAnswer::Refused(Refusal::Room);
+    }
+    WriteAnswer::Written
+}
+
+// The book of n settings and m posts with these rights, at the start of the room, or why there is
+// none.
+pub fn write(n: usize, m: usize, rights: &[u8], room: &mut [u8]) -> WriteAnswer
+    ensures { λ r. ⌜ Writes n m (now (rights .entry)) (now (room .entry)) r (now (room .exit)) ⌝ }
+{
+    let answer = judge(n, m, rights, room);
+    match answer {
+        WriteAnswer::Refused(refusal) => WriteAnswer::Refused(refusal),
+        WriteAnswer::Written => {
+            write_head(n as u8, m as u8, room);
+            write_settings(rights, n, room);
+            WriteAnswer::Written
+        }
+    }
+}

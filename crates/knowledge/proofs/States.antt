@@ -1,0 +1,80 @@
+-- States and numbers: what the methods of a state hand back is the state of the number after the act, so that what is said of
+-- numbers is said of states.
+use mathlib.Core.Path.{_≡_, refl, sym, ap, _∙_}
+use mathlib.Core.Bool.{Bool}
+use mathlib.Core.List.{List}
+use Prim.Native.Nat.{ℕ, zero, suc, _^_, _≤_, _<_}
+use native.Mathlib.Nat.{lt-of-lt-of-le}
+use native.Mathlib.Omega.{arith}
+use lib.Dec.{lit<}
+use lib.ListN.{length, getD, set}
+use lib.Pow.{pow-mono}
+use lib.Seq.{ext-getD}
+use Rattle.ground.specs.Digits.{digit, bit}
+use Rattle.ground.proofs.Digits.{digit-lt}
+use Rattle.knowledge.specs.Seven.{afterSet, afterLook, firstDigit}
+use Rattle.knowledge.specs.Number.{digitIn, numberOf, digitsOf, firstAt, firstDigits}
+use Rattle.knowledge.specs.Acts.{setTo, lookAt}
+use Rattle.knowledge.proofs.Seven.{set-lt, look-lt, first-lt}
+use Rattle.knowledge.proofs.Bytes.{bit-above}
+use Rattle.knowledge.proofs.Number.{digit-in, digits-are, digits-long, digits-put, sum-digits, sum-lt, sum-short, digits-sum}
+
+seven : 0 < 7
+seven = lit< tt
+
+-- the number of the state of a number
+pub number-state : (k : ℕ) → k < 7 ^ 7 → numberOf 7 (digitIn (digitsOf k)) ≡ k
+number-state k h = rw (digits-are k h) (sum-digits seven 7 k h)
+
+-- the state of the number of a state whose digits are digits
+pub state-number : (ds : List ℕ) → length ds ≡ 7 → ((i : ℕ) → i < 7 → getD ds i 0 < 7) → digitsOf (numberOf 7 (digitIn ds)) ≡ ds
+state-number ds long small =
+    ext-getD 0 (digitsOf (numberOf 7 (digitIn ds))) ds (digits-long _ ∙ sym long)
+    (λ i h. let l : i < 7 = omega (arith, h, digits-long (numberOf 7 (digitIn ds))) in
+    digit-in (numberOf 7 (digitIn ds)) i l ∙ digits-sum seven (digitIn ds) 7 small i l)
+
+-- `after_set` and `after_look` on the state of a number
+pub set-state : (k i : ℕ) (b : Bool) → i < 7 → set (digitsOf k) i (afterSet (digitIn (digitsOf k) i) b) ≡ digitsOf (setTo k i b)
+unfolding setTo
+set-state k i b h =
+    rw (digit-in k i h) (digits-put k i (afterSet (digit 7 k i) b) h (set-lt (digit 7 k i) b (digit-lt seven k i)))
+
+pub look-state : (k i : ℕ) (b : Bool) → i < 7 → set (digitsOf k) i (afterLook b) ≡ digitsOf (lookAt k i b)
+unfolding lookAt
+look-state k i b h = digits-put k i (afterLook b) h (look-lt b)
+
+-- the state at the start: its digits, its number, and that it has none past the known settings
+module _ (known values : ℕ) where
+  pub first-in : (i : ℕ) → i < 7 → digitIn (firstDigits known values) i ≡ firstAt known values i
+  unfolding firstDigits
+  first-in zero h = refl
+  first-in (suc zero) h = refl
+  first-in (suc (suc zero)) h = refl
+  first-in (suc (suc (suc zero))) h = refl
+  first-in (suc (suc (suc (suc zero)))) h = refl
+  first-in (suc (suc (suc (suc (suc zero))))) h = refl
+  first-in (suc (suc (suc (suc (suc (suc zero)))))) h = refl
+  first-in (suc (suc (suc (suc (suc (suc (suc i))))))) h = absurd (omega arith)
+
+  first-small : (i : ℕ) → i < 7 → firstAt known values i < 7
+  unfolding firstAt
+  first-small i h = first-lt (bit known i) (bit values i)
+
+  -- `at_start` is the state of the start's number
+  pub first-state : firstDigits known values ≡ digitsOf (numberOf 7 (firstAt known values))
+  unfolding firstDigits
+  first-state =
+      ext-getD 0 (firstDigits known values) (digitsOf (numberOf 7 (firstAt known values))) (sym (digits-long _))
+      (λ i h. first-in i h ∙ sym (digit-in (numberOf 7 (firstAt known values)) i h ∙ digits-sum seven (firstAt known values) 7 first-small i h))
+
+  pub first-number : (i : ℕ) → i < 7 → digit 7 (numberOf 7 (firstAt known values)) i ≡ firstAt known values i
+  first-number i h = digits-sum seven (firstAt known values) 7 first-small i h
+
+  pub first-below : (n : ℕ) → n ≤ 7 → known < 2 ^ n → numberOf 7 (firstAt known values) < 7 ^ n
+  unfolding firstAt firstDigit
+  first-below n h small =
+      rw (sum-short 7 (firstAt known values) 7 n h (λ i a b. none i a))
+      (sum-lt seven (firstAt known values) n (λ i l. first-small i (omega arith)))
+    where
+      none : (i : ℕ) → n ≤ i → firstAt known values i ≡ 0
+      none i l = rw (bit-above known i (lt-of-lt-of-le small (pow-mono l)))
