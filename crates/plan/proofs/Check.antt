@@ -46,7 +46,7 @@ module _ (S : System) (k : ℕ) where
       ∙ rw (e, T→true (S .offers a) (and-left (S .offers a) (S .permits k a) m), T→true (S .permits k a) (and-right (S .offers a) (S .permits k a) m))
 
   -- a byte that reads well is a stop with the goal, or an act that may be done
-  data Good : ℕ → List ℕ → Type 0 where
+  pub data Good : ℕ → List ℕ → Type 0 where
     good-stop : T (S .goal k) → Good 0 []
     good-act : (c : ℕ) (a : Act) → 0 < c → actOf c ≡ One a → T (may S k a) → Good c (outcomes k a)
 
@@ -65,7 +65,7 @@ module _ (S : System) (k : ℕ) where
   stop-good false new e r = absurd (let z : _≡_ {A = ℕ} 0 1 = cc in omega arith)
   stop-good true new e r = let same : _≡_ {A = List ℕ} [] new = cc in rw (← same) (good-stop (true→T e))
 
-  read-good : (c : ℕ) (new : List ℕ) → readByte S k c ≡ goes-on new → Good c new
+  pub read-good : (c : ℕ) (new : List ℕ) → readByte S k c ≡ goes-on new → Good c new
   read-good zero new r = stop-good (S .goal k) new refl r
   read-good (suc c) new r = named-good (suc c) (actOf (suc c)) new (omega arith) refl r
 
