@@ -7,6 +7,7 @@ use Prim.Native.Nat.{ℕ, zero, suc, _+_, _*_, _/_, _%_, _^_, _≤_, _<_}
 use native.Mathlib.Omega.{arith}
 use lib.Dec.{T, eqb, lit<}
 use lib.ListN.{length, getD, set}
+use borrow.Author.Tests.{eq-eqb, ne-eqb}
 use Rattle.ground.specs.Digits.{digit, bit}
 use Rattle.ground.specs.Search.{Least}
 use Rattle.ground.proofs.Bools.{T→true, T→false, true→T, false→T, both, decide, lt-or-ge}
@@ -23,10 +24,11 @@ use Rattle.plan.specs.Plans.{System, Lawful, may, Outcome, after-set, after-loo
 use Rattle.plan.specs.Ranks.{IsRank, Chosen}
 use Rattle.plan.specs.Certificate.{Leads}
 use Rattle.plan.proofs.Acts.{after-a-set, after-a-look}
-use Rattle.plan.proofs.Certificate.{setTo-lt, lookAt-lt, numbers-closed, chosen}
+use Rattle.plan.proofs.Certificate.{setTo-lt, lookAt-lt, numbers-closed}
+use Rattle.plan.proofs.Table.{chosen}
 use Rattle.sides.specs.Sides.{nowNumber}
 use Rattle.sides.specs.Over.{entry}
-use Rattle.finder.specs.Told.{Told, Lower, Tries, Chooses}
+use Rattle.finder.specs.Told.{Told, Lower, Tries, family, Chooses}
 
 -- ---- the state after an act, as the knowledge type computes it
 
@@ -47,6 +49,15 @@ look-number k i b {ds} {es} hk hi d e r =
 -- a byte that is not 0 has a bit below 8
 pub some-bit : (x : ℕ) → x < 256 → (x ≡ 0 → ⊥) → ((q : ℕ) → q < 8 → bit x q ≡ false) → ⊥
 some-bit x h ne f = ne (same-bits 8 x 0 h (lit< tt) (λ i l. f i l ∙ sym (bit-of-zero i)))
+
+-- a bit as code takes it
+pub bit-set : (x q : ℕ) → x / 2 ^ q % 2 ≡ 1 → bit x q ≡ true
+unfolding bit digit
+bit-set x q e = eq-eqb (x / 2 ^ q % 2) 1 e
+
+pub bit-clear : (x q : ℕ) → (x / 2 ^ q % 2 ≡ 1 → ⊥) → bit x q ≡ false
+unfolding bit digit
+bit-clear x q f = ne-eqb (x / 2 ^ q % 2) 1 f
 
 -- no bit of the mask stands below q
 abbrev pub NoneBelow : ℕ → ℕ → Type 0
@@ -105,10 +116,6 @@ module _ {n : ℕ} {sets looks : List (List ℕ)} {ranks : List ℕ} {S : System
       λ x m. elim (lt-or-ge x q) [ inl y ↦ absurd (l .none-below x y (look-bit x (m .allowed))) | inr y ↦ y ])
 
 -- ---- the smallest byte, kind by kind and setting by setting
-
--- pair number p is kind p / 7 and setting p % 7
-abbrev pub family : ℕ → ℕ → Act
-family p q = ofKind (p / 7) (p % 7) q
 
 family-byte : (p q : ℕ) → p < 21 → byteOf (family p q) ≡ 1 + p * 8 + q
 family-byte p q h = byte-of-kind (p / 7) (p % 7) q (omega arith) ∙ omega arith

@@ -2,7 +2,7 @@
 use mathlib.Core.Path.{_≡_}
 use mathlib.Core.Bool.{Bool}
 use mathlib.Core.List.{List}
-use Prim.Native.Nat.{ℕ, _^_, _≤_, _<_}
+use Prim.Native.Nat.{ℕ, _/_, _%_, _^_, _≤_, _<_}
 use lib.Dec.{T}
 use lib.ListN.{getD}
 use Rattle.ground.specs.Digits.{digit, bit}
@@ -33,6 +33,10 @@ Lower S ranks k a = Leads S (λ x. getD ranks x 0) k (getD ranks k 0) a
 abbrev pub Tries : System → List ℕ → ℕ → (ℕ → Act) → Step → Type 0
 Tries S ranks k f Stop = (q : ℕ) → Lower S ranks k (f q) → ⊥
 Tries S ranks k f (Do a) = (q : ℕ) × (a ≡ f q) × Lower S ranks k (f q) × ((p : ℕ) → Lower S ranks k (f p) → q ≤ p)
+
+-- the acts of pair number p, of kind p / 7 on setting p % 7, by the posts q
+abbrev pub family : ℕ → ℕ → Act
+family p q = ofKind (p / 7) (p % 7) q
 
 -- no act leads lower; or the one that the plan written takes
 abbrev pub Chooses : System → List ℕ → ℕ → Step → Type 0

@@ -14,7 +14,7 @@ ghost use Rattle.knowledge.specs.Acts.{setTo, lookAt, ofKind};
 ghost use Rattle.knowledge.specs.declared.act.Act.the-variants.{Set, Look};
 ghost use Rattle.plan.specs.Plans.{System};
 ghost use Rattle.sides.specs.Sides.{nowNumber};
-ghost use Rattle.finder.specs.Told.{Told, Tries, Chooses};
+ghost use Rattle.finder.specs.Told.{Told, Tries, family, Chooses};
 
 pub enum Step {
     Stop,
@@ -23,8 +23,8 @@ pub enum Step {
 
 // The lowest post of a mask that is not empty.
 fn lowest(posts: u8) -> u8
-    requires { ⌜ posts ≡ 0 → ⊥ ⌝ }
-    ensures { λ r. ⌜ Least (λ q. T (bit posts q)) r ⌝ }
+    requires { ⌜ (posts ≡ 0 → ⊥) ⌝ }
+    ensures { λ r. ⌜ Least (λ q. T (bit posts q)) r × (r < 8) ⌝ }
 {
     let mut q: u8 = 0;
     while q < 7 {
@@ -64,7 +64,7 @@ fn set_step(
     value: bool,
 ) -> Step
     requires { ⌜ (n ≤ 7) × (k < 7 ^ n) × (7 ^ n ≤ length (now ranks)) × (side ≡ nowNumber n k) × (i < n) ⌝ }
-    ensures { λ r. ⌜ (S : System) → Told n (now (set .entry)) (now (look .entry)) (now (ranks .entry)) S → Tries S (now (ranks .entry)) k (λ q. Set i q value) r ⌝ }
+    ensures { λ r. ⌜ ((S : System) → Told n (now (set .entry)) (now (look .entry)) (now (ranks .entry)) S → Tries S (now (ranks .entry)) k (λ q. Set i q value) r) ⌝ }
 {
     let posts = set[i as usize][side];
     if posts == 0 {
@@ -79,4 +79,65 @@ fn set_step(
         });
     }
     Step::Stop
+}
+
+// Looking at setting i, by the lowest post that may, where both outcomes have a lower rank.
+fn look_step(
+    n: u8,
+    set: &[[u8; 2187]; 7],
+    look: &[[u8; 2187]; 7],
+    ranks: &[u8],
+    k: u32,
+    side: usize,
+    i: u8,
+) -> Step
+    requires { ⌜ (n ≤ 7) × (k < 7 ^ n) × (7 ^ n ≤ length (now ranks)) × (side ≡ nowNumber n k) × (i < n) ⌝ }
+    ensures { λ r. ⌜ ((S : System) → Told n (now (set .entry)) (now (look .entry)) (now (ranks .entry)) S → Tries S (now (ranks .entry)) k (λ q. Look i q) r) ⌝ }
+{
+    if Knowledge::from_number(k).digit(i) != 0 {
+        return Step::Stop;
+    }
+    let posts = look[i as usize][side];
+    if posts == 0 {
+        return Step::Stop;
+    }
+    let no = look_at(k, i, false);
+    let yes = look_at(k, i, true);
+    let rank = ranks[k as usize];
+    if rank <= ranks[no as usize] {
+        return Step::Stop;
+    }
+    if rank <= ranks[yes as usize] {
+        return Step::Stop;
+    }
+    Step::Do(Act::Look {
+        setting: i,
+        post: lowest(posts),
+    })
+}
+
+// The step with the lowest post of one kind and setting: pair number kind × 7 + setting.
+fn step_of(
+    n: u8,
+    set: &[[u8; 2187]; 7],
+    look: &[[u8; 2187]; 7],
+    ranks: &[u8],
+    k: u32,
+    side: usize,
+    pair: u8,
+) -> Step
+    requires { ⌜ (n ≤ 7) × (k < 7 ^ n) × (7 ^ n ≤ length (now ranks)) × (side ≡ nowNumber n k) × (pair < 21) ⌝ }
+    ensures { λ r. ⌜ ((S : System) → Told n (now (set .entry)) (now (look .entry)) (now (ranks .entry)) S → Tries S (now (ranks .entry)) k (family pair) r) ⌝ }
+{
+    let i = pair % 7;
+    if n <= i {
+        return Step::Stop;
+    }
+    if pair < 7 {
+        return set_step(n, set, look, ranks, k, side, i, false);
+    }
+    if pair < 14 {
+        return set_step(n, set, look, ranks, k, side, i, true);
+    }
+    look_step(n, set, look, ranks, k, side, i)
 }
