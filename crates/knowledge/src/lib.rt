@@ -11,4 +11,6 @@ mod valuation;
 pub use act::Act;
 pub use act::Named;
 pub use act::act_of;
+pub use digit::now_side;
+pub use digit::start_side;
 pub use state::Knowledge;
