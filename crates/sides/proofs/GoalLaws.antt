@@ -19,6 +19,7 @@ use Rattle.knowledge.specs.Fits.{always, is}
 use Rattle.knowledge.proofs.Fits.{always-intro, always-take}
 use Rattle.sides.specs.Over.{oneOf, SideTable, Made, settled, learnTable, Learnt}
 use Rattle.sides.proofs.FillLaws.{sides-most}
+use Rattle.sides.proofs.Tables.{side-some}
 use Rattle.sides.specs.Inner.{Filled, FilledAt, Column, EachColumn, MadeAt, sameOf, SettledAt, Settled, bothOf, Meets}
 
 -- small entries by their bits
@@ -97,10 +98,6 @@ table-of-ones {n} {t} most filled =
     none-true : (s : ℕ) → always false n (digit 3 s) [] ≡ true
     none-true s = T→true (always false n (digit 3 s) []) (always-intro false n (digit 3 s) [] (λ v l f. rw (truth-none v) tt))
 
-one-some : (b : Bool) → not (eqb (oneOf b) 0) ≡ b
-one-some true = refl
-one-some false = refl
-
 and-turned : (a b : Bool) → (a && b) ≡ (b && a)
 and-turned true true = refl
 and-turned true false = refl
@@ -126,7 +123,7 @@ learnt-more {n} j {a} {b} {t} learn most x y m = record {
   each = λ s h.
       rw (add-one j)
       (m .each s (omega (arith, h, sides-most n most))
-      ∙ ap oneOf (ap₂ _&&_ (ap (λ (e : ℕ). not (eqb e 0)) (x .each s h) ∙ one-some (all j (λ i. settled n (digit 3 s) (take 16 (drop (16 * i) learn)))))
+      ∙ ap oneOf (ap₂ _&&_ (side-some x s h)
       (y .each s h ∙ settled-take n (digit 3 s) (drop (16 * j) learn) most)
       ∙ and-turned (all j (λ i. settled n (digit 3 s) (take 16 (drop (16 * i) learn)))) (settled n (digit 3 s) (take 16 (drop (16 * j) learn)))));
   past = λ s h. elim (lt-or-ge s 2187) [

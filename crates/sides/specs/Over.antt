@@ -7,7 +7,7 @@ use lib.Dec.{eqb}
 use lib.ListN.{length, getD, take, drop}
 use Rattle.ground.specs.Digits.{digit, bit}
 use Rattle.ground.specs.Search.{all}
-use Rattle.knowledge.specs.Fits.{always}
+use Rattle.knowledge.specs.Fits.{always, learnSettled}
 use Rattle.book.specs.Rule.{rule}
 use Rattle.book.specs.declared.rule.Right.{Right}
 use Rattle.sides.specs.Sides.{nowNumber, startNumber}
@@ -59,7 +59,11 @@ learnCount learn = length learn / 16
 unfoldable pub learnTable : List ℕ → ℕ → List ℕ
 learnTable learn j = take 16 (drop (16 * j) learn)
 
--- "each learn formula has one same value at all fitting start valuations", at each side
+-- "each learn formula has one same value at all fitting start valuations", where the team knows the digits d
+unfoldable pub allSettled : ℕ → (ℕ → ℕ) → List ℕ → Bool
+allSettled n d learn = all (learnCount learn) (λ j. learnSettled n d (learnTable learn j))
+
+-- the same, at each side
 abbrev pub Learnt : ℕ → List ℕ → List ℕ → Type 0
 Learnt n learn t = SideTable n (λ s. all (learnCount learn) (λ j. settled n (digit 3 s) (learnTable learn j))) t
 
