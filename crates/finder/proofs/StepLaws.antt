@@ -1,7 +1,7 @@
 -- A step by the tables: which posts may act is a bit of a table, and the plan written takes the smallest byte that leads lower.
 use mathlib.Core.Path.{_≡_, refl, sym, ap, ap₂, _∙_, subst}
 use mathlib.Core.Logic.{_⊎_, inl, inr}
-use mathlib.Core.List.{List}
+use mathlib.Core.List.{List, []}
 use mathlib.Core.Bool.{Bool, true, false}
 use Prim.Native.Nat.{ℕ, zero, suc, _+_, _*_, _/_, _%_, _^_, _≤_, _<_}
 use native.Mathlib.Omega.{arith}
@@ -19,10 +19,14 @@ use Rattle.knowledge.specs.declared.act.Act.{Act}
 use Rattle.knowledge.specs.declared.act.Act.the-variants.{Set, Look}
 use lib.Arith.{digits-div, digits-mod}
 use Rattle.knowledge.proofs.Acts.{of-kind-of, byte-of-kind}
+use Rattle.knowledge.proofs.Number.{digits-are}
+use Rattle.finder.specs.declared.steps.Step.{Step}
 use Rattle.knowledge.proofs.States.{number-state, set-state, look-state}
 use Rattle.plan.specs.Plans.{System, Lawful, may, Outcome, after-set, after-look}
 use Rattle.plan.specs.Ranks.{IsRank, Chosen}
 use Rattle.plan.specs.Certificate.{Leads}
+use native.Mathlib.Nat.{pow-le-pow-right}
+use Rattle.sides.proofs.Numbers.{now-number-lt}
 use Rattle.plan.proofs.Acts.{after-a-set, after-a-look}
 use Rattle.plan.proofs.Certificate.{setTo-lt, lookAt-lt, numbers-closed}
 use Rattle.plan.proofs.Table.{chosen}
@@ -43,6 +47,23 @@ pub look-number : (k i : ℕ) (b : Bool) {ds es : List ℕ} {r : ℕ} → k < 7 
 look-number k i b {ds} {es} hk hi d e r =
     r ∙ ap (λ (xs : List ℕ). numberOf 7 (digitIn xs)) (e ∙ ap (λ (xs : List ℕ). set xs i (afterLook b)) d ∙ look-state k i b hi)
     ∙ number-state (lookAt k i b) (lookAt-lt 7 k i b hk hi)
+
+-- ---- bounds
+
+pub number-small : (n k : ℕ) → n ≤ 7 → k < 7 ^ n → k < 7 ^ 7
+number-small n k h l = omega (arith, pow-le-pow-right {n = 7} (lit< tt) {i = n} {j = 7} h)
+
+pub side-small : (n k : ℕ) → n ≤ 7 → nowNumber n k < 2187
+side-small n k h = omega (arith, now-number-lt n k, pow-le-pow-right {n = 3} (lit< tt) {i = n} {j = 7} h)
+
+-- the entry as code reads it
+pub at-side : (t : List (List ℕ)) (i : ℕ) {side s : ℕ} → side ≡ s → getD (getD t i []) side 0 ≡ entry t i s
+unfolding entry
+at-side t i e = ap (λ (x : ℕ). getD (getD t i []) x 0) e
+
+-- an entry of the rank table, by the number that code computed
+pub rank-at : (ranks : List ℕ) {x y : ℕ} → x ≡ y → getD ranks x 0 ≡ getD ranks y 0
+rank-at ranks e = ap (λ (x : ℕ). getD ranks x 0) e
 
 -- ---- the lowest post of a mask
 
@@ -120,6 +141,20 @@ module _ {n : ℕ} {sets looks : List (List ℕ)} {ranks : List ℕ} {S : System
 family-byte : (p q : ℕ) → p < 21 → byteOf (family p q) ≡ 1 + p * 8 + q
 family-byte p q h = byte-of-kind (p / 7) (p % 7) q (omega arith) ∙ omega arith
 
+-- the acts of each third of the pairs
+module _ (S : System) (ranks : List ℕ) (k p : ℕ) where
+  as-kind : (kind : ℕ) (r : Step) → p / 7 ≡ kind → Tries S ranks k (ofKind kind (p % 7)) r → Tries S ranks k (family p) r
+  as-kind kind r e t = subst (λ (x : ℕ). Tries S ranks k (ofKind x (p % 7)) r) (sym e) t
+
+  pub family-false : (r : Step) → p < 7 → Tries S ranks k (λ q. Set (p % 7) q false) r → Tries S ranks k (family p) r
+  family-false r h t = as-kind 0 r (omega arith) t
+
+  pub family-true : (r : Step) → 7 ≤ p → p < 14 → Tries S ranks k (λ q. Set (p % 7) q true) r → Tries S ranks k (family p) r
+  family-true r l h t = as-kind 1 r (omega arith) t
+
+  pub family-look : (r : Step) → 14 ≤ p → p < 21 → Tries S ranks k (λ q. Look (p % 7) q) r → Tries S ranks k (family p) r
+  family-look r l h t = as-kind 2 r (omega arith) t
+
 -- the pair of an act
 pairOf : Act → ℕ
 pairOf a = kindOf a * 7 + settingOf a
@@ -177,3 +212,17 @@ module _ {n : ℕ} {sets looks : List (List ℕ)} {ranks : List ℕ} {S : System
           | inr y ↦ elim (lt-or-ge p x)
             [ inl z ↦ omega (arith, bc, bp, told .law .post-of k (family p q) (l .allowed), post-family p q)
             | inr z ↦ (let same : x ≡ p = omega arith in omega (arith, bc, bp, least (postOf c) (subst (λ (y : ℕ). Lower S ranks k (family y (postOf c))) same (subst (Lower S ranks k) (sym here) m)))) ] ]
+
+-- a pair whose setting the book has not
+pub pair-past : {n : ℕ} {sets looks : List (List ℕ)} {ranks : List ℕ} {S : System} (told : Told n sets looks ranks S) (k p : ℕ) → n ≤ p % 7
+    → (q : ℕ) → Lower S ranks k (family p q) → ⊥
+pair-past told k p h q l = omega (arith, told .law .setting-of k (family p q) (l .allowed), setting-of-kind (p / 7) (p % 7) q)
+  where
+    setting-of-kind : (kind i q : ℕ) → settingOf (ofKind kind i q) ≡ i
+    setting-of-kind zero i q = refl
+    setting-of-kind (suc zero) i q = refl
+    setting-of-kind (suc (suc x)) i q = refl
+
+-- the digit as the knowledge type tells it
+pub digit-at : (k i : ℕ) {ds : List ℕ} {d : ℕ} → k < 7 ^ 7 → ds ≡ digitsOf k → d ≡ digitIn ds i → d ≡ digit 7 k i
+digit-at k i h e d = d ∙ ap (λ (xs : List ℕ). digitIn xs i) e ∙ ap (λ (f : ℕ → ℕ). f i) (digits-are k h)

@@ -60,10 +60,10 @@ told-most (suc (suc zero)) power h = omega arith
 told-most (suc (suc (suc x))) power h = absurd (omega arith)
 
 pub now-told : (x d : ℕ) → d < 7 → x ≡ nowOf d → x < 3
-now-told x d h e = rw e (now-lt d h)
+now-told x d h e = rw e (now-lt d)
 
 pub start-told : (x d : ℕ) → d < 7 → x ≡ startOf d → x < 3
-start-told x d h e = rw e (start-lt d h)
+start-told x d h e = rw e (start-lt d)
 
 -- where all n settings are shown
 pub shown-all : {number i rest power now start : ℕ} (n : ℕ) → ShownTo number i rest power now start → i ≤ n → n ≤ i

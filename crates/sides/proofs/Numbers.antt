@@ -93,42 +93,42 @@ module _ (g : ℕ → ℕ) (small : (d : ℕ) → d < 7 → g d < 3) where
 module _ (n k : ℕ) where
   pub now-number-lt : nowNumber n k < 3 ^ n
   unfolding nowNumber
-  now-number-lt = seen-lt nowOf now-lt n k
+  now-number-lt = seen-lt nowOf (λ d l. now-lt d) n k
 
   pub now-digit : (i : ℕ) → i < n → digit 3 (nowNumber n k) i ≡ nowOf (digit 7 k i)
   unfolding nowNumber
-  now-digit i h = seen-digit nowOf now-lt n k i h
+  now-digit i h = seen-digit nowOf (λ d l. now-lt d) n k i h
 
   pub now-put : (i d : ℕ) → i < n → d < 7 → nowNumber n (put 7 k i d) ≡ put 3 (nowNumber n k) i (nowOf d)
   unfolding nowNumber
-  now-put i d h l = seen-put nowOf now-lt n k i d h l
+  now-put i d h l = seen-put nowOf (λ d l. now-lt d) n k i d h l
 
   pub now-move : (i d : ℕ) → i < n → d < 7 → nowNumber n (put 7 k i d) + nowOf (digit 7 k i) * 3 ^ i ≡ nowNumber n k + nowOf d * 3 ^ i
   unfolding nowNumber
-  now-move i d h l = seen-move nowOf now-lt n k i d h l
+  now-move i d h l = seen-move nowOf (λ d l. now-lt d) n k i d h l
 
   pub now-low : (d : ℕ) → d < 7 → nowNumber (suc n) (k * 7 + d) ≡ nowNumber n k * 3 + nowOf d
   unfolding nowNumber
-  now-low d l = seen-low nowOf now-lt n k d l
+  now-low d l = seen-low nowOf (λ d l. now-lt d) n k d l
 
 -- the start side
 module _ (n k : ℕ) where
   pub start-number-lt : startNumber n k < 3 ^ n
   unfolding startNumber
-  start-number-lt = seen-lt startOf start-lt n k
+  start-number-lt = seen-lt startOf (λ d l. start-lt d) n k
 
   pub start-digit : (i : ℕ) → i < n → digit 3 (startNumber n k) i ≡ startOf (digit 7 k i)
   unfolding startNumber
-  start-digit i h = seen-digit startOf start-lt n k i h
+  start-digit i h = seen-digit startOf (λ d l. start-lt d) n k i h
 
   pub start-put : (i d : ℕ) → i < n → d < 7 → startNumber n (put 7 k i d) ≡ put 3 (startNumber n k) i (startOf d)
   unfolding startNumber
-  start-put i d h l = seen-put startOf start-lt n k i d h l
+  start-put i d h l = seen-put startOf (λ d l. start-lt d) n k i d h l
 
   pub start-move : (i d : ℕ) → i < n → d < 7 → startNumber n (put 7 k i d) + startOf (digit 7 k i) * 3 ^ i ≡ startNumber n k + startOf d * 3 ^ i
   unfolding startNumber
-  start-move i d h l = seen-move startOf start-lt n k i d h l
+  start-move i d h l = seen-move startOf (λ d l. start-lt d) n k i d h l
 
   pub start-low : (d : ℕ) → d < 7 → startNumber (suc n) (k * 7 + d) ≡ startNumber n k * 3 + startOf d
   unfolding startNumber
-  start-low d l = seen-low startOf start-lt n k d l
+  start-low d l = seen-low startOf (λ d l. start-lt d) n k d l

@@ -1,83 +1,71 @@
+-- `look_step` meets its contract: by the digit, the bit of the table and the three entries of the rank table.
+use borrow.Author.Needs.{needs}
+use Prim.Native.Nat.{ℕ, _^_, _<_, _≤_}
+use mathlib.Core.Path.{_≡_, refl, sym, ap, _∙_, subst}
+use mathlib.Core.Bool.{false, true}
+use lib.Dec.{T}
+use lib.ListN.{getD}
+use native.Mathlib.Omega.{arith}
+use Rattle.ground.specs.Digits.{bit}
+use Rattle.ground.specs.Search.{Least}
+use Rattle.plan.proofs.Certificate.{setTo-lt, lookAt-lt}
+use Rattle.finder.proofs.StepLaws.{number-small, side-small, at-side, rank-at, digit-at, look-seen, look-nobody, look-no-lower, look-do}
 use Rattle.finder.proofs.steps.look_step.Statement.{statement}
 use Rattle.finder.proofs.steps.look_step.Tie as tie
-use Rattle.finder.proofs.steps.look_step.Reads as reads
-use Rattle.finder.proofs.steps.look_step.Lts as lts
-use Rattle.finder.proofs.steps.look_at.Reads as look-at-reads
-use Rattle.finder.proofs.steps.lowest.Reads as lowest-reads
-use Rattle.knowledge.proofs.state.Knowledge.digit.Reads as digit-reads
-use Rattle.knowledge.proofs.state.Knowledge.from_number.Reads as from-number-reads
 
--- src/steps.rt:97:8
 from-number-requires : tie.Need-from-number-requires
-from-number-requires c κs = ?
+from-number-requires c κs = search needs
 
--- src/steps.rt:97:8
 digit-requires : tie.Need-digit-requires
-digit-requires c κs = ?
+digit-requires c κs = search needs
 
--- src/steps.rt:98:9
 returns : tie.Need-returns
-returns c = ?
+returns c = λ S t. look-seen t (c .before .before .before .before .args .k) (c .before .before .before .before .args .i) (c .before .before .before .before .pre .4) (λ z. c .if1 .taken ((digit-at (c .before .before .before .before .args .k) (c .before .before .before .before .args .i) (number-small (c .before .before .before .before .args .n) (c .before .before .before .before .args .k) (c .before .before .before .before .pre .0) (c .before .before .before .before .pre .1)) (c .before .before .from-number .ensures) (c .before .digit .ensures)) ∙ z))
 
--- src/steps.rt:100:17
 mul-posts : tie.Need-mul-posts
-mul-posts c = ?
+mul-posts c = omega (arith, c .before .before .before .before .pre)
 
--- src/steps.rt:100:17
 index-1-posts : tie.Need-index-1-posts
-index-1-posts c = ?
+index-1-posts c = omega (arith, c .before .before .before .before .pre)
 
--- src/steps.rt:100:17
 index-2-posts : tie.Need-index-2-posts
-index-2-posts c = ?
+index-2-posts c = omega (arith, c .before .before .before .before .pre .3, side-small (c .before .before .before .before .args .n) (c .before .before .before .before .args .k) (c .before .before .before .before .pre .0))
 
--- src/steps.rt:102:9
 returns-2 : tie.Need-returns-2
-returns-2 c = ?
+returns-2 c = λ S t. look-nobody t (c .before .before .before .before .before .before .args .k) (c .before .before .before .before .before .before .args .i) (c .before .before .before .before .before .before .pre .4) (sym (at-side (c .before .before .before .before .before .before .args .look .now) (c .before .before .before .before .before .before .args .i) (c .before .before .before .before .before .before .pre .3)) ∙ c .if2 .taken)
 
--- src/steps.rt:104:9
 look-at-requires : tie.Need-look-at-requires
-look-at-requires c κs = ?
+look-at-requires c κs = (number-small (c .before .before .before .before .before .before .args .n) (c .before .before .before .before .before .before .args .k) (c .before .before .before .before .before .before .pre .0) (c .before .before .before .before .before .before .pre .1), omega (arith, c .before .before .before .before .before .before .pre))
 
--- src/steps.rt:105:9
 look-at-requires-2 : tie.Need-look-at-requires-2
-look-at-requires-2 c κs = ?
+look-at-requires-2 c κs = (number-small (c .before .before .before .before .before .before .before .args .n) (c .before .before .before .before .before .before .before .args .k) (c .before .before .before .before .before .before .before .pre .0) (c .before .before .before .before .before .before .before .pre .1), omega (arith, c .before .before .before .before .before .before .before .pre))
 
--- src/steps.rt:106:16
 shared-slice-read-rank : tie.Need-shared-slice-read-rank
-shared-slice-read-rank c = ?
+shared-slice-read-rank c = omega (arith, c .before .before .before .before .before .before .before .before .before .pre .1, c .before .before .before .before .before .before .before .before .before .pre .2)
 
--- src/steps.rt:107:22
 cast-if3 : tie.Need-cast-if3
-cast-if3 c = ?
+cast-if3 c = omega (arith, c .before .before .look-at .ok)
 
--- src/steps.rt:107:16
 shared-slice-read-if3 : tie.Need-shared-slice-read-if3
-shared-slice-read-if3 c = ?
+shared-slice-read-if3 c = omega (arith, c .before .before .before .look-at .ensures, lookAt-lt (c .before .before .before .before .before .before .before .before .before .before .args .n) (c .before .before .before .before .before .before .before .before .before .before .args .k) (c .before .before .before .before .before .before .before .before .before .before .args .i) false (c .before .before .before .before .before .before .before .before .before .before .pre .1) (c .before .before .before .before .before .before .before .before .before .before .pre .4), c .before .before .before .before .before .before .before .before .before .before .pre .2)
 
--- src/steps.rt:108:9
 returns-3 : tie.Need-returns-3
-returns-3 c = ?
+returns-3 c = λ S t. look-no-lower t (c .before .before .before .before .before .before .before .before .before .before .before .args .k) (c .before .before .before .before .before .before .before .before .before .before .before .args .i) (c .before .before .before .before .before .before .before .before .before .before .before .pre .4) false (subst (λ (x : ℕ). getD (c .before .before .before .before .before .before .before .before .before .before .before .args .ranks .now) (c .before .before .before .before .before .before .before .before .before .before .before .args .k) 0 ≤ x) (rank-at (c .before .before .before .before .before .before .before .before .before .before .before .args .ranks .now) (c .before .before .before .before .look-at .ensures)) (c .if3 .taken))
 
--- src/steps.rt:110:22
 cast-if4 : tie.Need-cast-if4
-cast-if4 c = ?
+cast-if4 c = omega (arith, c .before .before .before .look-at2 .ok)
 
--- src/steps.rt:110:16
 shared-slice-read-if4 : tie.Need-shared-slice-read-if4
-shared-slice-read-if4 c = ?
+shared-slice-read-if4 c = omega (arith, c .before .before .before .before .look-at2 .ensures, lookAt-lt (c .before .before .before .before .before .before .before .before .before .before .before .before .args .n) (c .before .before .before .before .before .before .before .before .before .before .before .before .args .k) (c .before .before .before .before .before .before .before .before .before .before .before .before .args .i) true (c .before .before .before .before .before .before .before .before .before .before .before .before .pre .1) (c .before .before .before .before .before .before .before .before .before .before .before .before .pre .4), c .before .before .before .before .before .before .before .before .before .before .before .before .pre .2)
 
--- src/steps.rt:111:9
 returns-4 : tie.Need-returns-4
-returns-4 c = ?
+returns-4 c = λ S t. look-no-lower t (c .before .before .before .before .before .before .before .before .before .before .before .before .before .args .k) (c .before .before .before .before .before .before .before .before .before .before .before .before .before .args .i) (c .before .before .before .before .before .before .before .before .before .before .before .before .before .pre .4) true (subst (λ (x : ℕ). getD (c .before .before .before .before .before .before .before .before .before .before .before .before .before .args .ranks .now) (c .before .before .before .before .before .before .before .before .before .before .before .before .before .args .k) 0 ≤ x) (rank-at (c .before .before .before .before .before .before .before .before .before .before .before .before .before .args .ranks .now) (c .before .before .before .before .before .look-at2 .ensures)) (c .if4 .taken))
 
--- src/steps.rt:115:15
 lowest-requires : tie.Need-lowest-requires
-lowest-requires c κs = ?
+lowest-requires c κs = c .before .before .before .before .before .before .before .if2 .left
 
--- src/steps.rt:85:1
 returns-5 : tie.Need-returns-5
-returns-5 c = ?
+returns-5 c = λ S t. look-do t (c .before .before .before .before .before .before .before .before .before .before .before .before .before .before .args .k) (c .before .before .before .before .before .before .before .before .before .before .before .before .before .before .args .i) (c .before .before .before .before .before .before .before .before .before .before .before .before .before .before .pre .4) (c .lowest .result) (c .lowest .ensures .1) (sym (digit-at (c .before .before .before .before .before .before .before .before .before .before .before .before .before .before .args .k) (c .before .before .before .before .before .before .before .before .before .before .before .before .before .before .args .i) (number-small (c .before .before .before .before .before .before .before .before .before .before .before .before .before .before .args .n) (c .before .before .before .before .before .before .before .before .before .before .before .before .before .before .args .k) (c .before .before .before .before .before .before .before .before .before .before .before .before .before .before .pre .0) (c .before .before .before .before .before .before .before .before .before .before .before .before .before .before .pre .1)) (c .before .before .before .before .before .before .before .before .before .before .before .before .from-number .ensures) (c .before .before .before .before .before .before .before .before .before .before .before .digit .ensures)) ∙ c .before .before .before .before .before .before .before .before .before .before .if1 .left) (subst (λ (x : ℕ). Least (λ q. T (bit x q)) (c .lowest .result)) (at-side (c .before .before .before .before .before .before .before .before .before .before .before .before .before .before .args .look .now) (c .before .before .before .before .before .before .before .before .before .before .before .before .before .before .args .i) (c .before .before .before .before .before .before .before .before .before .before .before .before .before .before .pre .3)) (c .lowest .ensures .0)) (subst (λ (x : ℕ). x < getD (c .before .before .before .before .before .before .before .before .before .before .before .before .before .before .args .ranks .now) (c .before .before .before .before .before .before .before .before .before .before .before .before .before .before .args .k) 0) (rank-at (c .before .before .before .before .before .before .before .before .before .before .before .before .before .before .args .ranks .now) (c .before .before .before .before .before .before .before .look-at .ensures)) (c .before .before .before .if3 .left)) (subst (λ (x : ℕ). x < getD (c .before .before .before .before .before .before .before .before .before .before .before .before .before .before .args .ranks .now) (c .before .before .before .before .before .before .before .before .before .before .before .before .before .before .args .k) 0) (rank-at (c .before .before .before .before .before .before .before .before .before .before .before .before .before .before .args .ranks .now) (c .before .before .before .before .before .before .look-at2 .ensures)) (c .before .if4 .left))
 
 pub look-step-spec : {M : Type 1} → statement M
 look-step-spec =

@@ -1,37 +1,32 @@
+-- `step_of` meets its contract: the kind of the pair, and its setting.
+use Prim.Native.Nat.{ℕ}
+use mathlib.Core.Path.{_≡_, subst, sym}
+use native.Mathlib.Omega.{arith}
+use Rattle.finder.specs.Told.{Tries, family}
+use Rattle.finder.proofs.StepLaws.{pair-past, family-false, family-true, family-look}
 use Rattle.finder.proofs.steps.step_of.Statement.{statement}
 use Rattle.finder.proofs.steps.step_of.Tie as tie
-use Rattle.finder.proofs.steps.step_of.Reads as reads
-use Rattle.finder.proofs.steps.step_of.Lts as lts
-use Rattle.finder.proofs.steps.look_step.Reads as look-step-reads
-use Rattle.finder.proofs.steps.set_step.Reads as set-step-reads
 
--- src/steps.rt:134:9
 returns : tie.Need-returns
-returns c = ?
+returns c = λ S t. pair-past t (c .before .before .args .k) (c .before .before .args .pair) (c .if1 .taken)
 
--- src/steps.rt:137:9
 set-step-requires : tie.Need-set-step-requires
-set-step-requires c κs = ?
+set-step-requires c κs = (c .before .before .before .pre .0, c .before .before .before .pre .1, c .before .before .before .pre .2, c .before .before .before .pre .3, omega arith)
 
--- src/steps.rt:137:9
 returns-2 : tie.Need-returns-2
-returns-2 c = ?
+returns-2 c = λ S t. family-false S (c .before .before .before .before .args .ranks .now) (c .before .before .before .before .args .k) (c .before .before .before .before .args .pair) (c .set-step .result) (c .before .if2 .taken) (c .set-step .ensures S t)
 
--- src/steps.rt:140:9
 set-step-requires-2 : tie.Need-set-step-requires-2
-set-step-requires-2 c κs = ?
+set-step-requires-2 c κs = (c .before .before .before .before .pre .0, c .before .before .before .before .pre .1, c .before .before .before .before .pre .2, c .before .before .before .before .pre .3, omega arith)
 
--- src/steps.rt:140:9
 returns-3 : tie.Need-returns-3
-returns-3 c = ?
+returns-3 c = λ S t. family-true S (c .before .before .before .before .before .args .ranks .now) (c .before .before .before .before .before .args .k) (c .before .before .before .before .before .args .pair) (c .set-step2 .result) (c .before .before .if2 .left) (c .before .if3 .taken) (c .set-step2 .ensures S t)
 
--- src/steps.rt:142:5
 look-step-requires : tie.Need-look-step-requires
-look-step-requires c κs = ?
+look-step-requires c κs = (c .before .before .before .before .pre .0, c .before .before .before .before .pre .1, c .before .before .before .before .pre .2, c .before .before .before .before .pre .3, omega arith)
 
--- src/steps.rt:120:1
 returns-4 : tie.Need-returns-4
-returns-4 c = ?
+returns-4 c = λ S t. family-look S (c .before .before .before .before .before .args .ranks .now) (c .before .before .before .before .before .args .k) (c .before .before .before .before .before .args .pair) (c .look-step .result) (c .before .if3 .left) (c .before .before .before .before .before .pre .4) (c .look-step .ensures S t)
 
 pub step-of-spec : {M : Type 1} → statement M
 step-of-spec =
