@@ -1,0 +1,4 @@
+pub mod Grown
+pub mod Spots
+pub mod Before
+pub mod Pushes

@@ -1,0 +1,24 @@
+// The scan for entries of one rank: a small loop of its own with no branch inside, so that it is
+// compiled to vector instructions.
+
+// How many entries a block has.
+pub(crate) const BLOCK: usize = 64;
+
+// How many of the entries of the block that begins at `at` are this rank.
+fn hits(ranks: &[u8], at: usize, rank: u8) -> u8 {
+    let mut count: u8 = 0;
+    let mut j = 0;
+    while j < BLOCK {
+        count += (ranks[at + j] == rank) as u8;
+        j += 1;
+    }
+    count
+}
+
+// Whether the entries from `at` to before `end` are a whole block with no entry of this rank.
+pub(crate) fn is_bare(ranks: &[u8], at: usize, end: usize, rank: u8) -> bool {
+    if end - at < BLOCK {
+        return false;
+    }
+    hits(ranks, at, rank) == 0
+}
