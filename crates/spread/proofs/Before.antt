@@ -72,6 +72,7 @@ only-from d e b l m a = elim (or-out (eqb e (low d)) _ (rw (T-eqb a) at (tested 
   where
     T-eqb : afterSet e b ≡ d → eqb (afterSet e b) d ≡ true
     T-eqb a = eq-eqb (afterSet e b) d a
+
     tested : (b : Bool) → T (from-these b d e)
     tested false = all-at 7 (from-these false d) (all-at 7 (λ d. all 7 (from-these false d)) tt d l) e m
     tested true = all-at 7 (from-these true d) (all-at 7 (λ d. all 7 (from-these true d)) tt d l) e m

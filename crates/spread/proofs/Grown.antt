@@ -7,6 +7,7 @@ use Prim.Native.Nat.{ℕ, _+_, _^_, _≤_, _<_}
 use native.Mathlib.Decide.{ℕ-discrete}
 use native.Mathlib.Omega.{arith}
 use lib.Dec.{T, eqb, eqb→eq, T-not}
+use borrow.Author.Tests.{ne-eqb}
 use lib.ListN.{length, getD, set, length-set}
 use lib.Seq.{getD-set-same, getD-set-other}
 use Rattle.ground.proofs.Bools.{and-in, and-left, and-right, decide, eq→eqb, T→true, T→false}
@@ -94,3 +95,17 @@ offer-taken t k h true s l m = elim (decide (eqb (getD t k 0) 255)) [
   | inl y ↦ rw (T→true (eqb (getD t k 0) 255) y) (λ e. absurd (omega (arith, e, getD-set-same t k h 0 m)))
   | inr z ↦ rw (T→false (eqb (getD t k 0) 255) z) (λ e. T-not (eqb (getD t k 0) 255) z (eq→eqb e))
 ]
+
+-- the ways through an offer in code
+module _ (t : List ℕ) (k h : ℕ) {so : Bool} where
+  pub offer-no : so ≡ false → t ≡ offered so t k h
+  unfolding offered
+  offer-no e = rw e
+
+  pub offer-yes : so ≡ true → getD t k 0 ≡ 255 → set t k h ≡ offered so t k h
+  unfolding offered
+  offer-yes e n = rw (e, n)
+
+  pub offer-full : so ≡ true → (getD t k 0 ≡ 255 → ⊥) → t ≡ offered so t k h
+  unfolding offered
+  offer-full e n = rw (e, ne-eqb (getD t k 0) 255 n)

@@ -2,3 +2,6 @@ pub mod Grown
 pub mod Spots
 pub mod Before
 pub mod Pushes
+pub mod AtSpots
+pub mod Sweeps
+pub mod Stages

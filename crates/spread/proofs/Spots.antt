@@ -1,17 +1,18 @@
 -- A state's number and its present side, as one digit changes: each moves by the digit's place, in base 7 and in base 3. So both are running sums.
 use mathlib.Core.Path.{_≡_, refl, sym, ap, _∙_}
 use mathlib.Core.Logic.{_⊎_, inl, inr}
-use Prim.Native.Nat.{ℕ, zero, suc, _+_, _*_, _-_, _^_, _≤_, _<_}
+use Prim.Native.Nat.{ℕ, zero, suc, _+_, _*_, _-_, _/_, _%_, _^_, _≤_, _<_}
 use native.Mathlib.Nat.{pow-zero, pow-succ', add-comm, pow-le-pow-right, lt-of-lt-of-le}
 use native.Mathlib.Decide.{ℕ-discrete}
 use native.Mathlib.Omega.{arith}
 use lib.Arith.{digits-lt}
 use lib.Dec.{lit<}
 use Rattle.ground.specs.Digits.{digit, put}
+use Rattle.ground.specs.Search.{all}
 use Rattle.ground.proofs.Search.{below-suc}
 use Rattle.ground.proofs.Digits.{digit-lt, put-same, put-other, put-lt, put-sum, put-digit}
 use Rattle.knowledge.specs.Seven.{nowOf}
-use Rattle.knowledge.proofs.Seven.{now-lt}
+use Rattle.knowledge.proofs.Seven.{now-lt, at-digit}
 use Rattle.sides.specs.Sides.{sideNumber, nowNumber}
 use Rattle.spread.specs.Inner.{Spotted}
 
@@ -72,6 +73,20 @@ module _ (n k i : ℕ) where
 
   pub side-from : i < n → nowNumber n k ≡ nowNumber n (put 7 k i 0) + nowOf (digit 7 k i) * 3 ^ i
   side-from h = rw (put-digit pos k i) at (side-rest (digit 7 k i) (digit-lt pos k i) h)
+
+-- what a digit tells of the present value, packed into one number
+pub packed : (d : ℕ) → d < 7 → 0x2121210 / 2 ^ (4 * d) % 16 ≡ nowOf d
+unfolding all nowOf
+packed d l = at-digit (λ d. 0x2121210 / 2 ^ (4 * d) % 16) nowOf tt d l
+
+-- how a spot is made: what is taken away
+module _ (n k i d : ℕ) (is : d ≡ digit 7 k i) where
+  pub rest-of : (seven : ℕ) → seven ≡ 7 ^ i → put 7 k i 0 + d * seven ≡ k
+  rest-of seven e = rw (is, e) (put-from n k i)
+
+  pub side-of : (three side told : ℕ) → i < n → side ≡ nowNumber n k → told ≡ nowOf d → three ≡ 3 ^ i
+      → nowNumber n (put 7 k i 0) + told * three ≡ side
+  side-of three side told l s e f = rw (s, e, is, f) (sym (side-from n k i l))
 
 -- at a spot: where the state with the digit e stands, and which side it has
 module _ {n k i rest side seven three : ℕ} (s : Spotted n k i rest side seven three) where

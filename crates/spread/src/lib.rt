@@ -7,6 +7,9 @@ mod round;
 mod scan;
 
 use round::round;
+ghost use mathlib.Core.Path.{_≡_};
+ghost use Prim.Native.Nat.{_^_, _≤_};
+ghost use Rattle.spread.specs.Spread.{Ready, Spread};
 
 // How many present sides seven settings have.
 const SIDES: usize = 2187;
@@ -16,7 +19,10 @@ const SETTINGS: usize = 7;
 const NONE: u8 = 255;
 
 // How many knowledge numbers n settings have.
-fn states(n: usize) -> usize {
+fn states(n: usize) -> usize
+    requires { ⌜ n ≤ 7 ⌝ }
+    ensures { λ r. ⌜ r ≡ 7 ^ n ⌝ }
+{
     let mut power = 1;
     let mut i = 0;
     while i < n {
@@ -29,7 +35,15 @@ fn states(n: usize) -> usize {
 // Gives every knowledge number of n settings its rank. An entry of `set` and of `look`, by setting and
 // present side, is not 0 where the setting may be set, or looked at. `ranks` comes with 0 where the goal
 // is settled and with 255 elsewhere. Round h pushes from the states of rank h - 1 to those before them.
-pub fn spread(n: u8, set: &[[u8; SIDES]; SETTINGS], look: &[[u8; SIDES]; SETTINGS], ranks: &mut [u8]) {
+pub fn spread(
+    n: u8,
+    set: &[[u8; SIDES]; SETTINGS],
+    look: &[[u8; SIDES]; SETTINGS],
+    ranks: &mut [u8],
+)
+    requires { ⌜ Ready n (now ranks) ⌝ }
+    ensures { λ _. ⌜ Spread n (now (set .entry)) (now (look .entry)) (now (ranks .entry)) (now (ranks .exit)) ⌝ }
+{
     let settings = n as usize;
     let size = states(settings);
     let mut h: u8 = 1;

@@ -6,9 +6,17 @@ use super::push::push;
 use super::scan::BLOCK;
 use super::scan::is_bare;
 use knowledge::Knowledge;
+ghost use mathlib.Core.Path.{_≡_};
+ghost use Prim.Native.Nat.{ℕ, _+_, _^_, _≤_, _<_};
+ghost use Rattle.knowledge.specs.Number.{digitsOf};
+ghost use Rattle.sides.specs.Sides.{nowNumber};
+ghost use Rattle.spread.specs.Inner.{Pushing, Visited, Sweeping, Swept};
 
-// The present side of a state, as a number.
-fn side_of(n: usize, state: Knowledge) -> usize {
+// The present side of the state whose number is k, as a number.
+fn side_of(n: usize, k: usize, state: Knowledge) -> usize
+    requires { ⌜ (n ≤ 7) × (state .digits ≡ digitsOf k) ⌝ }
+    ensures { λ r. ⌜ r ≡ nowNumber n k ⌝ }
+{
     let mut side = 0;
     let mut three = 1;
     let mut i = 0;
@@ -21,14 +29,36 @@ fn side_of(n: usize, state: Knowledge) -> usize {
 }
 
 // Pushes from the state k along every setting.
-fn visit(n: usize, k: usize, h: u8, set: &[[u8; SIDES]; SETTINGS], look: &[[u8; SIDES]; SETTINGS], ranks: &mut [u8]) {
+fn visit(
+    n: usize,
+    k: usize,
+    h: u8,
+    set: &[[u8; SIDES]; SETTINGS],
+    look: &[[u8; SIDES]; SETTINGS],
+    ranks: &mut [u8],
+)
+    requires { ⌜ (n ≤ 7) × (k < 7 ^ n) × Pushing n k h (now ranks) ⌝ }
+    ensures { λ _. ⌜ Visited n (now (set .entry)) (now (look .entry)) h k n (now (ranks .entry)) (now (ranks .exit)) ⌝ }
+{
     let state = Knowledge::from_number(k as u32);
-    let side = side_of(n, state);
+    let side = side_of(n, k, state);
     let mut seven = 1;
     let mut three = 1;
     let mut i = 0;
     while i < n {
-        push(k, side, i, state.digit(i as u8), seven, three, h, set, look, ranks);
+        push(
+            n,
+            k,
+            side,
+            i,
+            state.digit(i as u8),
+            seven,
+            three,
+            h,
+            set,
+            look,
+            ranks,
+        );
         seven *= 7;
         three *= 3;
         i += 1;
@@ -36,7 +66,17 @@ fn visit(n: usize, k: usize, h: u8, set: &[[u8; SIDES]; SETTINGS], look: &[[u8; 
 }
 
 // Visits the state k if its rank is h - 1; how many states that is.
-fn visit_if(n: usize, k: usize, h: u8, set: &[[u8; SIDES]; SETTINGS], look: &[[u8; SIDES]; SETTINGS], ranks: &mut [u8]) -> usize {
+fn visit_if(
+    n: usize,
+    k: usize,
+    h: u8,
+    set: &[[u8; SIDES]; SETTINGS],
+    look: &[[u8; SIDES]; SETTINGS],
+    ranks: &mut [u8],
+) -> usize
+    requires { ⌜ Sweeping n h (now ranks) × (k < 7 ^ n) ⌝ }
+    ensures { λ r. ⌜ Swept n (now (set .entry)) (now (look .entry)) h k (k + 1) (now (ranks .entry)) (now (ranks .exit)) r ⌝ }
+{
     if ranks[k] != h - 1 {
         return 0;
     }
@@ -45,7 +85,18 @@ fn visit_if(n: usize, k: usize, h: u8, set: &[[u8; SIDES]; SETTINGS], look: &[[u
 }
 
 // Visits each state of rank h - 1 from `at` to before `end`; how many there are.
-fn sweep(n: usize, at: usize, end: usize, h: u8, set: &[[u8; SIDES]; SETTINGS], look: &[[u8; SIDES]; SETTINGS], ranks: &mut [u8]) -> usize {
+fn sweep(
+    n: usize,
+    at: usize,
+    end: usize,
+    h: u8,
+    set: &[[u8; SIDES]; SETTINGS],
+    look: &[[u8; SIDES]; SETTINGS],
+    ranks: &mut [u8],
+) -> usize
+    requires { ⌜ Sweeping n h (now ranks) × (at ≤ end) × (end ≤ 7 ^ n) ⌝ }
+    ensures { λ r. ⌜ Swept n (now (set .entry)) (now (look .entry)) h at end (now (ranks .entry)) (now (ranks .exit)) r ⌝ }
+{
     let mut found = 0;
     let mut k = at;
     while k < end {
@@ -56,7 +107,18 @@ fn sweep(n: usize, at: usize, end: usize, h: u8, set: &[[u8; SIDES]; SETTINGS], 
 }
 
 // The same, with a look ahead at a whole block.
-fn block(n: usize, at: usize, end: usize, h: u8, set: &[[u8; SIDES]; SETTINGS], look: &[[u8; SIDES]; SETTINGS], ranks: &mut [u8]) -> usize {
+fn block(
+    n: usize,
+    at: usize,
+    end: usize,
+    h: u8,
+    set: &[[u8; SIDES]; SETTINGS],
+    look: &[[u8; SIDES]; SETTINGS],
+    ranks: &mut [u8],
+) -> usize
+    requires { ⌜ Sweeping n h (now ranks) × (at ≤ end) × (end ≤ at + 64) × (end ≤ 7 ^ n) ⌝ }
+    ensures { λ r. ⌜ Swept n (now (set .entry)) (now (look .entry)) h at end (now (ranks .entry)) (now (ranks .exit)) r ⌝ }
+{
     if is_bare(ranks, at, end, h - 1) {
         return 0;
     }
@@ -64,7 +126,10 @@ fn block(n: usize, at: usize, end: usize, h: u8, set: &[[u8; SIDES]; SETTINGS], 
 }
 
 // Where the block that begins at `at` ends.
-fn end_of(at: usize, size: usize) -> usize {
+fn end_of(at: usize, size: usize) -> usize
+    requires { ⌜ at < size ⌝ }
+    ensures { λ r. ⌜ (at < r) × (r ≤ at + 64) × (r ≤ size) ⌝ }
+{
     if size - at < BLOCK {
         return size;
     }
@@ -72,7 +137,17 @@ fn end_of(at: usize, size: usize) -> usize {
 }
 
 // Visits each state of rank h - 1 among the first `size`; how many there are.
-pub(crate) fn round(n: usize, size: usize, h: u8, set: &[[u8; SIDES]; SETTINGS], look: &[[u8; SIDES]; SETTINGS], ranks: &mut [u8]) -> usize {
+pub(crate) fn round(
+    n: usize,
+    size: usize,
+    h: u8,
+    set: &[[u8; SIDES]; SETTINGS],
+    look: &[[u8; SIDES]; SETTINGS],
+    ranks: &mut [u8],
+) -> usize
+    requires { ⌜ Sweeping n h (now ranks) × (size ≡ 7 ^ n) ⌝ }
+    ensures { λ r. ⌜ Swept n (now (set .entry)) (now (look .entry)) h 0 size (now (ranks .entry)) (now (ranks .exit)) r ⌝ }
+{
     let mut found = 0;
     let mut at = 0;
     while at < size {
