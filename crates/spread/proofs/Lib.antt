@@ -1,5 +1,6 @@
 pub mod Grown
 pub mod Spots
+pub mod Running
 pub mod Before
 pub mod Pushes
 pub mod AtSpots

@@ -22,6 +22,9 @@ pos = lit< tt
 pub pow-seven : (n : ℕ) → n ≤ 7 → 7 ^ n ≤ 823543
 pow-seven n l = pow-le-pow-right pos l
 
+pub pow-three : (n : ℕ) → n ≤ 7 → 3 ^ n ≤ 2187
+pow-three n l = pow-le-pow-right (lit< {m = 0} {n = 3} tt) l
+
 -- a side of n settings has n digits in base 3
 side-lt : (n : ℕ) (f : ℕ → ℕ) → ((i : ℕ) → f i < 3) → sideNumber n f < 3 ^ n
 unfolding sideNumber
@@ -48,7 +51,7 @@ unfolding nowNumber
 now-below n k = side-lt n (λ i. nowOf (digit 7 k i)) (λ i. now-lt (digit 7 k i) (digit-lt pos k i))
 
 pub below-sides : (n k : ℕ) → n ≤ 7 → nowNumber n k < 2187
-below-sides n k l = lt-of-lt-of-le (now-below n k) (pow-le-pow-right (lit< {m = 0} {n = 3} tt) l)
+below-sides n k l = lt-of-lt-of-le (now-below n k) (pow-three n l)
 
 -- the number and the side of a state with another digit at setting i
 module _ (n k i : ℕ) where

@@ -2,8 +2,13 @@
 use mathlib.Core.Path.{_≡_, refl, sym, ap, _∙_, subst}
 use mathlib.Core.Logic.{_⊎_, inl, inr}
 use mathlib.Core.List.{List}
+use mathlib.Core.Bool.{Bool, true, false}
 use Prim.Native.Nat.{ℕ, _+_, _-_, _^_, _≤_, _<_}
 use native.Mathlib.Omega.{arith}
+use mir.Val.{boolByte}
+use lib.Dec.{eqb}
+use lib.ListN.{getD}
+use borrow.Author.Tests.{eq-eqb}
 use Rattle.ground.proofs.Bools.{lt-or-ge}
 use Rattle.spread.specs.Spread.{rank}
 use Rattle.spread.specs.Inner.{Grew, SetsDone, LooksDone, Pushing, PushedAlong, Pushed, Visited, Sweeping, Bare, Swept}
@@ -13,6 +18,21 @@ use Rattle.spread.proofs.Grown.{same, back, further, sets-stay, looks-s
 -- a number below m + 1 is below m or is m
 below-one-more : {A : Type 0} (i m : ℕ) → i < m + 1 → (i < m → A) → (i ≡ m → A) → A
 below-one-more i m l f g = elim (lt-or-ge i m) [ inl x ↦ f x | inr x ↦ g (omega arith) ]
+
+-- a count of hits
+pub hit-most : (b : Bool) → boolByte b ≤ 1
+hit-most true = omega arith
+hit-most false = omega arith
+
+no-hit : (x r : ℕ) → boolByte (eqb x r) ≡ 0 → x ≡ r → ⊥
+no-hit x r z e = let one : boolByte (eqb x r) ≡ 1 = rw (eq-eqb x r e) in absurd (omega arith)
+
+pub bare-more : (r at j count : ℕ) (t : List ℕ) → (count ≡ 0 → Bare r at (at + j) t) → count + boolByte (eqb (getD t (at + j) 0) r) ≡ 0
+    → Bare r at (at + (j + 1)) t
+bare-more r at j count t f z k a b e = elim (lt-or-ge k (at + j)) [
+  | inl l ↦ f (omega arith) k a l e
+  | inr l ↦ (let here : at + j ≡ k = omega arith in no-hit (getD t (at + j) 0) r (omega arith) (ap (λ (x : ℕ). getD t x 0) here ∙ e))
+]
 
 module _ {n : ℕ} {set look : List (List ℕ)} where
   pub visit-none : {h k : ℕ} {t : List ℕ} → Visited n set look h k 0 t t

@@ -1,49 +1,46 @@
+-- `spread::scan::hits` meets its contract: the count is 0 only as long as no entry of the rank was passed.
+use Prim.Native.Nat.{_+_, _-_, _≤_}
+use mathlib.Core.Path.{_≡_}
+use native.Mathlib.Omega.{arith}
+use lib.Dec.{eqb}
+use lib.ListN.{getD}
+use Rattle.spread.specs.Inner.{Bare}
+use Rattle.spread.proofs.Sweeps.{hit-most, bare-more}
 use Rattle.spread.proofs.scan.hits.Statement.{statement}
 use Rattle.spread.proofs.scan.hits.Tie as tie
-use Rattle.spread.proofs.scan.hits.Reads as reads
-use Rattle.spread.proofs.scan.hits.Lts as lts
 
 abbrev Inv-loop : tie.InvT-loop
-Inv-loop ranks at rank count₀ j₀ count j = ?
+Inv-loop ranks at rank count₀ j₀ count j = (j ≤ 64) × (count ≤ j) × (count ≡ 0 → Bare rank at (at + j) ranks)
 
 abbrev μ-loop : tie.MeasureT-loop
-μ-loop ranks at rank count₀ j₀ count j = ?
+μ-loop ranks at rank count₀ j₀ count j = 64 - j
 
--- src/scan.rt:19:5
 loop-holds : tie.Need-loop-holds Inv-loop μ-loop
-loop-holds c = ?
+loop-holds c = (omega arith, omega arith, λ e k a b. absurd (omega arith))
 
--- src/scan.rt:20:25
 add-count : tie.Need-add-count Inv-loop μ-loop
-add-count c = ?
+add-count c = omega arith
 
--- src/scan.rt:20:19
 shared-slice-read-count : tie.Need-shared-slice-read-count Inv-loop μ-loop
-shared-slice-read-count c = ?
+shared-slice-read-count c = omega arith
 
--- src/scan.rt:20:18
 cast-count : tie.Need-cast-count Inv-loop μ-loop
-cast-count c = ?
+cast-count c = tt
 
--- src/scan.rt:20:9
 add-count-2 : tie.Need-add-count-2 Inv-loop μ-loop
-add-count-2 c = ?
+add-count-2 c = omega (arith, hit-most (eqb (getD (c .before .before .before .args .ranks .now) (c .before .before .before .args .at + c .before .before .loop .j) 0) (c .before .before .before .args .rank)))
 
--- src/scan.rt:21:9
 add-j : tie.Need-add-j Inv-loop μ-loop
-add-j c = ?
+add-j c = omega arith
 
--- src/scan.rt:19:5
 loop-less : tie.Need-loop-less Inv-loop μ-loop
-loop-less c = ?
+loop-less c = omega arith
 
--- src/scan.rt:19:5
 loop-again : tie.Need-loop-again Inv-loop μ-loop
-loop-again c = ?
+loop-again c = (omega arith, omega (arith, hit-most (eqb (getD (c .before .before .before .args .ranks .now) (c .before .before .before .args .at + c .before .before .loop .j) 0) (c .before .before .before .args .rank))), bare-more (c .before .before .before .args .rank) (c .before .before .before .args .at) (c .before .before .loop .j) (c .before .before .loop .count) (c .before .before .before .args .ranks .now) (c .before .before .loop .inv .2))
 
--- src/scan.rt:13:1
 returns : tie.Need-returns Inv-loop μ-loop
-returns c = ?
+returns c = λ e k a b. c .before .loop .inv .2 e k a (omega arith)
 
 pub hits-spec : {M : Type 1} → statement M
 hits-spec =
