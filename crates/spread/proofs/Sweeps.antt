@@ -24,6 +24,10 @@ pub hit-most : (b : Bool) → boolByte b ≤ 1
 hit-most true = omega arith
 hit-most false = omega arith
 
+-- a test that failed says nothing
+pub not-so : {A : Type 0} → false ≡ true → A
+not-so e = let z : _≡_ {A = ℕ} 0 1 = ap boolByte e in absurd (omega arith)
+
 no-hit : (x r : ℕ) → boolByte (eqb x r) ≡ 0 → x ≡ r → ⊥
 no-hit x r z e = let one : boolByte (eqb x r) ≡ 1 = rw (eq-eqb x r e) in absurd (omega arith)
 
@@ -54,6 +58,10 @@ module _ {n : ℕ} {set look : List (List ℕ)} where
           (λ e. subst (λ (j : ℕ). LooksDone n look h c k j) (sym e) (p .looks));
     };
   }
+
+  -- all settings are passed
+  pub visit-all : {h k m q : ℕ} {a b : List ℕ} → m ≡ q → Visited n set look h k m a b → Visited n set look h k q a b
+  visit-all {h} {k} {a = a} {b = b} e v = subst (λ (i : ℕ). Visited n set look h k i a b) e v
 
   -- what a visit is made with, at the settings passed
   pub visiting-on : {h k m : ℕ} {a b : List ℕ} → Pushing n k h a → Visited n set look h k m a b → Pushing n k h b
