@@ -90,6 +90,10 @@ module _ {n : ℕ} {set look : List (List ℕ)} where
     none = λ q j x y w. absurd (omega arith);
   }
 
+  -- all states are passed
+  pub swept-all : {h from to end r : ℕ} {a b : List ℕ} → to ≡ end → Swept n set look h from to a b r → Swept n set look h from end a b r
+  swept-all {h} {from} {r = r} {a} {b} e s = subst (λ (x : ℕ). Swept n set look h from x a b r) e s
+
   -- two parts
   pub swept-on : {h from mid to r q : ℕ} {a b c : List ℕ} → h < 255 → Swept n set look h from mid a b r → Swept n set look h mid to b c q
       → Swept n set look h from to a c (r + q)
@@ -109,3 +113,7 @@ module _ {n : ℕ} {set look : List (List ℕ)} where
     where
       earlier : (k : ℕ) → rank c k + 1 ≡ h → rank b k + 1 ≡ h
       earlier k e = omega (arith, e, back (g .grew) k (omega arith))
+
+-- a part of one state
+pub bare-one : (r k : ℕ) (t : List ℕ) → (rank t k ≡ r → ⊥) → Bare r k (k + 1) t
+bare-one r k t f j a b e = f (ap (λ (x : ℕ). rank t x) (omega arith) ∙ e)
