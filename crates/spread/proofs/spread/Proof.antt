@@ -1,55 +1,47 @@
+-- `spread::spread` meets its contract: a round carries the stage of h to that of h + 1, and both ways out end in the certificate.
+use Prim.Native.Nat.{_-_, _^_, _≤_, _<_}
+use mathlib.Core.Path.{_≡_, _∙_}
+use native.Mathlib.Omega.{arith}
+use Rattle.spread.proofs.Sweeps.{swept-all}
+use Rattle.spread.proofs.Stages.{Stage, first, next, still, last}
 use Rattle.spread.proofs.spread.Statement.{statement}
 use Rattle.spread.proofs.spread.Tie as tie
-use Rattle.spread.proofs.spread.Reads as reads
-use Rattle.spread.proofs.spread.Lts as lts
-use Rattle.spread.proofs.round.round.Reads as round-reads
-use Rattle.spread.proofs.states.Reads as states-reads
 
 abbrev Inv-loop : tie.InvT-loop
-Inv-loop n set look ranks₀ settings size h₀ ranks h = ?
+Inv-loop n set look ranks₀ settings size h₀ ranks h = (0 < h) × (h ≤ 255) × Stage n set look h ranks₀ ranks
 
 abbrev μ-loop : tie.MeasureT-loop
-μ-loop n set look ranks₀ settings size h₀ ranks h = ?
+μ-loop n set look ranks₀ settings size h₀ ranks h = 255 - h
 
--- src/lib.rt:48:9
 states-requires : tie.Need-states-requires Inv-loop μ-loop
-states-requires c κs = ?
+states-requires c κs = c .before .pre .few
 
--- src/lib.rt:50:5
 loop-holds : tie.Need-loop-holds Inv-loop μ-loop
-loop-holds c = ?
+loop-holds c = (omega arith, omega arith, first (c .before .before .pre))
 
--- src/lib.rt:51:12
 round-requires : tie.Need-round-requires Inv-loop μ-loop
-round-requires c κs = ?
+round-requires c κs = (record { few = c .before .before .before .before .before .pre .few; room = c .before .before .loop .inv .2 .room; low = c .before .before .loop .inv .0; high = c .before .loop-test .taken }, c .before .before .before .states .ensures)
 
--- src/lib.rt:52:13
 same-length : tie.Need-same-length Inv-loop μ-loop
-same-length c = ?
+same-length c = c .before .before .before .round .ensures .grew .same-length ∙ c .before .before .before .before .before .before .loop .inv .2 .same-length
 
--- src/lib.rt:52:13
 returns : tie.Need-returns Inv-loop μ-loop
-returns c = ?
+returns c = still (c .before .before .before .before .before .before .loop .inv .0) (c .before .before .before .before .before .loop-test .taken) (c .before .before .before .before .before .before .loop .inv .2) (swept-all (c .before .before .before .before .before .before .before .states .ensures) (c .before .before .before .round .ensures)) (c .if1 .taken)
 
--- src/lib.rt:54:9
 add-h : tie.Need-add-h Inv-loop μ-loop
-add-h c = ?
+add-h c = omega (arith, c .before .before .before .before .before .loop-test .taken)
 
--- src/lib.rt:50:5
 loop-less : tie.Need-loop-less Inv-loop μ-loop
-loop-less c = ?
+loop-less c = omega (arith, c .before .before .before .before .before .loop-test .taken)
 
--- src/lib.rt:50:5
 loop-again : tie.Need-loop-again Inv-loop μ-loop
-loop-again c = ?
+loop-again c = (omega arith, omega (arith, c .before .before .before .before .before .loop-test .taken), next (c .before .before .before .before .before .before .loop .inv .0) (c .before .before .before .before .before .loop-test .taken) (c .before .before .before .before .before .before .loop .inv .2) (swept-all (c .before .before .before .before .before .before .before .states .ensures) (c .before .before .before .round .ensures)))
 
--- src/lib.rt:38:1
 same-length-2 : tie.Need-same-length-2 Inv-loop μ-loop
-same-length-2 c = ?
+same-length-2 c = c .before .loop .inv .2 .same-length
 
--- src/lib.rt:38:1
 returns-2 : tie.Need-returns-2 Inv-loop μ-loop
-returns-2 c = ?
+returns-2 c = last (omega (arith, c .before .loop .inv .1, c .loop-test .left)) (c .before .loop .inv .2)
 
 pub spread-spec : {M : Type 1} → statement M
 spread-spec =
