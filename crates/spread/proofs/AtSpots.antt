@@ -1,14 +1,12 @@
 -- The pushes at a spot: numbers and sides as the code has them, and the digits that it tries.
-use mathlib.Core.Path.{_≡_, refl, sym, ap, _∙_}
+use mathlib.Core.Path.{_≡_, refl, sym, _∙_}
 use mathlib.Core.List.{List}
 use mathlib.Core.Bool.{Bool, true, false}
-use Prim.Native.Nat.{ℕ, _+_, _*_, _^_, _≤_, _<_}
-use native.Mathlib.Omega.{arith}
-use lib.Dec.{ltb, lit<}
-use Rattle.ground.specs.Digits.{digit, put}
+use Prim.Native.Nat.{ℕ, _+_, _*_, _≤_, _<_}
+use lib.Dec.{ltb}
+use Rattle.ground.specs.Digits.{digit}
 use Rattle.ground.proofs.Digits.{digit-lt}
 use Rattle.knowledge.specs.Seven.{nowOf, afterLook}
-use Rattle.sides.specs.Sides.{nowNumber}
 use Rattle.sides.specs.Over.{entry}
 use Rattle.spread.specs.Spread.{rank}
 use Rattle.spread.specs.Inner.{offered, Spotted, Leads, Beside, Pushing, Tried, PushedLooks}

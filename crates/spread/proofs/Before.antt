@@ -1,14 +1,14 @@
 -- The states before k by an act on setting i are k with another digit there: which digits, one computed test tells.
-use mathlib.Core.Path.{_≡_, refl, sym, ap, _∙_}
+use mathlib.Core.Path.{_≡_, sym, ap, _∙_}
 use mathlib.Core.Logic.{_⊎_, inl, inr}
-use mathlib.Core.Bool.{Bool, true, false, not, _&&_, _||_}
-use Prim.Native.Nat.{ℕ, _+_, _*_, _-_, _/_, _%_, _≤_, _<_}
+use mathlib.Core.Bool.{Bool, true, false, _&&_, _||_}
+use Prim.Native.Nat.{ℕ, _+_, _*_, _-_, _/_, _%_, _<_}
 use native.Mathlib.Omega.{arith}
-use lib.Dec.{T, eqb, ltb, eqb→eq, ltb→lt, lit<}
+use lib.Dec.{T, eqb, ltb, eqb→eq, ltb→lt}
 use borrow.Author.Tests.{eq-eqb, ne-eqb}
 use Rattle.ground.specs.Digits.{digit, put}
 use Rattle.ground.specs.Search.{all}
-use Rattle.ground.proofs.Bools.{and-left, and-right, or-out, eq→eqb}
+use Rattle.ground.proofs.Bools.{and-left, and-right, or-out}
 use Rattle.ground.proofs.Search.{all-at}
 use Rattle.ground.proofs.Digits.{digit-lt, put-same, put-put, put-digit}
 use Rattle.knowledge.specs.Seven.{afterSet, afterLook}

@@ -1,18 +1,18 @@
 -- How the table grows in a round: an entry that had a rank keeps it, and an entry below h had it before. So growing composes, and what was pushed stays so.
 use mathlib.Core.Path.{_≡_, refl, sym, ap, _∙_}
-use mathlib.Core.Logic.{_⊎_, inl, inr}
+use mathlib.Core.Logic.{inl, inr}
 use mathlib.Core.List.{List}
 use mathlib.Core.Bool.{Bool, true, false, not, _&&_}
-use Prim.Native.Nat.{ℕ, _+_, _^_, _≤_, _<_}
+use Prim.Native.Nat.{ℕ, _^_, _≤_, _<_}
 use native.Mathlib.Decide.{ℕ-discrete}
 use native.Mathlib.Omega.{arith}
 use lib.Dec.{T, eqb, eqb→eq, T-not}
 use borrow.Author.Tests.{ne-eqb}
 use lib.ListN.{length, getD, set, length-set}
 use lib.Seq.{getD-set-same, getD-set-other}
-use Rattle.ground.proofs.Bools.{and-in, and-left, and-right, decide, eq→eqb, T→true, T→false}
-use Rattle.knowledge.specs.Acts.{setTo, lookAt}
-use Rattle.spread.specs.Spread.{rank, May, Lowers, by-set, by-look}
+use Rattle.ground.proofs.Bools.{and-left, and-right, decide, eq→eqb, T→true, T→false}
+use Rattle.knowledge.specs.Acts.{lookAt}
+use Rattle.spread.specs.Spread.{rank, Lowers, by-set, by-look}
 use Rattle.spread.specs.Inner.{given, offered, Grew, SetsDone, LooksDone, Pushed}
 
 module _ {n : ℕ} {set look : List (List ℕ)} where

@@ -6,3 +6,4 @@ pub mod Pushes
 pub mod AtSpots
 pub mod Sweeps
 pub mod Stages
+pub mod Unique

@@ -1,23 +1,22 @@
 -- A push from k along one setting: each state before k by an act on it was offered the rank, so none of them is left without.
 use mathlib.Core.Path.{_≡_, refl, sym, ap, _∙_, subst}
-use mathlib.Core.Logic.{_⊎_, inl, inr}
+use mathlib.Core.Logic.{inl, inr}
 use mathlib.Core.List.{List}
 use mathlib.Core.Bool.{Bool, true, false, not}
 use Prim.Native.Nat.{ℕ, _+_, _^_, _≤_, _<_}
 use native.Mathlib.Omega.{arith}
-use lib.Dec.{T, ltb, ltb→lt, lt→ltb}
-use lib.ListN.{length}
+use lib.Dec.{ltb, ltb→lt, lt→ltb}
 use Rattle.ground.specs.Digits.{digit, put}
 use Rattle.ground.proofs.Digits.{digit-lt, put-same, put-lt}
-use Rattle.knowledge.specs.Seven.{afterSet, afterLook}
-use Rattle.knowledge.specs.Acts.{setTo, lookAt}
+use Rattle.knowledge.specs.Seven.{afterLook}
+use Rattle.knowledge.specs.Acts.{lookAt}
 use Rattle.knowledge.proofs.Seven.{set-known}
 use Rattle.sides.specs.Sides.{nowNumber}
 use Rattle.sides.specs.Over.{entry}
-use Rattle.spread.specs.Spread.{rank, May, Lowers, by-set, by-look}
-use Rattle.spread.specs.Inner.{offered, Grew, SetsDone, LooksDone, Leads, Beside, Pushing, Tried, PushedSets, PushedLooks, PushedAlong}
+use Rattle.spread.specs.Spread.{rank, May, by-set, by-look}
+use Rattle.spread.specs.Inner.{offered, Grew, SetsDone, Leads, Beside, Pushing, Tried, PushedSets, PushedLooks, PushedAlong}
 use Rattle.spread.proofs.Spots.{pos}
-use Rattle.spread.proofs.Grown.{same, kept, back, further, still-none, sets-stay, offer-grew, offer-taken}
+use Rattle.spread.proofs.Grown.{same, kept, further, still-none, sets-stay, offer-grew, offer-taken}
 use Rattle.spread.proofs.Before.{set-into, set-from, look-into, look-to, look-from, low, only-from}
 
 -- what a push is made with lasts

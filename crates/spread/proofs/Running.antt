@@ -1,10 +1,9 @@
 -- Running numbers in loops over the settings: the powers of 7 and of 3, and the side so far.
 use mathlib.Core.Path.{_≡_, refl, sym, ap, _∙_}
 use mathlib.Core.List.{List}
-use Prim.Native.Nat.{ℕ, suc, _+_, _*_, _^_, _≤_, _<_}
+use Prim.Native.Nat.{ℕ, _+_, _*_, _^_, _<_}
 use native.Mathlib.Nat.{pow-suc, pow-zero}
 use native.Mathlib.Numerals.{add-one}
-use native.Mathlib.Omega.{arith}
 use Rattle.ground.specs.Digits.{digit}
 use Rattle.knowledge.specs.Seven.{nowOf}
 use Rattle.knowledge.specs.Number.{digitIn, digitsOf}

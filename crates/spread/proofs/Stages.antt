@@ -3,17 +3,16 @@
 use mathlib.Core.Path.{_≡_, refl, sym, ap, _∙_}
 use mathlib.Core.Logic.{_⊎_, inl, inr}
 use mathlib.Core.List.{List}
-use mathlib.Core.Bool.{Bool, true, false}
+use mathlib.Core.Bool.{true, false}
 use Prim.Native.Nat.{ℕ, _+_, _-_, _^_, _≤_, _<_}
 use native.Mathlib.Omega.{arith}
 use lib.ListN.{length}
 use Rattle.ground.proofs.Bools.{lt-or-ge}
-use Rattle.ground.specs.Digits.{digit}
 use Rattle.knowledge.specs.Acts.{setTo, lookAt}
 use Rattle.knowledge.proofs.Outcomes.{set-below, look-below}
-use Rattle.spread.specs.Spread.{rank, May, Lowers, by-set, by-look, Ready, Spread}
-use Rattle.spread.specs.Inner.{Grew, Pushed, Sweeping, Swept}
-use Rattle.spread.proofs.Grown.{lowers-map, kept, lowers-kept, lowers-back}
+use Rattle.spread.specs.Spread.{rank, Lowers, by-set, by-look, Ready, Spread}
+use Rattle.spread.specs.Inner.{Swept}
+use Rattle.spread.proofs.Grown.{kept, lowers-kept, lowers-back}
 
 -- before round h
 pub record Stage (n : ℕ) (set look : List (List ℕ)) (h : ℕ) (old t : List ℕ) : Type 0 where
@@ -127,7 +126,7 @@ module _ {n : ℕ} {set look : List (List ℕ)} where
   last e g = finish (omega arith) g (λ k l b m w. g .least k l b (omega arith) w)
 
   -- outcomes are knowledge numbers of n settings too
-  lowers-within : {s t : List ℕ} {k b h : ℕ} → k < 7 ^ n → ((x : ℕ) → x < 7 ^ n → rank s x < b → rank t x < h) → Lowers n set look s k b
+  pub lowers-within : {s t : List ℕ} {k b h : ℕ} → k < 7 ^ n → ((x : ℕ) → x < 7 ^ n → rank s x < b → rank t x < h) → Lowers n set look s k b
       → Lowers n set look t k h
   lowers-within {k = k} l f (by-set i b m may r) = by-set i b m may (f _ (set-below k i b n l m) r)
   lowers-within {k = k} l f (by-look i m may d r q) = by-look i m may d (f _ (look-below k i false n l m) r) (f _ (look-below k i true n l m) q)

@@ -7,7 +7,7 @@ use super::scan::BLOCK;
 use super::scan::is_bare;
 use knowledge::Knowledge;
 ghost use mathlib.Core.Path.{_≡_};
-ghost use Prim.Native.Nat.{ℕ, _+_, _^_, _≤_, _<_};
+ghost use Prim.Native.Nat.{_+_, _^_, _≤_, _<_};
 ghost use Rattle.knowledge.specs.Number.{digitsOf};
 ghost use Rattle.sides.specs.Sides.{nowNumber};
 ghost use Rattle.spread.specs.Inner.{Pushing, Visited, Sweeping, Swept};

@@ -1,6 +1,6 @@
 -- `spread::spread` meets its contract: a round carries the stage of h to that of h + 1, and both ways out end in the certificate.
-use Prim.Native.Nat.{_-_, _^_, _≤_, _<_}
-use mathlib.Core.Path.{_≡_, _∙_}
+use Prim.Native.Nat.{_-_, _≤_, _<_}
+use mathlib.Core.Path.{_∙_}
 use native.Mathlib.Omega.{arith}
 use Rattle.spread.proofs.Sweeps.{swept-all}
 use Rattle.spread.proofs.Stages.{Stage, first, next, still, last}

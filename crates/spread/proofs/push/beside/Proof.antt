@@ -2,8 +2,6 @@
 use native.Mathlib.Omega.{arith}
 use Rattle.spread.proofs.Spots.{spot-below, spot-states, spot-sides}
 use Rattle.spread.proofs.AtSpots.{look-at, look-high-at}
-use mathlib.Core.Path.{refl}
-use Rattle.knowledge.specs.Seven.{nowOf}
 use borrow.Author.Needs.{needs}
 use Rattle.spread.proofs.push.beside.Statement.{statement}
 use Rattle.spread.proofs.push.beside.Tie as tie

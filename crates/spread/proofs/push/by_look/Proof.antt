@@ -1,6 +1,6 @@
 -- `spread::push::by_look` meets its contract: digits 3 and 6 are the outcomes of a look, and no others are.
 use lib.Dec.{lit<}
-use mathlib.Core.Path.{_≡_, _∙_}
+use mathlib.Core.Path.{_∙_}
 use Rattle.spread.proofs.AtSpots.{beside-false, beside-true}
 use Rattle.spread.proofs.Pushes.{looks-none}
 use borrow.Author.Needs.{needs}

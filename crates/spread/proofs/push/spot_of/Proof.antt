@@ -2,7 +2,6 @@
 use native.Mathlib.Omega.{arith}
 use Rattle.spread.proofs.Spots.{pow-seven, rest-of, side-of}
 use Rattle.spread.proofs.AtSpots.{is-digit}
-use Prim.Native.Nat.{ℕ}
 use Rattle.spread.proofs.push.spot_of.Statement.{statement}
 use Rattle.spread.proofs.push.spot_of.Tie as tie
 

@@ -1,7 +1,5 @@
 -- `spread::round::sweep` meets its contract: the part passed was swept, and one state more makes a longer part.
-use Prim.Native.Nat.{_-_, _^_, _≤_}
-use mathlib.Core.Path.{_≡_}
-use borrow.Author.Needs.{needs}
+use Prim.Native.Nat.{_-_, _≤_}
 use native.Mathlib.Omega.{arith}
 use Rattle.spread.specs.Inner.{Swept}
 use Rattle.spread.proofs.Spots.{pow-seven}

@@ -1,7 +1,7 @@
 -- `spread::round::visit` meets its contract: each setting passed was pushed along, and the powers run with it.
 use borrow.Author.Needs.{needs}
 use Prim.Native.Nat.{_-_, _^_, _≤_}
-use mathlib.Core.Path.{_≡_, _∙_}
+use mathlib.Core.Path.{_≡_}
 use borrow.Author.Needs.{needs}
 use native.Mathlib.Omega.{arith}
 use Rattle.spread.specs.Inner.{Visited}
