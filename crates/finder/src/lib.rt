@@ -5,6 +5,7 @@
 // numbers, and a success the first bytes of the plan room with the plan; no other byte is touched.
 mod question;
 mod steps;
+mod written;
 
 pub use question::Asked;
 pub use question::Question;

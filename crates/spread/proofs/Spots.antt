@@ -46,7 +46,7 @@ side-change (suc n) i f g l other =
 
 pub now-below : (n k : ℕ) → nowNumber n k < 3 ^ n
 unfolding nowNumber
-now-below n k = side-lt n (λ i. nowOf (digit 7 k i)) (λ i. now-lt (digit 7 k i) (digit-lt pos k i))
+now-below n k = side-lt n (λ i. nowOf (digit 7 k i)) (λ i. now-lt (digit 7 k i))
 
 pub below-sides : (n k : ℕ) → n ≤ 7 → nowNumber n k < 2187
 below-sides n k l = lt-of-lt-of-le (now-below n k) (pow-three n l)

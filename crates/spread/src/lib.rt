@@ -1,12 +1,13 @@
 // The rank of every knowledge number, spread from the states that are settled. The crate knows two
 // tables of what is permitted and the marks, and nothing of books, rules or posts. It refuses nothing:
-// its one function has a `requires`, for this repository alone. Of the lent ranks it changes only
+// its functions have a `requires`, for this repository alone. Of the lent ranks it changes only
 // entries below 7^n that hold 255.
 mod push;
 mod round;
 mod scan;
 
 use round::round;
+pub use round::side_of;
 ghost use mathlib.Core.Path.{_≡_};
 ghost use Prim.Native.Nat.{_^_, _≤_};
 ghost use Rattle.spread.specs.Spread.{Ready, Spread};
@@ -19,7 +20,7 @@ const SETTINGS: usize = 7;
 const NONE: u8 = 255;
 
 // How many knowledge numbers n settings have.
-fn states(n: usize) -> usize
+pub fn states(n: usize) -> usize
     requires { ⌜ n ≤ 7 ⌝ }
     ensures { λ r. ⌜ r ≡ 7 ^ n ⌝ }
 {

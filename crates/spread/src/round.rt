@@ -13,7 +13,7 @@ ghost use Rattle.sides.specs.Sides.{nowNumber};
 ghost use Rattle.spread.specs.Inner.{Pushing, Visited, Sweeping, Swept};
 
 // The present side of the state whose number is k, as a number.
-fn side_of(n: usize, k: usize, state: Knowledge) -> usize
+pub fn side_of(n: usize, k: usize, state: Knowledge) -> usize
     requires { ⌜ (n ≤ 7) × (state .digits ≡ digitsOf k) ⌝ }
     ensures { λ r. ⌜ r ≡ nowNumber n k ⌝ }
 {
