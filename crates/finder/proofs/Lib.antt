@@ -2,3 +2,4 @@
 pub mod QuestionLaws
 pub mod RowLaws
 pub mod StepLaws
+pub mod PlanLaws
