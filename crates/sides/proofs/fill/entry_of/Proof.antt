@@ -25,7 +25,7 @@ add-result-2 : tie.Need-add-result-2
 add-result-2 c = omega (arith, place-lt (c .before .before .before .before .before .args .n) (c .before .before .before .before .before .args .side) (c .before .before .before .before .told-by .result) (c .before .before .before .before .before .pre .0) (c .before .before .before .before .before .pre .1) (c .before .before .before .before .told-by .ensures) (c .before .before .power .given .0 .0) (c .before .before .power .given .1) 2 (lit< tt))
 
 element-copy-out-result-2 : tie.Need-element-copy-out-result-2
-element-copy-out-result-2 c = place-lt (c .before .before .before .before .before .args .n) (c .before .before .before .before .before .args .side) (c .before .before .before .before .told-by .result) (c .before .before .before .before .before .pre .0) (c .before .before .before .before .before .pre .1) (c .before .before .before .before .told-by .ensures) (c .before .before .power .given .0 .0) (c .before .before .power .given .1) 2 (lit< tt)
+element-copy-out-result-2 c = omega (arith, place-lt (c .before .before .before .before .before .args .n) (c .before .before .before .before .before .args .side) (c .before .before .before .before .told-by .result) (c .before .before .before .before .before .pre .0) (c .before .before .before .before .before .pre .1) (c .before .before .before .before .told-by .ensures) (c .before .before .power .given .0 .0) (c .before .before .power .given .1) 2 (lit< tt))
 
 enum-known-value : tie.Need-enum-known-value
 enum-known-value c = search needs
