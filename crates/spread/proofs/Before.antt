@@ -3,7 +3,6 @@ use mathlib.Core.Path.{_≡_, sym, ap, _∙_}
 use mathlib.Core.Logic.{_⊎_, inl, inr}
 use mathlib.Core.Bool.{Bool, true, false, _&&_, _||_}
 use Prim.Native.Nat.{ℕ, _+_, _*_, _-_, _/_, _%_, _<_}
-use native.Mathlib.Omega.{arith}
 use lib.Dec.{T, eqb, ltb, eqb→eq, ltb→lt}
 use borrow.Author.Tests.{eq-eqb, ne-eqb}
 use Rattle.ground.specs.Digits.{digit, put}
@@ -96,6 +95,3 @@ module _ (d : ℕ) (l : d < 7) where
   unfolding all afterSet value
   from-none z m =
       (value d, eqb→eq (afterSet 0 (value d)) d (rw (ne-eqb d 0 z) at (all-at 3 (λ d. eqb d 0 || eqb (afterSet 0 (value d)) d) tt d m)))
-
-  pub low-small : (d ≡ 0 → ⊥) → low d + 1 < 7
-  low-small z = omega arith

@@ -30,6 +30,12 @@ pub record Spotted (n k i rest side seven three : ℕ) : Type 0 where
   pub seven-is : seven ≡ 7 ^ i
   pub three-is : three ≡ 3 ^ i
 
+-- a state k of n settings taken apart
+pub record Apart (n k side : ℕ) (digits : List ℕ) : Type 0 where
+  pub long : length digits ≡ 7
+  pub each : (i : ℕ) → i < n → getD digits i 0 ≡ digit 7 k i
+  pub side-is : side ≡ nowNumber n k
+
 -- every entry stays, or was 255 and is h now, as an act allows it
 pub record Grew (n : ℕ) (set look : List (List ℕ)) (h : ℕ) (old new : List ℕ) : Type 0 where
   pub same-length : length new ≡ length old

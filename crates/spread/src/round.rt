@@ -8,24 +8,42 @@ use super::scan::is_bare;
 use knowledge::Knowledge;
 ghost use mathlib.Core.Path.{_≡_};
 ghost use Prim.Native.Nat.{_+_, _^_, _≤_, _<_};
-ghost use Rattle.knowledge.specs.Number.{digitsOf};
 ghost use Rattle.sides.specs.Sides.{nowNumber};
-ghost use Rattle.spread.specs.Inner.{Pushing, Visited, Sweeping, Swept};
+ghost use Rattle.spread.specs.Inner.{Apart, Pushing, Visited, Sweeping, Swept};
 
-// The present side of the state whose number is k, as a number.
-pub fn side_of(n: usize, k: usize, state: Knowledge) -> usize
-    requires { ⌜ (n ≤ 7) × (state .digits ≡ digitsOf k) ⌝ }
-    ensures { λ r. ⌜ r ≡ nowNumber n k ⌝ }
+// A state taken apart: the digit of each setting, and the present side as a number.
+struct Parts {
+    digits: [u8; SETTINGS],
+    side: usize,
+}
+
+// Takes the state k apart, once for all settings.
+fn take_apart(n: usize, k: usize) -> Parts
+    requires { ⌜ (n ≤ 7) × (k < 7 ^ n) ⌝ }
+    ensures { λ r. ⌜ Apart n k (r .side) (r .digits) ⌝ }
 {
+    let state = Knowledge::from_number(k as u32);
+    let mut digits = [0u8; SETTINGS];
     let mut side = 0;
     let mut three = 1;
     let mut i = 0;
     while i < n {
-        side += now_of(state.digit(i as u8)) * three;
+        let d = state.digit(i as u8);
+        digits[i] = d;
+        side += now_of(d) * three;
         three *= 3;
         i += 1;
     }
-    side
+    Parts { digits, side }
+}
+
+// The present side of the state k, as a number.
+pub fn side_of(n: usize, k: usize) -> usize
+    requires { ⌜ (n ≤ 7) × (k < 7 ^ n) ⌝ }
+    ensures { λ r. ⌜ r ≡ nowNumber n k ⌝ }
+{
+    let parts = take_apart(n, k);
+    parts.side
 }
 
 // Pushes from the state k along every setting.
@@ -40,25 +58,14 @@ fn visit(
     requires { ⌜ (n ≤ 7) × (k < 7 ^ n) × Pushing n k h (now ranks) ⌝ }
     ensures { λ _. ⌜ Visited n (now (set .entry)) (now (look .entry)) h k n (now (ranks .entry)) (now (ranks .exit)) ⌝ }
 {
-    let state = Knowledge::from_number(k as u32);
-    let side = side_of(n, k, state);
+    let parts = take_apart(n, k);
+    let digits = parts.digits;
+    let side = parts.side;
     let mut seven = 1;
     let mut three = 1;
     let mut i = 0;
     while i < n {
-        push(
-            n,
-            k,
-            side,
-            i,
-            state.digit(i as u8),
-            seven,
-            three,
-            h,
-            set,
-            look,
-            ranks,
-        );
+        push(n, k, side, i, digits[i], seven, three, h, set, look, ranks);
         seven *= 7;
         three *= 3;
         i += 1;
