@@ -3,3 +3,4 @@ pub mod QuestionLaws
 pub mod RowLaws
 pub mod StepLaws
 pub mod PlanLaws
+pub mod Tables
