@@ -4,3 +4,4 @@ pub mod RowLaws
 pub mod StepLaws
 pub mod PlanLaws
 pub mod Tables
+pub mod FindLaws

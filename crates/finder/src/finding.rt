@@ -12,7 +12,8 @@ ghost use Prim.Native.Nat.{ℕ, _^_, _≤_, _<_};
 ghost use lib.ListN.{length as size};
 ghost use Rattle.plan.specs.Plans.{System};
 ghost use Rattle.finder.specs.Told.{Told};
-ghost use Rattle.finder.specs.Finds.{ValidQuestion, RanksFilled, Answers, Finds};
+ghost use Rattle.finder.specs.Rows.{KnownFits};
+ghost use Rattle.finder.specs.Finds.{RanksFilled, Answers, Finds};
 ghost use Rattle.finder.specs.Question.{systemOf, startNumber};
 
 pub enum Answer {
@@ -51,26 +52,28 @@ fn from_start(
     }
 }
 
-// Fills the ranks of a valid question, and answers it.
+// Fills the ranks of a question over n settings, and answers it.
 fn search(
     book: &[u8],
-    question: Question,
+    team: u8,
+    known: u8,
+    values: u8,
     make: &[u8],
     learn: &[u8],
     n: u8,
     ranks: &mut [u8],
     plan: &mut [u8],
 ) -> Answer
-    requires { ⌜ ((m : ℕ) × ValidQuestion (now book) question (now make) (now learn) n m) × (7 ^ n ≤ size (now ranks)) ⌝ }
-    ensures { λ r. ⌜ RanksFilled n (systemOf n (now (book .entry)) (question .team) (now (make .entry)) (now (learn .entry))) (now (ranks .entry)) (now (ranks .exit)) × Answers (systemOf n (now (book .entry)) (question .team) (now (make .entry)) (now (learn .entry))) (startNumber (question .known) (question .values)) (now (plan .entry)) r (now (plan .exit)) ⌝ }
+    requires { ⌜ (0 < n) × (n ≤ 7) × KnownFits n known values × (7 ^ n ≤ size (now ranks)) ⌝ }
+    ensures { λ r. ⌜ RanksFilled n (systemOf n (now (book .entry)) team (now (make .entry)) (now (learn .entry))) (now (ranks .entry)) (now (ranks .exit)) × Answers (systemOf n (now (book .entry)) team (now (make .entry)) (now (learn .entry))) (startNumber known values) (now (plan .entry)) r (now (plan .exit)) ⌝ }
 {
     let made = sides::made(make, n);
     let learnt = sides::learnt(learn, n);
     sides::mark(n, &made, &learnt, ranks);
-    let set = sides::posts_allowed(book, n, question.team, Right::Set);
-    let look = sides::posts_allowed(book, n, question.team, Right::Look);
+    let set = sides::posts_allowed(book, n, team, Right::Set);
+    let look = sides::posts_allowed(book, n, team, Right::Look);
     spread::spread(n, &set, &look, ranks);
-    let start = Knowledge::at_start(question.known, question.values).number();
+    let start = Knowledge::at_start(known, values).number();
     from_start(n, &set, &look, ranks, start, plan)
 }
 
@@ -91,7 +94,10 @@ pub fn find(
             if ranks.len() < spread::states(settings as usize) {
                 return Answer::Refused(Refusal::Ranks);
             }
-            search(book, question, make, learn, settings, ranks, plan)
+            let team = question.team;
+            let known = question.known;
+            let values = question.values;
+            search(book, team, known, values, make, learn, settings, ranks, plan)
         }
     }
 }

@@ -1,38 +1,31 @@
+-- `from_start` meets its contract: by the entry of the start, the length of the plan written from it, and its bytes.
+use mathlib.Core.Path.{refl}
+use native.Mathlib.Omega.{arith}
+use Rattle.finder.proofs.FindLaws.{no-rank, room-start, too-long, reached}
 use borrow.Author.Needs.{needs}
 use Rattle.finder.proofs.finding.from_start.Statement.{statement}
 use Rattle.finder.proofs.finding.from_start.Tie as tie
-use Rattle.finder.proofs.finding.from_start.Reads as reads
-use Rattle.finder.proofs.finding.from_start.Lts as lts
-use Rattle.finder.proofs.written.length.Reads as length-reads
-use Rattle.finder.proofs.written.write.Reads as write-reads
 
--- src/finding.rt:39:18
 shared-slice-read-height : tie.Need-shared-slice-read-height
 shared-slice-read-height c = search needs
 
--- src/finding.rt:41:9
 returns : tie.Need-returns
-returns c = ?
+returns c = λ S t. (no-rank t (c .before .before .before .before .pre .0) (c .if1 .taken), refl)
 
--- src/finding.rt:43:9
 length-requires : tie.Need-length-requires
-length-requires c κs = ?
+length-requires c κs = record { few = c .before .before .before .before .pre .2 .1 .few; state = c .before .before .before .before .pre .0; size = c .before .before .before .before .pre .1; finite = omega (arith, c .before .shared-slice-known2 .given (c .before .before .before .before .args .start), c .if1 .left); system = c .before .before .before .before .pre .2 .0; told = c .before .before .before .before .pre .2 .1 }
 
--- src/finding.rt:45:9
 returns-2 : tie.Need-returns-2
-returns-2 c = ?
+returns-2 c = λ S t. (too-long (c .before .length .ensures .1) (c .before .before .before .before .before .before .args .plan .now) t (c .if2 .taken), refl)
 
--- src/finding.rt:47:5
 write-requires : tie.Need-write-requires
-write-requires c κs = ?
+write-requires c κs = (record { few = c .before .before .before .before .before .before .before .pre .2 .1 .few; state = c .before .before .before .before .before .before .before .pre .0; size = c .before .before .before .before .before .before .before .pre .1; finite = omega (arith, c .before .before .before .before .shared-slice-known2 .given (c .before .before .before .before .before .before .before .args .start), c .before .before .before .if1 .left); system = c .before .before .before .before .before .before .before .pre .2 .0; told = c .before .before .before .before .before .before .before .pre .2 .1 }, room-start (c .before .before .length .ensures .1) _ (c .before .if2 .left))
 
--- src/finding.rt:28:1
 same-length : tie.Need-same-length
 same-length c = search needs
 
--- src/finding.rt:28:1
 returns-3 : tie.Need-returns-3
-returns-3 c = ?
+returns-3 c = reached (c .before .before .before .before .before .length .ensures .1) (c .before .before .before .before .before .before .before .before .before .before .pre .0) (omega (arith, c .before .before .before .before .before .before .before .shared-slice-known2 .given (c .before .before .before .before .before .before .before .before .before .before .args .start), c .before .before .before .before .before .before .if1 .left)) (c .before .before .before .before .if2 .left) (c .before .before .write .ensures)
 
 pub from-start-spec : {M : Type 1} → statement M
 from-start-spec =
