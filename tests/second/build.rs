@@ -7,6 +7,7 @@
 //! `PJ_LIB_DIR` names another folder for the archive and `PJ_ROUTE` another route (to try faulty stand-ins).
 
 use std::env;
+use std::fs;
 use std::path::{Path, PathBuf};
 use std::process::Command;
 
@@ -28,6 +29,8 @@ fn main() {
         panic!("{} is not there: run `rt staticlib exports` first", archive.display());
     }
 
+    println!("cargo:rustc-env=PJ_FUNCTIONS={}", functions(&archive).join(" "));
+
     let processor = env::var("CARGO_CFG_TARGET_ARCH").unwrap();
     let route = env::var("PJ_ROUTE").unwrap_or_else(|_| match processor.as_str() {
         "x86_64" => "linked".to_string(),
@@ -41,6 +44,17 @@ fn main() {
         "hosted" => build_host(&second, &archive),
         other => panic!("PJ_ROUTE is {other}: it is linked or hosted"),
     }
+}
+
+/// The names in the archive's index, its first member: after a header of 60 bytes a count and so many places, each of
+/// 32 bits with the high byte first, then the names, each with a zero byte after it.
+fn functions(archive: &Path) -> Vec<String> {
+    let bytes = fs::read(archive).unwrap_or_else(|error| panic!("{}: {error}", archive.display()));
+    let (header, index) = bytes.split_at_checked(68).unwrap_or_else(|| panic!("{} is no archive", archive.display()));
+    assert!(header.starts_with(b"!<arch>\n/ "), "{} has no index", archive.display());
+    let count = u32::from_be_bytes(index[..4].try_into().unwrap()) as usize;
+    let names = index[4 + 4 * count..].split(|&byte| byte == 0).take(count);
+    names.map(|name| String::from_utf8(name.to_vec()).unwrap()).collect()
 }
 
 fn build_host(second: &Path, archive: &Path) {

@@ -16,9 +16,11 @@ void *realloc(void *old, u64 size);
 _Noreturn void _exit(int status);
 
 u64 pj_formula_read(u64 n, const u8 *text, u64 len, u8 *table);
+u64 pj_book_read(const u8 *book, u64 len, u8 *rights, u64 rights_len);
+u64 pj_book_write(u64 n, u64 m, const u8 *rights, u64 len, u8 *book, u64 book_len);
 
 enum { GUARD = 32, ROOMS_MOST = 8 };
-enum { FORMULA_READ = 1 };
+enum { FORMULA_READ = 1, BOOK_READ = 2, BOOK_WRITE = 3 };
 
 static void fill(void *bytes, u64 size) {
     for (u64 done = 0; done < size;) {
@@ -39,6 +41,8 @@ static void send(const void *bytes, u64 size) {
 static u64 call(u64 function, const u64 *number, u8 *const *room, const u64 *lent) {
     switch (function) {
     case FORMULA_READ: return pj_formula_read(number[0], room[0], lent[0], room[1]);
+    case BOOK_READ: return pj_book_read(room[0], lent[0], room[1], lent[1]);
+    case BOOK_WRITE: return pj_book_write(number[0], number[1], room[0], lent[0], room[1], lent[1]);
     }
     _exit(2);
 }

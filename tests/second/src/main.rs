@@ -1,8 +1,11 @@
 //! The second program: paper 01 written again, independently, and compared with the proved library on many inputs,
 //! valid and damaged, to the last bit of every result and every lent byte. ../README.md tells how it is run.
 //!
-//! A subject is two files: what the paper says (`formula.rs`) and the cases to try (`formulas.rs`).
+//! An area of the library is two files: what the paper says (`formula.rs`) and the cases to try (`formulas.rs`). It
+//! has a line in `AREAS` once its functions are in the library.
 
+mod book;
+mod books;
 mod damage;
 mod ffi;
 mod formula;
@@ -13,22 +16,40 @@ mod report;
 mod rng;
 mod room;
 mod sentences;
+mod tables;
 
 use std::process::ExitCode;
 
-use report::Report;
+use report::{Group, Report, Subject};
 
-const USAGE: &str = "usage: second [--seed S] [--more K]   (K times as many random cases)";
+const USAGE: &str = "usage: second [--seed S] [--more K] [--only PART]\n\
+    K times as many random cases; only areas with PART in their name";
+
+/// A part of the library: the functions that its cases call.
+struct Area {
+    name: &'static str,
+    functions: &'static [&'static str],
+    test: fn(&mut Subject),
+}
+
+const AREAS: &[Area] = &[
+    Area { name: "formulas", functions: &["pj_formula_read"], test: formulas::test },
+    Area { name: "reading books", functions: &["pj_book_read"], test: books::reading },
+    Area { name: "writing books", functions: &["pj_book_write"], test: books::writing },
+];
 
 fn main() -> ExitCode {
     let mut seed = 1;
     let mut more = 1;
+    let mut only = String::new();
     let mut words = std::env::args().skip(1);
     while let Some(word) = words.next() {
-        let number = words.next().and_then(|word| word.parse::<u64>().ok());
-        match (word.as_str(), number) {
-            ("--seed", Some(number)) => seed = number,
-            ("--more", Some(number)) if number > 0 => more = number as usize,
+        let value = words.next();
+        let number = value.as_ref().and_then(|word| word.parse::<u64>().ok());
+        match (word.as_str(), number, value) {
+            ("--seed", Some(number), _) => seed = number,
+            ("--more", Some(number), _) if number > 0 => more = number as usize,
+            ("--only", _, Some(part)) if AREAS.iter().any(|area| area.name.contains(&part)) => only = part,
             _ => {
                 eprintln!("{USAGE}");
                 return ExitCode::from(2);
@@ -37,10 +58,21 @@ fn main() -> ExitCode {
     }
     println!("second program: seed {seed}, more {more}");
     let mut report = Report::new(seed, more);
-    report.subject("formulas", formulas::test);
+    report.subject("library", |subject| subject.group("each of its functions has its cases here", each_has_cases));
+    for area in AREAS.iter().filter(|area| area.name.contains(&only)) {
+        report.subject(area.name, area.test);
+    }
     if report.close() {
         ExitCode::SUCCESS
     } else {
         ExitCode::FAILURE
+    }
+}
+
+/// `build.rs` hands on the names in the archive's index. A function of an area that is not in it fails the link.
+fn each_has_cases(group: &mut Group) {
+    for name in env!("PJ_FUNCTIONS").split(' ').filter(|name| name.starts_with("pj_")) {
+        let tested = AREAS.iter().any(|area| area.functions.contains(&name));
+        group.case(tested, || format!("{name} is in the library, and no area of main.rs has it"));
     }
 }

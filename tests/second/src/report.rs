@@ -27,7 +27,9 @@ impl Report {
     pub fn subject(&mut self, name: &'static str, tests: impl FnOnce(&mut Subject)) {
         let mut subject = Subject { report: self, name, reached: BTreeMap::new(), accepted: 0 };
         tests(&mut subject);
-        println!("        {name}: accepted: {} cases", counted(subject.accepted));
+        if subject.accepted > 0 {
+            println!("        {name}: accepted: {} cases", counted(subject.accepted));
+        }
         for (number, places) in &subject.reached {
             let cases = counted(places.values().sum());
             println!("        {name}: refusal {number}: {cases} cases at {} places", counted(places.len()));
@@ -124,6 +126,14 @@ pub fn shown(bytes: &[u8]) -> String {
     let hex: Vec<String> = some.iter().map(|byte| format!("{byte:02x}")).collect();
     let dots = if some.len() < bytes.len() { " .." } else { "" };
     format!("{} bytes \"{}\"{dots} = {}{dots}", bytes.len(), some.escape_ascii(), hex.join(" "))
+}
+
+/// Long bytes, most of them zero: their count, then each that is not zero with its place.
+pub fn sparse(bytes: &[u8]) -> String {
+    let some: Vec<String> =
+        (0..bytes.len()).filter(|&i| bytes[i] != 0).map(|i| format!("{i}:{:02x}", bytes[i])).collect();
+    let dots = if some.len() > BYTES_SHOWN { " .." } else { "" };
+    format!("{} bytes {}{dots}", bytes.len(), some[..some.len().min(BYTES_SHOWN)].join(" "))
 }
 
 /// 31000 as 31,000.

@@ -8,9 +8,19 @@ use std::sync::{Mutex, OnceLock};
 use crate::room::Room;
 
 const FORMULA_READ: u64 = 1;
+const BOOK_READ: u64 = 2;
+const BOOK_WRITE: u64 = 3;
 
 pub fn formula_read(n: u64, text: &mut Room, table: &mut Room) -> u64 {
     call(FORMULA_READ, &[n], &mut [text, table])
+}
+
+pub fn book_read(book: &mut Room, rights: &mut Room) -> u64 {
+    call(BOOK_READ, &[], &mut [book, rights])
+}
+
+pub fn book_write(n: u64, m: u64, rights: &mut Room, book: &mut Room) -> u64 {
+    call(BOOK_WRITE, &[n, m], &mut [rights, book])
 }
 
 struct Host {

@@ -5,6 +5,8 @@ use crate::room::{Room, GUARD};
 
 extern "C" {
     fn pj_formula_read(n: u64, text: *const u8, len: u64, table: *mut u8) -> u64;
+    fn pj_book_read(book: *const u8, len: u64, rights: *mut u8, rights_len: u64) -> u64;
+    fn pj_book_write(n: u64, m: u64, rights: *const u8, len: u64, book: *mut u8, book_len: u64) -> u64;
 }
 
 /// The pointer may be used over the whole room, guards too, so a stray store is found and is not undefined.
@@ -12,7 +14,18 @@ fn start(room: &mut Room) -> *mut u8 {
     unsafe { room.whole_mut().as_mut_ptr().add(GUARD) }
 }
 
+fn size(room: &Room) -> u64 {
+    room.lent().len() as u64
+}
+
 pub fn formula_read(n: u64, text: &mut Room, table: &mut Room) -> u64 {
-    let len = text.lent().len() as u64;
-    unsafe { pj_formula_read(n, start(text), len, start(table)) }
+    unsafe { pj_formula_read(n, start(text), size(text), start(table)) }
+}
+
+pub fn book_read(book: &mut Room, rights: &mut Room) -> u64 {
+    unsafe { pj_book_read(start(book), size(book), start(rights), size(rights)) }
+}
+
+pub fn book_write(n: u64, m: u64, rights: &mut Room, book: &mut Room) -> u64 {
+    unsafe { pj_book_write(n, m, start(rights), size(rights), start(book), size(book)) }
 }
