@@ -20,7 +20,7 @@ found Cannot = 0
 found (Refused r) = packed (number r) (place r)
 
 -- the result and the rooms after the call, from the rooms before it
-pub record Found (book : List ℕ) (q : Question) (make learn ranks plan : List ℕ) (result : ℕ) (ranks′ plan′ : List ℕ) : Type 0 where
+pub record PlanFound (book : List ℕ) (q : Question) (make learn ranks plan : List ℕ) (result : ℕ) (ranks′ plan′ : List ℕ) : Type 0 where
   pub answer : Answer
   pub finds : Finds book q make learn ranks plan answer ranks′ plan′
   pub result-is : result ≡ found answer

@@ -5,7 +5,7 @@ ghost use mathlib.Core.Path.{_≡_};
 ghost use Prim.Native.Nat.{_<_, _^_};
 ghost use Rattle.exports.specs.Packed.{packed};
 ghost use Rattle.exports.specs.Formula.{FormulaRead};
-ghost use Rattle.exports.specs.Find.{asked, Found};
+ghost use Rattle.exports.specs.Find.{asked, PlanFound};
 ghost use Rattle.exports.specs.Book.{BookRead, BookWritten};
 use book::ReadAnswer;
 use book::WriteAnswer;
@@ -67,7 +67,7 @@ pub extern "C" fn pj_find(
     ranks: &mut [u8],
     plan: &mut [u8],
 ) -> u64
-    ensures { λ r. ⌜ Found (now (book .entry)) (asked team known values) (now (make .entry)) (now (learn .entry)) (now (ranks .entry)) (now (plan .entry)) r (now (ranks .exit)) (now (plan .exit)) ⌝ }
+    ensures { λ r. ⌜ PlanFound (now (book .entry)) (asked team known values) (now (make .entry)) (now (learn .entry)) (now (ranks .entry)) (now (plan .entry)) r (now (ranks .exit)) (now (plan .exit)) ⌝ }
 {
     let question = Question {
         team,

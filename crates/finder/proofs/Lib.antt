@@ -5,3 +5,4 @@ pub mod StepLaws
 pub mod PlanLaws
 pub mod Tables
 pub mod FindLaws
+pub mod Small
