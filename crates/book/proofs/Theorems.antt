@@ -33,7 +33,7 @@ use Rattle.book.proofs.RoundTrip.{book-again, read-writable, written-so
 -- ---- one result alone
 
 -- a refusal is known by its number and place
-named : ℕ → ℕ → Refusal
+unfoldable pub named : ℕ → ℕ → Refusal
 named x p =
     cond (eqb x 5) Settings (cond (eqb x 6) Length (cond (eqb x 7) (Check p) (cond (eqb x 8) Head (cond (eqb x 9) (StrayBit p) Room))))
 

@@ -6,3 +6,4 @@ pub mod PlanLaws
 pub mod Tables
 pub mod FindLaws
 pub mod Small
+pub mod Theorems
