@@ -1,7 +1,7 @@
 -- What a question's answer tells, and what a search for the lowest failure has found.
 use mathlib.Core.Path.{_≡_, refl, subst}
 use mathlib.Core.Bool.{Bool, true, false, not}
-use Prim.Native.Nat.{ℕ, _+_, _≤_, _<_}
+use Prim.Native.Nat.{ℕ, _≤_, _<_}
 use native.Mathlib.Omega.{arith}
 use native.Mathlib.Nat.{le-refl, lt-irrefl}
 use borrow.Author.Tests.{not-true, not-false}

@@ -1,7 +1,7 @@
 -- A number is below 2^k exactly where its bits from k on are zero, one bit after the other.
-use mathlib.Core.Path.{_≡_, refl, sym, ap, _∙_, subst}
+use mathlib.Core.Path.{_≡_}
 use mathlib.Core.Bool.{false}
-use Prim.Native.Nat.{ℕ, zero, suc, _+_, _*_, _/_, _%_, _^_, _≤_, _<_}
+use Prim.Native.Nat.{ℕ, zero, suc, _+_, _/_, _%_, _^_, _≤_, _<_}
 use native.Mathlib.Nat.{add-zero, add-suc, div-eq-of-lt, div-lt-iff-lt-mul, lt-of-lt-of-le, pow-le-pow-right, pow-suc, mul-comm, one-mul}
 use native.Mathlib.Omega.{arith}
 use lib.Dec.{eqb, lit<}

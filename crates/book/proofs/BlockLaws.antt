@@ -1,12 +1,12 @@
 -- A block with a right check is its first 508 bytes, sealed; and what is sealed has a right check. The two ways between a block and its bytes.
-use mathlib.Core.Path.{_≡_, refl, sym, ap, ap₂, _∙_, subst}
+use mathlib.Core.Path.{_≡_, sym, ap, ap₂, _∙_, subst}
 use mathlib.Core.List.{List, [], _∷_, _++_}
 use Prim.Native.Nat.{ℕ, zero, suc, _+_, _*_, _-_, _/_, _%_, _^_, _≤_, _<_}
 use native.Mathlib.Nat.{mod-lt}
 use native.Mathlib.Omega.{arith}
 use lib.Dec.{lit<, lit≤}
 use lib.ListN.{length, getD, take, drop, replicate, take-append-drop, length-append, length-replicate, getD-replicate, drop-of-length-le, List·getD-append}
-use lib.Seq.{ext-getD, drop-cons, take-suc, take-add, take-take, take-at, getD-at, getD-take, getD-append-add, length-take-le}
+use lib.Seq.{ext-getD, drop-cons, take-suc, take-add, getD-take, getD-append-add, length-take-le}
 use Rattle.ground.specs.Digits.{bit}
 use Rattle.ground.specs.Table.{truth, Within}
 use Rattle.book.specs.declared.rule.Right.{Right}

@@ -1,12 +1,11 @@
 -- Laws of a book as a whole: its head, and the bytes that its reader has looked at.
-use mathlib.Core.Path.{_≡_, refl, sym, ap, _∙_, subst}
+use mathlib.Core.Path.{_≡_, refl, sym, _∙_}
 use mathlib.Core.List.{List}
-use Prim.Native.Nat.{ℕ, _+_, _-_, _*_, _/_, _%_, _≤_, _<_}
+use Prim.Native.Nat.{ℕ, _-_, _*_, _/_, _≤_, _<_}
 use native.Mathlib.Omega.{arith}
 use lib.Dec.{lit<}
-use lib.ListN.{length, getD, drop}
+use lib.ListN.{length, getD}
 use Rattle.book.specs.Block.{blocks, block, Zeros}
-use Rattle.book.specs.Sound.{Head, Posts}
 use Rattle.book.specs.Refusals.{Whole, settingsOf, postsOf, RightHead}
 use Rattle.book.proofs.CheckLaws.{block-byte}
 

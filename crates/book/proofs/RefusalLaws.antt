@@ -1,8 +1,8 @@
 -- Each way out of the judgement of a book, and of the writer's, is the first refusal in the order or none: what was tested before shows that
 -- the rows before are not given.
 use mathlib.Core.Path.{_≡_, refl, sym, ap, _∙_, subst}
-use mathlib.Core.List.{List, [], _∷_, _++_}
-use mathlib.Core.Logic.{_⊎_, inl, inr}
+use mathlib.Core.List.{List}
+use mathlib.Core.Logic.{inl, inr}
 use Prim.Native.Nat.{ℕ, _+_, _-_, _*_, _^_, _≤_, _<_}
 use native.Mathlib.Omega.{arith}
 use lib.Dec.{lit<}
@@ -10,14 +10,13 @@ use lib.ListN.{length, getD, take, drop}
 use lib.Seq.{getD-take}
 use Rattle.ground.specs.Search.{Least}
 use Rattle.book.specs.Block.{blocks, block, RightCheck}
-use Rattle.book.specs.Sound.{Settings, Posts, Tables, SettingBlock, Sound, tablesOf}
-use Rattle.book.specs.Written.{Writable}
-use Rattle.book.specs.Order.{First, Clear}
-use Rattle.book.specs.Refusals.{Whole, settingsOf, postsOf, RightHead, bookRows, readRows, writeRows}
+use Rattle.book.specs.Sound.{SettingsFit, PostsFit, Tables, SettingBlock, Sound, tablesOf}
+use Rattle.book.specs.Order.{First}
+use Rattle.book.specs.Refusals.{Whole, settingsOf, postsOf, RightHead, bookRows, writeRows}
 use Rattle.book.specs.Inner.{Lowest, Clean}
 use Rattle.book.proofs.Lists.{getD-part}
 use Rattle.book.proofs.Answers.{lowest-map}
-use Rattle.book.proofs.OrderLaws.{least-only, none-only, first-left, first-right, clear-append}
+use Rattle.book.proofs.OrderLaws.{least-only, none-only}
 use Rattle.book.proofs.CheckLaws.{block-byte}
 use Rattle.book.proofs.StrayLaws.{tables-clean, clean-tables, block-clean, clean-block, clean-same}
 use Rattle.book.proofs.BookLaws.{whole-length, first-byte, head-settings, head-posts}
@@ -131,16 +130,16 @@ module _ (book : List ℕ) where
 -- ---- the writer's
 
 module _ (n m : ℕ) (rights room : List ℕ) where
-  pub refuse-settings : (Settings n → ⊥) → First (writeRows n m rights room) 5 0
+  pub refuse-settings : (SettingsFit n → ⊥) → First (writeRows n m rights room) 5 0
   unfolding writeRows
   refuse-settings never = inl (refl, least-only never)
 
-  module _ (settings : Settings n) where
-    pub refuse-posts : (Posts m → ⊥) → First (writeRows n m rights room) 8 0
+  module _ (settings : SettingsFit n) where
+    pub refuse-posts : (PostsFit m → ⊥) → First (writeRows n m rights room) 8 0
     unfolding writeRows
     refuse-posts never = inr (none-only (λ f. f settings), inl (refl, least-only never))
 
-    module _ (posts : Posts m) where
+    module _ (posts : PostsFit m) where
       pub refuse-size : (length rights ≡ 256 * n → ⊥) → First (writeRows n m rights room) 6 0
       unfolding writeRows
       refuse-size never = inr (none-only (λ f. f settings), inr (none-only (λ f. f posts), inl (refl, least-only never)))

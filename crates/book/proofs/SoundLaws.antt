@@ -1,18 +1,17 @@
 -- What a sound book gives: none of 6 to 9, its two numbers, its rights; and what the reader and the writer leave in the room.
 use mathlib.Core.Path.{_≡_, refl, sym, ap, _∙_, subst}
-use mathlib.Core.List.{List, [], _∷_, _++_}
+use mathlib.Core.List.{List, _++_}
 use mathlib.Core.Logic.{inl}
 use Prim.Native.Nat.{ℕ, _+_, _-_, _*_, _≤_, _<_}
-use native.Mathlib.Nat.{add-zero}
 use native.Mathlib.Omega.{arith}
-use lib.ListN.{length, getD, drop, length-append}
+use lib.ListN.{length, drop, length-append}
 use lib.Seq.{sets}
 use Rattle.book.specs.declared.reading.ReadAnswer.{ReadAnswer}
 use Rattle.book.specs.declared.reading.ReadAnswer.the-variants.{Book, Refused}
 use Rattle.book.specs.declared.writing.WriteAnswer.{WriteAnswer}
 use Rattle.book.specs.declared.writing.WriteAnswer.the-variants.{Written, Refused as NotWritten}
 use Rattle.book.specs.declared.refusal.Refusal.{Refusal}
-use Rattle.book.specs.Block.{blocks, block, RightCheck}
+use Rattle.book.specs.Block.{blocks, block}
 use Rattle.book.specs.Sound.{Sound, Tables, SettingBlock, rightsOf, tablesOf}
 use Rattle.book.specs.Written.{headBlock, settingBlocks, bookOf, Writable}
 use Rattle.book.specs.Order.{First, Clear}

@@ -1,15 +1,15 @@
 -- What is promised of the book, in one place: for each public function, that any two results that its contract allows are the same, the room
 -- included; the two round trips; what a rule of a sound book is. All for every n at once.
 use mathlib.Core.Path.{_≡_, refl, sym, ap, ap₂, _∙_, subst}
-use mathlib.Core.Bool.{Bool, true, false, cond}
-use mathlib.Core.List.{List, [], _∷_, _++_}
-use Prim.Native.Nat.{ℕ, _+_, _-_, _*_, _/_, _%_, _≤_, _<_}
+use mathlib.Core.Bool.{cond}
+use mathlib.Core.List.{List, _++_}
+use mathlib.Core.Logic.{inl, inr, ⊎-elim}
+use Prim.Native.Nat.{ℕ, _+_, _*_, _≤_, _<_}
 use native.Mathlib.Omega.{arith}
 use lib.Dec.{eqb}
 use lib.ListN.{length, getD, take, drop, replicate}
-use lib.Seq.{take-at, take-take, drop-drop, getD-take}
-use Rattle.ground.specs.Digits.{bit}
-use Rattle.ground.specs.Table.{truth, Within}
+use lib.Seq.{take-at}
+use Rattle.ground.proofs.Bools.{lt-or-ge}
 use Rattle.book.specs.declared.sums.Sums.{Sums}
 use Rattle.book.specs.declared.rule.Right.{Right}
 use Rattle.book.specs.declared.refusal.Refusal.{Refusal}
@@ -18,15 +18,14 @@ use Rattle.book.specs.declared.reading.ReadAnswer.{ReadAnswer}
 use Rattle.book.specs.declared.reading.ReadAnswer.the-variants.{Book, Refused}
 use Rattle.book.specs.declared.writing.WriteAnswer.{WriteAnswer}
 use Rattle.book.specs.declared.writing.WriteAnswer.the-variants.{Written, Refused as NotWritten}
-use Rattle.book.specs.Block.{check, sumsAfter, added, block}
-use Rattle.book.specs.Rule.{tablePlace, table, rulePlace, rule}
-use Rattle.book.specs.Sound.{Sound, rightsOf, tablesOf}
-use Rattle.book.specs.Written.{settingBlock, bookOf, Writable}
-use Rattle.book.specs.Order.{First, Clear}
-use Rattle.book.specs.Refusals.{number, place, bookRows, readRows, writeRows}
+use Rattle.book.specs.Block.{check, sumsAfter, added, blocks}
+use Rattle.book.specs.Rule.{rulePlace}
+use Rattle.book.specs.Sound.{SettingsFit, Sound, rightsOf}
+use Rattle.book.specs.Written.{bookOf, Writable}
+use Rattle.book.specs.Order.{only, First}
+use Rattle.book.specs.Refusals.{number, place, Whole, settingsOf, bookRows, readRows, writeRows}
 use Rattle.book.specs.Promise.{Judges, Reads, Writes}
-use Rattle.book.proofs.OrderLaws.{first-unique, first-clear, clear-append, none-only}
-use Rattle.book.proofs.RefusalLaws.{none-block}
+use Rattle.book.proofs.OrderLaws.{first-unique, first-clear}
 use Rattle.book.proofs.WriteLaws.{length-rights}
 use Rattle.book.proofs.SoundLaws.{sound-settings, sound-posts, sound-clear, length-book, writable-clear, read-clear}
 use Rattle.book.proofs.RoundTrip.{book-again, read-writable, written-sound, rights-again}
@@ -92,6 +91,32 @@ writes-one n m rights room (NotWritten r) Written x y p q =
 writes-one n m rights room (NotWritten r) (NotWritten s) x y p q =
     let e = first-unique (writeRows n m rights room) (number r) (number s) (place r) (place s) (p .0) (q .0) in
     (ap NotWritten (refusal-one r s (e .0) (e .1)), p .1 ∙ sym (q .1))
+
+-- ---- how far a place goes: the C interface packs it beside the number
+
+blocks-most : {book : List ℕ} → ((q : ℕ) → only (Whole book → ⊥) q → ⊥) → blocks book ≤ 8
+blocks-most {book} none = ⊎-elim (λ (h : 8 < blocks book). absurd (none 0 ((λ w. omega (arith, w .most)), refl))) (λ h. h) (lt-or-ge 8 (blocks book))
+
+settings-most : {n : ℕ} → ((q : ℕ) → only (SettingsFit n → ⊥) q → ⊥) → n ≤ 7
+settings-most {n} none = ⊎-elim (λ (h : 7 < n). absurd (none 0 ((λ s. omega (arith, s .most)), refl))) (λ h. h) (lt-or-ge 7 n)
+
+pub read-place-most : (book room : List ℕ) (x p : ℕ) → First (readRows book room) x p → p ≤ 8
+unfolding readRows bookRows settingsOf
+read-place-most book room x p (inl a) = omega (arith, a .1 .here .1)
+read-place-most book room x p (inr (none, inl a)) = omega (arith, a .1 .here .0, blocks-most none)
+read-place-most book room x p (inr (none, inr (c, inl a))) = omega (arith, a .1 .here .1)
+read-place-most book room x p (inr (none, inr (c, inr (d, inl a)))) = omega (arith, a .1 .here .1, blocks-most none)
+read-place-most book room x p (inr (none, inr (c, inr (d, inr (e, inl a))))) = omega (arith, a .1 .here .1)
+read-place-most book room x p (inr (none, inr (c, inr (d, inr (e, inr f))))) = absurd (f .1)
+
+pub write-place-most : (n m : ℕ) (rights room : List ℕ) (x p : ℕ) → First (writeRows n m rights room) x p → p ≤ 7
+unfolding writeRows
+write-place-most n m rights room x p (inl a) = omega (arith, a .1 .here .1)
+write-place-most n m rights room x p (inr (none, inl a)) = omega (arith, a .1 .here .1)
+write-place-most n m rights room x p (inr (none, inr (c, inl a))) = omega (arith, a .1 .here .1)
+write-place-most n m rights room x p (inr (none, inr (c, inr (d, inl a)))) = omega (arith, a .1 .here .1, settings-most none)
+write-place-most n m rights room x p (inr (none, inr (c, inr (d, inr (e, inl a))))) = omega (arith, a .1 .here .1)
+write-place-most n m rights room x p (inr (none, inr (c, inr (d, inr (e, inr f))))) = absurd (f .1)
 
 -- ---- the round trips
 

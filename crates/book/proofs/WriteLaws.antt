@@ -1,13 +1,13 @@
 -- What the stores of the writer and the copies of the reader add up to: each is a run of bytes that goes on where the last one ended.
 use mathlib.Core.Path.{_≡_, refl, sym, ap, ap₂, _∙_}
-use mathlib.Core.List.{List, [], _∷_, _++_, append-assoc}
-use Prim.Native.Nat.{ℕ, zero, suc, _+_, _*_, _≤_, _<_}
+use mathlib.Core.List.{List, _++_}
+use Prim.Native.Nat.{ℕ, zero, suc, _+_, _*_, _≤_}
 use native.Mathlib.Nat.{zero-add}
 use native.Mathlib.Numerals.{add-one}
 use native.Mathlib.Omega.{arith}
 use lib.Dec.{lit≤}
 use lib.ListN.{length, getD, take, drop, replicate, length-append, length-replicate}
-use lib.Seq.{sets, take-take, getD-drop, length-sets}
+use lib.Seq.{sets, take-take, getD-drop}
 use Rattle.book.specs.declared.sums.Sums.{Sums}
 use Rattle.book.specs.Block.{check, block, inOrder}
 use Rattle.book.specs.Sound.{rightsOf, tablesOf}

@@ -4,25 +4,25 @@ use mathlib.Core.List.{List, [], _∷_, _++_}
 use Prim.Native.Nat.{ℕ, _+_, _-_, _*_, _%_, _≤_, _<_}
 use lib.ListN.{length, getD}
 use Rattle.book.specs.declared.refusal.Refusal.{Refusal}
-use Rattle.book.specs.declared.refusal.Refusal.the-variants.{Settings as NoSettings, Length, Check, Head as NoHead, StrayBit, Room}
+use Rattle.book.specs.declared.refusal.Refusal.the-variants.{Settings, Length, Check, Head as WrongHead, StrayBit, Room}
 use Rattle.book.specs.Block.{blocks, block, RightCheck}
-use Rattle.book.specs.Sound.{Settings, Posts, Head, Tables, SettingBlock, tablesOf}
+use Rattle.book.specs.Sound.{SettingsFit, PostsFit, Head, Tables, SettingBlock, tablesOf}
 use Rattle.book.specs.Order.{Row, only}
 
 -- "A refusal gives a number and a place. [..] Place is 0 unless named."
 abbrev pub number : Refusal → ℕ
-number NoSettings = 5
+number Settings = 5
 number Length = 6
 number (Check k) = 7
-number NoHead = 8
+number WrongHead = 8
 number (StrayBit k) = 9
 number Room = 15
 
 abbrev pub place : Refusal → ℕ
-place NoSettings = 0
+place Settings = 0
 place Length = 0
 place (Check k) = k
-place NoHead = 0
+place WrongHead = 0
 place (StrayBit k) = k
 place Room = 0
 
@@ -42,7 +42,7 @@ postsOf book = getD (block book 0) 1 0
 -- the negation of 8: "head's n not blocks − 1, m outside 1 to 8, or other head byte not 0"
 pub record RightHead (book : List ℕ) : Type 0 where
   pub head : Head (settingsOf book) (postsOf book) (block book 0)
-  pub posts : Posts (postsOf book)
+  pub posts : PostsFit (postsOf book)
 
 -- "the book's 6 to 9", in the order of reading: "6, 7 (lowest block), 8, 9 (lowest)"
 unfoldable pub bookRows : List ℕ → List Row
@@ -60,8 +60,8 @@ readRows book room = bookRows book ++ (record { number = 15; given = only (lengt
 -- "Writing: 5, 8 (m only), 6, 9, 15."
 unfoldable pub writeRows : ℕ → ℕ → List ℕ → List ℕ → List Row
 writeRows n m rights room =
-    record { number = 5; given = only (Settings n → ⊥) }
-    ∷ record { number = 8; given = only (Posts m → ⊥) }
+    record { number = 5; given = only (SettingsFit n → ⊥) }
+    ∷ record { number = 8; given = only (PostsFit m → ⊥) }
     ∷ record { number = 6; given = only (length rights ≡ 256 * n → ⊥) }
     ∷ record { number = 9; given = λ k. (1 ≤ k) × (k ≤ n) × (Tables n m (tablesOf rights (k - 1)) → ⊥) }
     ∷ record { number = 15; given = only (length room < 512 * (1 + n)) }

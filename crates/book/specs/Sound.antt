@@ -9,11 +9,11 @@ use Rattle.book.specs.Block.{block, Zeros, RightCheck, inOrder}
 use Rattle.book.specs.Rule.{table}
 
 -- "Settings n: 1 to 7", "Posts m: 1 to 8"
-pub record Settings (n : ℕ) : Type 0 where
+pub record SettingsFit (n : ℕ) : Type 0 where
   pub least : 1 ≤ n
   pub most : n ≤ 7
 
-pub record Posts (m : ℕ) : Type 0 where
+pub record PostsFit (m : ℕ) : Type 0 where
   pub least : 1 ≤ m
   pub most : m ≤ 8
 
@@ -35,8 +35,8 @@ pub record SettingBlock (n m : ℕ) (bytes : List ℕ) : Type 0 where
 
 -- "Blocks of 512 bytes: one head, then one per setting in order, so 512 × (1 + n)", each with its check
 pub record Sound (book : List ℕ) (n m : ℕ) : Type 0 where
-  pub settings : Settings n
-  pub posts : Posts m
+  pub settings : SettingsFit n
+  pub posts : PostsFit m
   pub size : length book ≡ 512 * (1 + n)
   pub checks : (k : ℕ) → k < 1 + n → RightCheck (block book k)
   pub head : Head n m (block book 0)

@@ -1,10 +1,10 @@
 -- The bytes of a book, made from its numbers and rights.
 use mathlib.Core.Path.{_≡_}
 use mathlib.Core.List.{List, [], _∷_, _++_}
-use Prim.Native.Nat.{ℕ, _+_, _*_, _/_, _%_, _≤_, _<_}
+use Prim.Native.Nat.{ℕ, _+_, _*_, _/_, _%_, _<_}
 use lib.ListN.{length, replicate}
 use Rattle.book.specs.Block.{check, inOrder}
-use Rattle.book.specs.Sound.{Settings, Posts, Tables, tablesOf}
+use Rattle.book.specs.Sound.{SettingsFit, PostsFit, Tables, tablesOf}
 
 -- "16-bit numbers, low byte first"
 unfoldable pub bytes16 : ℕ → List ℕ
@@ -32,7 +32,7 @@ bookOf n m rights = headBlock n m ++ settingBlocks rights n
 
 -- what the writer takes: numbers in their bounds, 256 × n bytes, no bit that must be zero
 pub record Writable (n m : ℕ) (rights : List ℕ) : Type 0 where
-  pub settings : Settings n
-  pub posts : Posts m
+  pub settings : SettingsFit n
+  pub posts : PostsFit m
   pub size : length rights ≡ 256 * n
   pub tables : (i : ℕ) → i < n → Tables n m (tablesOf rights i)

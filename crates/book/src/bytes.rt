@@ -1,4 +1,5 @@
-// Bytes of slices: one that may not be there, and runs of them written into a lent room.
+// Bytes of slices: one that may not be there, and runs of them written into a lent room. Called by
+// this crate alone, which meets each `requires`: that a run lies within its slices.
 ghost use mathlib.Core.Path.{_≡_};
 ghost use Prim.Native.Nat.{_+_, _≤_};
 ghost use lib.ListN.{length, getD, take, drop, replicate};

@@ -43,7 +43,7 @@ fn is_whole(book: &[u8]) -> bool
     true
 }
 
-// Whether bytes 2 to 507 are zero.
+// Whether bytes 2 to 507 are zero, in a book of whole blocks.
 fn is_plain(book: &[u8]) -> bool
     requires { ⌜ 508 ≤ length (now book) ⌝ }
     ensures { λ r. ⌜ Tells r (Zeros 2 508 (now (book .entry))) ⌝ }
@@ -58,7 +58,8 @@ fn is_plain(book: &[u8]) -> bool
     true
 }
 
-// Whether the head says one setting for each block after it, 1 to 8 posts and nothing else.
+// Whether the head says one setting for each block after it, 1 to 8 posts and nothing else, in a
+// book of whole blocks.
 fn is_head(book: &[u8]) -> bool
     requires { ⌜ Whole (now book) ⌝ }
     ensures { λ r. ⌜ Tells r (RightHead (now (book .entry))) ⌝ }
@@ -104,7 +105,7 @@ pub fn sound(book: &[u8]) -> ReadAnswer
     }
 }
 
-// Copies the tables of the book's n settings to the start of the room.
+// Copies the tables of the book's n settings to the start of the room, which is long enough.
 fn copy_rights(book: &[u8], n: usize, room: &mut [u8])
     requires { ⌜ (n ≤ 7) × (512 * (1 + n) ≤ length (now book)) × (256 * n ≤ length (now room)) ⌝ }
     ensures { λ _. ⌜ now (room .exit) ≡ sets (now (room .entry)) 0 (rightsOf (now (book .entry)) n) ⌝ }

@@ -50,7 +50,7 @@ fn is_clean(bytes: &[u8], from: usize, count: usize, all: usize, m: u8) -> bool
 
 // The lowest of n settings with a bit that must be zero; n where none has one. Each setting has
 // `count` bytes that are looked at, and begins `stride` bytes after the one before, the first at
-// `from`.
+// `from`. The reader hands over 512 and 512, the writer 0 and 256, both for at most 7 settings.
 pub(crate) fn first_stray(
     bytes: &[u8],
     from: usize,

@@ -45,7 +45,7 @@ pub fn check_of(bytes: &[u8], from: usize) -> Sums
     sums
 }
 
-// The number of 16 bits, low byte first, at byte i of what begins at `from`.
+// The number of 16 bits, low byte first, at byte i of what begins at `from`; i is 508 or 510.
 fn number_at(bytes: &[u8], from: usize, i: usize) -> u16
     requires { ⌜ i ≤ 510 ⌝ }
     ensures { λ r. ⌜ r ≡ number16 (drop from (now (bytes .entry))) i ⌝ }
@@ -69,7 +69,8 @@ fn is_right(bytes: &[u8], from: usize) -> bool
     true
 }
 
-// The lowest of the first `count` blocks whose check is wrong; `count` where none is.
+// The lowest of the first `count` blocks whose check is wrong; `count` where none is. A book has at
+// most 8 blocks, and `sound` has seen to that.
 pub(crate) fn first_wrong(book: &[u8], count: usize) -> usize
     requires { ⌜ count ≤ 8 ⌝ }
     ensures { λ r. ⌜ Lowest count (λ k. RightCheck (block (now (book .entry)) k)) r ⌝ }

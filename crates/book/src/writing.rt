@@ -1,4 +1,5 @@
-// From rights in memory to a book's bytes.
+// From rights in memory to a book's bytes. The functions that write are called once `judge` has seen
+// that all of it fits.
 use super::BLOCK;
 use super::HEAD_ZEROS;
 use super::POSTS_MOST;

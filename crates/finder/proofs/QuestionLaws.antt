@@ -17,7 +17,7 @@ use Rattle.ground.proofs.Bools.{T→true, T→false, true→T, false→T, both,
 use Rattle.ground.proofs.Bits.{same-bits, bit-mod, bit-or}
 use Rattle.ground.proofs.Table.{truth-take}
 use Rattle.knowledge.proofs.Bytes.{bit-above}
-use Rattle.finder.specs.Question.{learnCount, learnTable}
+use Rattle.sides.specs.Over.{learnCount, learnTable}
 use Rattle.finder.specs.Rows.{TeamFits, KnownFits, LearnWithin, GoalFits}
 
 -- a test tells what it is equivalent to
@@ -99,9 +99,8 @@ learn-more n learn j f w i l = elim (lt-or-ge i j)
   | inr m ↦ (let same : i ≡ j = omega arith in rw same (within-take n (drop (16 * j) learn) w)) ]
 
 pub learn-bad : (n : ℕ) (learn : List ℕ) (j : ℕ) → j < length learn / 16 → (Within n (drop (16 * j) learn) → ⊥) → LearnWithin n learn → ⊥
-unfolding learnTable learnCount
+unfolding learnTable
 learn-bad n learn j l ne f = ne (within-drop n (drop (16 * j) learn) (f j l))
 
 pub learn-all : (n : ℕ) (learn : List ℕ) (j : ℕ) → length learn / 16 ≤ j → LearnTo n learn j → LearnWithin n learn
-unfolding learnCount
 learn-all n learn j l f i h = f i (omega arith)

@@ -9,7 +9,7 @@ use Rattle.ground.specs.Table.{Within}
 use Rattle.book.specs.Order.{Row, only}
 use Rattle.book.specs.Refusals.{settingsOf, postsOf, bookRows}
 use Rattle.book.specs.Refusals as B
-use Rattle.finder.specs.Question.{learnCount, learnTable}
+use Rattle.sides.specs.Over.{learnCount, learnTable}
 use Rattle.finder.specs.declared.question.Refusal.{Refusal}
 use Rattle.finder.specs.declared.question.Refusal.the-variants.{Book, Team, Known, Goal, Ranks, PlanRoom}
 

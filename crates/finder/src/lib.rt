@@ -4,6 +4,7 @@
 // were. A valid question fills the first 7^n bytes of the rank table with the ranks of all knowledge
 // numbers, and a success the first bytes of the plan room with the plan; no other byte is touched.
 mod question;
+mod steps;
 
 pub use question::Asked;
 pub use question::Question;

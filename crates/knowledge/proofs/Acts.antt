@@ -19,7 +19,7 @@ kind-look (suc zero) i q a b = absurd (b refl)
 kind-look (suc (suc kind)) i q a b = refl
 
 -- an act and its byte
-of-kind-of : (a : Act) → ofKind (kindOf a) (settingOf a) (postOf a) ≡ a
+pub of-kind-of : (a : Act) → ofKind (kindOf a) (settingOf a) (postOf a) ≡ a
 of-kind-of (Set i q false) = refl
 of-kind-of (Set i q true) = refl
 of-kind-of (Look i q) = refl
@@ -29,7 +29,7 @@ kind-most (Set i q false) = lit≤ tt
 kind-most (Set i q true) = lit≤ tt
 kind-most (Look i q) = lit≤ tt
 
-byte-of-kind : (kind i q : ℕ) → kind ≤ 2 → byteOf (ofKind kind i q) ≡ 1 + (kind * 7 + i) * 8 + q
+pub byte-of-kind : (kind i q : ℕ) → kind ≤ 2 → byteOf (ofKind kind i q) ≡ 1 + (kind * 7 + i) * 8 + q
 unfolding byteOf
 byte-of-kind zero i q h = refl
 byte-of-kind (suc zero) i q h = refl

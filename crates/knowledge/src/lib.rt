@@ -10,4 +10,6 @@ mod valuation;
 
 pub use act::Act;
 pub use act::Named;
+pub use digit::now_side;
+pub use digit::start_side;
 pub use state::Knowledge;

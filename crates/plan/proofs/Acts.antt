@@ -1,7 +1,6 @@
 -- Acts taken together: what holds of an act's outcomes, and a search over all acts of n settings and eight posts. Each by the
 -- two kinds of act.
-use mathlib.Core.Path.{_≡_, refl}
-use mathlib.Core.Logic.{_⊎_, inl, inr}
+use mathlib.Core.Logic.{inl, inr}
 use mathlib.Core.Bool.{Bool, true, false, _&&_, _||_}
 use Prim.Native.Nat.{ℕ, _<_}
 use lib.Dec.{T}
@@ -42,6 +41,7 @@ one-of f i q = f (Set i q false) || (f (Set i q true) || f (Look i q))
 
 -- f at some act of n settings and eight posts
 unfoldable pub some-act : ℕ → (Act → Bool) → Bool
+unfolding any
 some-act n f = any n (λ i. any 8 (λ q. one-of f i q))
 
 one-in : (f : Act → Bool) (a : Act) → T (f a) → T (one-of f (settingOf a) (postOf a))
@@ -90,6 +90,7 @@ every-at n f a h hi hq =
   where
     three : ℕ → ℕ → Bool
     three i q = f (Set i q false) && (f (Set i q true) && f (Look i q))
+
     pick : (a : Act) → T (three (settingOf a) (postOf a)) → T (f a)
     pick (Set i q false) t = and-left (f (Set i q false)) (f (Set i q true) && f (Look i q)) t
     pick (Set i q true) t =

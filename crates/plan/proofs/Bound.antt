@@ -1,12 +1,11 @@
 -- A finite rank is at most 2 ^ (n + 1) - 2: over the class of a state, layers past those that suffice for the states with fewer
 -- unknown settings grow, a standstill lasts, and so they stand still after as many layers as the class has states.
-use mathlib.Core.Path.{_≡_, refl, sym, ap, _∙_}
-use mathlib.Core.Logic.{_⊎_, inl, inr}
-use Prim.Native.Nat.{ℕ, zero, suc, _+_, _*_, _-_, _^_, _≤_, _<_}
+use mathlib.Core.Path.{_≡_}
+use mathlib.Core.Logic.{inl, inr}
+use Prim.Native.Nat.{ℕ, zero, suc, _+_, _-_, _^_, _≤_, _<_}
 use native.Mathlib.Nat.{pow-zero, pow-succ', zero-add, suc-add, sub-zero, suc-sub-suc}
 use native.Mathlib.Omega.{arith}
 use lib.Dec.{T}
-use lib.ListN.{length}
 use Rattle.ground.proofs.Bools.{lt-or-ge}
 use Rattle.plan.specs.Plans.{System, Lawful, Plan, Works, height}
 use Rattle.plan.specs.Pending.{unknowns}

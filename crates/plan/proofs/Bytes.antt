@@ -1,15 +1,15 @@
 -- The byte of an act names that act and no other: both ways between bytes and acts, by division and by a test at all 169 bytes.
-use mathlib.Core.Path.{_≡_, refl, sym, ap, _∙_}
-use mathlib.Core.Logic.{_⊎_, inl, inr}
+use mathlib.Core.Path.{_≡_}
+use mathlib.Core.Logic.{inl, inr}
 use mathlib.Core.Bool.{Bool, true, false, _&&_}
-use Prim.Native.Nat.{ℕ, zero, suc, _+_, _*_, _/_, _%_, _-_, _≤_, _<_}
+use Prim.Native.Nat.{ℕ, _/_, _%_, _-_, _≤_, _<_}
 use native.Mathlib.Omega.{arith}
 use lib.Dec.{T, eqb, ltb, eqb→eq, ltb→lt}
 use borrow.Author.Tests.{lt-ltb, le-leb, lt-leb}
 use Rattle.ground.specs.Search.{all}
 use Rattle.ground.proofs.Bools.{and-left, and-right, lt-or-ge}
 use Rattle.ground.proofs.Search.{all-at}
-use Rattle.knowledge.specs.Acts.{settingOf, postOf, kindOf, byteOf, ofKind, actOf}
+use Rattle.knowledge.specs.Acts.{settingOf, postOf, byteOf, ofKind, actOf}
 use Rattle.knowledge.specs.declared.act.Act.{Act}
 use Rattle.knowledge.specs.declared.act.Act.the-variants.{Set, Look}
 use Rattle.knowledge.specs.declared.act.Named.{Named}

@@ -1,28 +1,25 @@
 -- A certified table is the table of ranks: an entry below 255 has a plan, by induction on the entry; no plan is lower than its
 -- state's entry, by induction on the plan; and at 255 no plan works, since one of height at most 254 would.
-use mathlib.Core.Path.{_≡_, refl, sym, ap, _∙_}
-use mathlib.Core.Logic.{_⊎_, inl, inr}
+use mathlib.Core.Logic.{inl, inr}
 use mathlib.Core.Bool.{Bool, true, false}
-use Prim.Native.Nat.{ℕ, zero, suc, max, _+_, _-_, _^_, _≤_, _<_}
+use Prim.Native.Nat.{ℕ, zero, suc, max, _^_, _≤_, _<_}
 use native.Mathlib.Omega.{arith}
 use lib.Dec.{T}
 use lib.Pow.{pow-mono}
-use Rattle.ground.specs.Digits.{digit, put}
-use Rattle.ground.specs.Search.{Least}
+use Rattle.ground.specs.Digits.{digit}
 use Rattle.ground.proofs.Bools.{lt-or-ge}
 use Rattle.ground.proofs.Digits.{digit-lt, put-lt}
 use Rattle.knowledge.specs.Seven.{afterSet, afterLook}
-use Rattle.knowledge.specs.Acts.{byteOf, setTo, lookAt}
+use Rattle.knowledge.specs.Acts.{setTo, lookAt}
 use Rattle.knowledge.specs.declared.act.Act.{Act}
 use Rattle.knowledge.specs.declared.act.Act.the-variants.{Set, Look}
 use Rattle.plan.specs.Plans.{System, may, Lawful, Outcome, after-set, after-look, Plan, stop, set-then, look-then, Works, height}
-use Rattle.plan.specs.Ranks.{Reach, Cannot, IsRank, Lowers, Chosen}
-use Rattle.plan.specs.Certificate.{Leads, Certified}
+use Rattle.plan.specs.Ranks.{IsRank}
+use Rattle.plan.specs.Certificate.{Certified}
 use Rattle.plan.proofs.Acts.{after-a-set, after-a-look}
 use Rattle.plan.proofs.Layers.{Within, act-then}
 use Rattle.plan.proofs.Unknowns.{seven, set-lt, look-lt}
 use Rattle.plan.proofs.Bound.{short-plan}
-use Rattle.plan.proofs.Ranks.{rank-unique}
 
 pub setTo-lt : (n k i : ℕ) (b : Bool) → k < 7 ^ n → i < n → setTo k i b < 7 ^ n
 unfolding setTo
@@ -52,9 +49,9 @@ module _ {n : ℕ} {S : System} {Has : ℕ → Type 0} {table : ℕ → ℕ} (la
   plan-at (suc h) k l b f = elim (good .reached k b f) [
     | inl g ↦ (stop, g, omega arith)
     | inr r ↦ act-then S (table k) k (r .0) (r .1 .allowed) (λ x o.
-      let e = r .1 .lower x o in
-      let w = plan-at h x (omega arith) (closed k x (r .0) b (r .1 .allowed) o) (omega arith) in
-      (w .0, w .1, omega (arith, w .2)))
+        let e = r .1 .lower x o in
+        let w = plan-at h x (omega arith) (closed k x (r .0) b (r .1 .allowed) o) (omega arith) in
+        (w .0, w .1, omega (arith, w .2)))
   ]
 
   -- no plan is lower than the entry
@@ -64,47 +61,26 @@ module _ {n : ℕ} {S : System} {Has : ℕ → Type 0} {table : ℕ → ℕ} (la
       good .least k b (Set i q v) (suc (height p)) record {
         allowed = w .0;
         lower = λ x. after-a-set (λ x. table x < suc (height p))
-          (omega (arith, none-lower p (setTo k i v) (closed k (setTo k i v) (Set i q v) b (w .0) (after-set i q v)) (w .1)))
+            (omega (arith, none-lower p (setTo k i v) (closed k (setTo k i v) (Set i q v) b (w .0) (after-set i q v)) (w .1)));
       }
   none-lower (look-then i q p r) k b w =
       good .least k b (Look i q) (suc (max (height p) (height r))) record {
         allowed = w .0;
         lower = λ x. after-a-look (λ x. table x < suc (max (height p) (height r)))
-          (omega (arith, none-lower p (lookAt k i false) (closed k (lookAt k i false) (Look i q) b (w .0) (after-look i q false)) (w .1)))
-          (omega (arith, none-lower r (lookAt k i true) (closed k (lookAt k i true) (Look i q) b (w .0) (after-look i q true)) (w .2)))
+            (omega (arith, none-lower p (lookAt k i false) (closed k (lookAt k i false) (Look i q) b (w .0) (after-look i q false)) (w .1)))
+            (omega (arith, none-lower r (lookAt k i true) (closed k (lookAt k i true) (Look i q) b (w .0) (after-look i q true)) (w .2)));
       }
 
   pub certified : n ≤ 7 → (k : ℕ) → Has k → IsRank S k (table k)
   certified l k b = elim (lt-or-ge (table k) 255) [
     | inl f ↦ (let w = plan-at (suc (table k)) k (omega arith) b f in inl record {
       here = (w .0, w .1, omega (arith, w .2, none-lower (w .0) k b (w .1)));
-      none-below = λ j m q. absurd (omega (arith, q .2, none-lower (q .0) k b (q .1)))
+      none-below = λ j m q. absurd (omega (arith, q .2, none-lower (q .0) k b (q .1)));
     })
-    | inr f ↦ inr (omega (arith, good .most k b), λ p w.
-      let v = short-plan law k p w in
-      absurd (omega (arith, v .2, none-lower (v .0) k b (v .1), pow-mono {i = suc n} {j = 8} (omega arith))))
+    | inr f ↦ inr (
+      omega (arith, good .most k b),
+      λ p w.
+          let v = short-plan law k p w in
+          absurd (omega (arith, v .2, none-lower (v .0) k b (v .1), pow-mono {i = suc n} {j = 8} (omega arith))),
+    )
   ]
-
--- a table of ranks, on states that acts do not leave
-module _ {S : System} {Has : ℕ → Type 0} {table : ℕ → ℕ} (closed : Closed S Has) (ranks : (k : ℕ) → Has k → IsRank S k (table k)) where
-  -- an act lowers the rank exactly where the table's entries say so
-  pub lowers-in : (k h : ℕ) (a : Act) → Has k → Leads S table k h a → Lowers S k h a
-  lowers-in k h a b l = record {
-    allowed = l .allowed;
-    lower = λ x o. (table x, ranks x (closed k x a b (l .allowed) o), l .lower x o)
-  }
-
-  pub lowers-out : (k h : ℕ) (a : Act) → Has k → Lowers S k h a → Leads S table k h a
-  lowers-out k h a b l = record {
-    allowed = l .allowed;
-    lower = λ x o. let r = l .lower x o in omega (arith, r .2, rank-unique S x (r .1) (ranks x (closed k x a b (l .allowed) o)))
-  }
-
-  -- the act that the plan written takes, chosen by the table
-  pub chosen : (k : ℕ) (a : Act) → Has k → Leads S table k (table k) a → ((c : Act) → Leads S table k (table k) c → byteOf a ≤ byteOf c) → Chosen S k a
-  chosen k a b l small = record {
-    rank = table k;
-    is-rank = ranks k b;
-    lowers = lowers-in k (table k) a b l;
-    smallest = λ c m. small c (lowers-out k (table k) c b m)
-  }

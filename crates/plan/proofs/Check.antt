@@ -3,9 +3,8 @@
 use mathlib.Core.Path.{_≡_, refl, sym, ap, ap₂, _∙_}
 use mathlib.Core.Logic.{_↔_}
 use mathlib.Core.List.{List, [], _∷_, _++_, append-assoc, append-nil}
-use mathlib.Core.Bool.{Bool, true, false, not, _&&_}
+use mathlib.Core.Bool.{Bool, true, false, not}
 use Prim.Native.Nat.{ℕ, zero, suc, _+_, _≤_, _<_}
-use native.Mathlib.Nat.{add-zero, add-suc, suc-add, add-assoc}
 use native.Mathlib.Omega.{arith}
 use lib.Dec.{T}
 use lib.ListN.{length, length-append}
@@ -15,9 +14,9 @@ use Rattle.knowledge.specs.declared.act.Act.{Act}
 use Rattle.knowledge.specs.declared.act.Act.the-variants.{Set, Look}
 use Rattle.knowledge.specs.declared.act.Named.{Named}
 use Rattle.knowledge.specs.declared.act.Named.the-variants.{One, Nothing}
-use Rattle.plan.specs.Plans.{System, may, Lawful, Plan, stop, set-then, look-then, Works, height}
+use Rattle.plan.specs.Plans.{System, may, Lawful, Plan, stop, set-then, look-then, Works}
 use Rattle.plan.specs.Bytes.{encode}
-use Rattle.plan.specs.Check.{Fault, no-act, not-permitted, not-settled, too-soon, left-over, Verdict, accepted, faulty, Reading, goes-on, fails, outcomes, readAct, readNamed, readStop, readByte, judge, check}
+use Rattle.plan.specs.Check.{Fault, no-act, not-permitted, not-settled, Verdict, accepted, faulty, Reading, goes-on, fails, outcomes, readAct, readNamed, readStop, readByte, judge, check}
 use Rattle.plan.proofs.Bytes.{act-of-byte, byte-of-act, byte-positive}
 
 module _ (S : System) (k : ℕ) where
@@ -47,7 +46,7 @@ module _ (S : System) (k : ℕ) where
       ∙ rw (e, T→true (S .offers a) (and-left (S .offers a) (S .permits k a) m), T→true (S .permits k a) (and-right (S .offers a) (S .permits k a) m))
 
   -- a byte that reads well is a stop with the goal, or an act that may be done
-  data Good : ℕ → List ℕ → Type 0 where
+  pub data Good : ℕ → List ℕ → Type 0 where
     good-stop : T (S .goal k) → Good 0 []
     good-act : (c : ℕ) (a : Act) → 0 < c → actOf c ≡ One a → T (may S k a) → Good c (outcomes k a)
 
@@ -66,7 +65,7 @@ module _ (S : System) (k : ℕ) where
   stop-good false new e r = absurd (let z : _≡_ {A = ℕ} 0 1 = cc in omega arith)
   stop-good true new e r = let same : _≡_ {A = List ℕ} [] new = cc in rw (← same) (good-stop (true→T e))
 
-  read-good : (c : ℕ) (new : List ℕ) → readByte S k c ≡ goes-on new → Good c new
+  pub read-good : (c : ℕ) (new : List ℕ) → readByte S k c ≡ goes-on new → Good c new
   read-good zero new r = stop-good (S .goal k) new refl r
   read-good (suc c) new r = named-good (suc c) (actOf (suc c)) new (omega arith) refl r
 
@@ -128,9 +127,15 @@ grow : (S : System) (k c : ℕ) (new ks cs : List ℕ) → Good S k c new → Pl
 grow S k c new ks cs (good-stop g) w = (stop, g, (cs, refl, w))
 grow S k c new ks cs (good-act c₁ (Set i q b) h e m) (p, w, (rest, f, more)) =
     (set-then i q b p, (m, w), (rest, ap₂ _∷_ (sym (byte-of-act c (Set i q b) e .0)) f, more))
-grow S k c new ks cs (good-act c₁ (Look i q) h e m) (p, w, (rest, f, (r, x, (last, g, more)))) =
-    (look-then i q p r, (m, w, x), (last,
-    ap₂ _∷_ (sym (byte-of-act c (Look i q) e .0)) (f ∙ ap (λ (l : List ℕ). encode p ++ l) g ∙ sym (append-assoc (encode p) (encode r) last)), more))
+grow S k c new ks cs (good-act c₁ (Look i q) h e m) (p, w, (rest, f, (r, x, (last, g, more)))) = (
+  look-then i q p r,
+  (m, w, x),
+  (
+    last,
+    ap₂ _∷_ (sym (byte-of-act c (Look i q) e .0)) (f ∙ ap (λ (l : List ℕ). encode p ++ l) g ∙ sym (append-assoc (encode p) (encode r) last)),
+    more,
+  ),
+)
 
 pub accepts-out : (S : System) (bytes ks : List ℕ) (at : ℕ) → judge S ks at bytes ≡ accepted → Plans S ks bytes
 accepts-out S [] [] at e = refl
@@ -146,6 +151,7 @@ accepts-out S (c ∷ cs) (k ∷ ks) at e =
 -- the check says yes exactly where the bytes are those of a plan that works
 pub check-exact : {n : ℕ} {S : System} (law : Lawful n S) (few : n ≤ 7) (k : ℕ) (bytes : List ℕ)
     → check S k bytes ≡ accepted ↔ ((p : Plan) × Works S k p × (bytes ≡ encode p))
-check-exact {n} {S} law few k bytes =
-    (λ e. let (p, w, (rest, f, z)) = accepts-out S bytes (k ∷ []) 0 e in (p, w, f ∙ ap (λ (l : List ℕ). encode p ++ l) z ∙ append-nil (encode p)),
-    λ (p, w, f). accepts-in law few (k ∷ []) 0 bytes (p, w, ([], f ∙ sym (append-nil (encode p)), refl)))
+check-exact {n} {S} law few k bytes = (
+  λ e. let (p, w, (rest, f, z)) = accepts-out S bytes (k ∷ []) 0 e in (p, w, f ∙ ap (λ (l : List ℕ). encode p ++ l) z ∙ append-nil (encode p)),
+  λ (p, w, f). accepts-in law few (k ∷ []) 0 bytes (p, w, ([], f ∙ sym (append-nil (encode p)), refl)),
+)

@@ -4,7 +4,7 @@ use mathlib.Core.Bool.{Bool, true, false}
 use Prim.Native.Nat.{ℕ}
 use native.Mathlib.Decide.{ℕ-discrete}
 use lib.Dec.{eqb, lit<}
-use Rattle.ground.specs.Digits.{digit, put, bit}
+use Rattle.ground.specs.Digits.{digit, bit}
 use Rattle.ground.proofs.Digits.{digit-lt, put-same, put-other}
 use Rattle.knowledge.specs.Seven.{startOf, afterSet, afterLook}
 use Rattle.knowledge.specs.Acts.{setTo, lookAt}

@@ -5,8 +5,8 @@ use mathlib.Core.List.{List, [], _∷_, _++_}
 use Prim.Native.Nat.{ℕ, suc, _+_}
 use native.Mathlib.Omega.{arith}
 use lib.ListN.{length}
-use Rattle.plan.specs.Plans.{System, Lawful}
-use Rattle.plan.specs.Check.{Fault, too-soon, left-over, Verdict, accepted, faulty, Reading, goes-on, fails, readByte, judge}
+use Rattle.plan.specs.Plans.{System}
+use Rattle.plan.specs.Check.{Fault, too-soon, left-over, faulty, Reading, goes-on, fails, readByte, judge}
 use Rattle.plan.proofs.Check.{judge-on, judge-fails}
 
 -- the bytes read without a fault, from pending states to pending states
@@ -65,13 +65,30 @@ fault-out S (c ∷ cs) (k ∷ ks) at f j e = go (λ new. fault-out S cs (new ++ 
         → (r : Reading) → readByte S k c ≡ r → (i : ℕ) × (j ≡ at + i) × First S (k ∷ ks) (c ∷ cs) f i
     go below (goes-on new) r =
         let w = below new (sym (judge-on S k ks at c cs new r) ∙ e) in
-        let d = w .2 in
-        (suc (w .0), omega (arith, w .1), record {
-          before = c ∷ d .before; left = d .left; pending = d .pending; split = ap (λ (l : List ℕ). c ∷ l) (d .split);
-          index = omega (arith, d .index); reads = one-more r (d .reads); wrong = d .wrong
-        })
+        let d = w .2 in (
+          suc (w .0),
+          omega (arith, w .1),
+          record {
+            before = c ∷ d .before;
+            left = d .left;
+            pending = d .pending;
+            split = ap (λ (l : List ℕ). c ∷ l) (d .split);
+            index = omega (arith, d .index);
+            reads = one-more r (d .reads);
+            wrong = d .wrong;
+          },
+        )
     go below (fails g) r =
-        let s = same-fault (sym (judge-fails S k ks at c cs g r) ∙ e) in
-        (0, omega (arith, s .1), record {
-          before = []; left = c ∷ cs; pending = k ∷ ks; split = refl; index = refl; reads = nothing; wrong = r ∙ ap fails (s .0)
-        })
+        let s = same-fault (sym (judge-fails S k ks at c cs g r) ∙ e) in (
+          0,
+          omega (arith, s .1),
+          record {
+            before = [];
+            left = c ∷ cs;
+            pending = k ∷ ks;
+            split = refl;
+            index = refl;
+            reads = nothing;
+            wrong = r ∙ ap fails (s .0);
+          },
+        )

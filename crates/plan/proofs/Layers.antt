@@ -1,9 +1,8 @@
 -- A working plan of height below h exists exactly where layer h says so: a layer has the goal's states and those with an act
 -- into the layer before it, so a plan's first act takes both from one layer to the one before.
-use mathlib.Core.Path.{_≡_, refl}
 use mathlib.Core.Logic.{_⊎_, inl, inr}
-use mathlib.Core.Bool.{Bool, true, false, _&&_, _||_}
-use Prim.Native.Nat.{ℕ, zero, suc, max, _+_, _≤_, _<_}
+use mathlib.Core.Bool.{Bool, true, false, _||_}
+use Prim.Native.Nat.{ℕ, zero, suc, _+_, _≤_, _<_}
 use native.Mathlib.Nat.{zero-add, suc-add, add-comm, le-dest}
 use native.Mathlib.Omega.{arith}
 use lib.Dec.{T}

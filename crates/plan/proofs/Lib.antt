@@ -1,22 +1,26 @@
--- The laws of plans and ranks.
+-- The laws of plans and ranks. First acts and states, then layers and the bound on ranks, ranks and tables of them, the plan written
+-- and its bytes, the check, demand 3, and what shows a rank or a "cannot" by computation.
 pub mod Acts
 pub mod States
+pub mod Bytes
+pub mod Team
+pub mod Effects
+pub mod Unknowns
 pub mod Layers
 pub mod Pigeonhole
-pub mod Unknowns
 pub mod Class
 pub mod Bound
 pub mod Ranks
 pub mod Certificate
-pub mod Bytes
-pub mod Size
+pub mod Table
+pub mod Compare
 pub mod Written
+pub mod Size
 pub mod Encode
-pub mod Effects
-pub mod Secret
 pub mod Check
-pub mod Pending
 pub mod Faults
-pub mod Trap
+pub mod Pending
 pub mod Accepted
+pub mod Secret
+pub mod Trap
 pub mod Sample

@@ -2,14 +2,14 @@
 -- until it stands still each test holds at one more entry of the list.
 use mathlib.Core.Path.{_≡_, refl}
 use mathlib.Core.Logic.{_⊎_, inl, inr}
-use mathlib.Core.List.{List, [], _∷_, List·Memᴰ, List·Memᴰ·cases-cons, List·Memᴰ·not-nil, List·Memᴰ·head, List·Memᴰ·tail}
+use mathlib.Core.List.{List, [], _∷_, List·Memᴰ, List·Memᴰ·cases-cons, List·Memᴰ·not-nil}
 use mathlib.Core.Bool.{Bool, true, false, not}
 use Prim.Native.Nat.{ℕ, zero, suc, _+_, _≤_, _<_}
-use native.Mathlib.Nat.{zero-add, suc-add, add-comm, le-dest}
+use native.Mathlib.Nat.{zero-add, suc-add, add-comm}
 use native.Mathlib.Omega.{arith}
 use lib.Dec.{T}
 use lib.ListN.{length}
-use Rattle.ground.proofs.Bools.{decide, both, lt-or-ge}
+use Rattle.ground.proofs.Bools.{decide, both}
 
 abbrev one : Bool → ℕ
 one true = 1

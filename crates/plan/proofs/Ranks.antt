@@ -1,9 +1,9 @@
 -- Ranks are unique, every state has one, and a rank below h is a place in layer h: the least layer of a state is one past the
 -- least height of a working plan.
-use mathlib.Core.Path.{_≡_, refl, sym, ap, _∙_}
+use mathlib.Core.Path.{_≡_, refl, sym, _∙_}
 use mathlib.Core.Logic.{_⊎_, inl, inr, _↔_}
 use mathlib.Core.Bool.{Bool, not}
-use Prim.Native.Nat.{ℕ, zero, suc, _+_, _-_, _^_, _≤_, _<_}
+use Prim.Native.Nat.{ℕ, zero, suc, _-_, _^_, _≤_, _<_}
 use native.Mathlib.Omega.{arith}
 use lib.Dec.{T}
 use lib.Pow.{pow-mono}
@@ -11,8 +11,8 @@ use Rattle.ground.specs.Search.{Least}
 use Rattle.ground.proofs.Bools.{decide, both, lt-or-ge}
 use Rattle.ground.proofs.Search.{least-unique}
 use Rattle.plan.specs.Plans.{System, Lawful, Plan, Works, height}
-use Rattle.plan.specs.Ranks.{Reach, Cannot, IsRank}
-use Rattle.plan.proofs.Layers.{below, Within, sound, complete}
+use Rattle.plan.specs.Ranks.{Reach, IsRank}
+use Rattle.plan.proofs.Layers.{below, sound, complete}
 use Rattle.plan.proofs.Bound.{bound, short-plan}
 
 -- the least number below h at which a test holds, or it holds at none

@@ -1,9 +1,8 @@
 -- Ranks and the plan written by computation, for a question that is written out: a list of states that acts do not leave, with a
 -- rank for each, is tested entry by entry, and so is a plan against it. No search: the certificate and the table's choice do it.
-use mathlib.Core.Path.{_≡_, refl, ap, _∙_}
-use mathlib.Core.Logic.{_⊎_, inl, inr}
+use mathlib.Core.Logic.{inl, inr}
 use mathlib.Core.List.{List, [], _∷_}
-use mathlib.Core.Bool.{Bool, true, false, not, _&&_, _||_}
+use mathlib.Core.Bool.{Bool, true, false, _&&_, _||_}
 use Prim.Native.Nat.{ℕ, suc, max, _≤_, _<_}
 use native.Mathlib.Omega.{arith}
 use lib.Dec.{T, eqb, leb, ltb, eqb→eq, leb→le, ltb→lt, lt→ltb}
@@ -17,7 +16,8 @@ use Rattle.plan.specs.Ranks.{IsRank, Chosen, Written}
 use Rattle.plan.specs.Certificate.{Leads, Certified}
 use Rattle.plan.proofs.Acts.{leads, leads-to, some-act, some-out, every-act, every-at, can, can-in, can-may, can-at}
 use Rattle.plan.proofs.States.{elem, each, each-at, holds}
-use Rattle.plan.proofs.Certificate.{Closed, certified, chosen}
+use Rattle.plan.proofs.Certificate.{Closed, certified}
+use Rattle.plan.proofs.Table.{chosen}
 
 -- the entry of a state: ranks beside the states, 255 where a state has none
 unfoldable pub entry : List ℕ → List ℕ → ℕ → ℕ
@@ -82,7 +82,7 @@ module _ {n : ℕ} {S : System} (ks : List ℕ) (table : ℕ → ℕ) (law : Law
   drops-out : (k h : ℕ) (a : Act) → T (drops S table k h a) → Leads S table k h a
   drops-out k h a d = record {
     allowed = can-may S (λ x. ltb (table x) h) k a d;
-    lower = λ x o. ltb→lt (table x) h (can-at S (λ x. ltb (table x) h) k a d o)
+    lower = λ x o. ltb→lt (table x) h (can-at S (λ x. ltb (table x) h) k a d o);
   }
 
   four : (k : ℕ) → Has k
@@ -98,9 +98,10 @@ module _ {n : ℕ} {S : System} (ks : List ℕ) (table : ℕ → ℕ) (law : Law
   minded : (k : ℕ) (a : Act) → Has k → T (may S k a) → T (leads (λ x. elem x ks) k a) × (table k ≤ suc (top table k a))
   minded k a m h =
       let r = holds (may S k a) (leads (λ x. elem x ks) k a && leb (table k) (suc (top table k a))) h
-      (every-at n (minds S ks table k) a (four k m .3) (law .setting-of k a h) (law .post-of k a h)) in
-      (and-left (leads (λ x. elem x ks) k a) (leb (table k) (suc (top table k a))) r,
-      leb→le (table k) (suc (top table k a)) (and-right (leads (λ x. elem x ks) k a) (leb (table k) (suc (top table k a))) r))
+      (every-at n (minds S ks table k) a (four k m .3) (law .setting-of k a h) (law .post-of k a h)) in (
+        and-left (leads (λ x. elem x ks) k a) (leb (table k) (suc (top table k a))) r,
+        leb→le (table k) (suc (top table k a)) (and-right (leads (λ x. elem x ks) k a) (leb (table k) (suc (top table k a))) r),
+      )
 
   top-lt : (k h : ℕ) (a : Act) → ((x : ℕ) → Outcome k a x → table x < h) → top table k a < h
   top-lt k h (Set i q b) f = f (setTo k i b) (after-set i q b)
@@ -114,11 +115,11 @@ module _ {n : ℕ} {S : System} (ks : List ℕ) (table : ℕ → ℕ) (law : Law
     most = λ k m. leb→le (table k) 255 (four k m .0);
     settled = λ k m g. eqb→eq (table k) 0 (holds (S .goal k) (eqb (table k) 0) g (four k m .1));
     reached = λ k m l. elim (or-out (S .goal k) (some-act n (drops S table k (table k)))
-      (holds (ltb (table k) 255) (S .goal k || some-act n (drops S table k (table k))) (lt→ltb (table k) 255 l) (four k m .2))) [
-      | inl g ↦ inl g
-      | inr s ↦ (let r = some-out n (drops S table k (table k)) s in inr (r .0, drops-out k (table k) (r .0) (r .1)))
-    ];
-    least = λ k m a h l. omega (arith, minded k a m (l .allowed) .1, top-lt k h a (l .lower))
+        (holds (ltb (table k) 255) (S .goal k || some-act n (drops S table k (table k))) (lt→ltb (table k) 255 l) (four k m .2))) [
+          | inl g ↦ inl g
+          | inr s ↦ (let r = some-out n (drops S table k (table k)) s in inr (r .0, drops-out k (table k) (r .0) (r .1)))
+        ];
+    least = λ k m a h l. omega (arith, minded k a m (l .allowed) .1, top-lt k h a (l .lower));
   }
 
   -- each state's entry is its rank
@@ -138,14 +139,17 @@ module _ {n : ℕ} {S : System} (ks : List ℕ) (table : ℕ → ℕ) (law : Law
   unfolding writes
   sample-written stop k m w = rw (eqb→eq (table k) 0 w) at (sample-rank k m)
   sample-written (set-then i q b p) k m w =
-      let c = picked k (Set i q b) m (and-left (chooses n S table k (Set i q b)) (writes n S table p (setTo k i b)) w) in
-      (c, sample-written p (setTo k i b) (closed k (setTo k i b) (Set i q b) m (c .lowers .allowed) (after-set i q b))
-      (and-right (chooses n S table k (Set i q b)) (writes n S table p (setTo k i b)) w))
+      let c = picked k (Set i q b) m (and-left (chooses n S table k (Set i q b)) (writes n S table p (setTo k i b)) w) in (
+        c,
+        sample-written p (setTo k i b) (closed k (setTo k i b) (Set i q b) m (c .lowers .allowed) (after-set i q b))
+            (and-right (chooses n S table k (Set i q b)) (writes n S table p (setTo k i b)) w),
+      )
   sample-written (look-then i q p r) k m w =
       let both = and-right (chooses n S table k (Look i q)) (writes n S table p (lookAt k i false) && writes n S table r (lookAt k i true)) w in
-      let c = picked k (Look i q) m (and-left (chooses n S table k (Look i q)) (writes n S table p (lookAt k i false) && writes n S table r (lookAt k i true)) w) in
-      (c,
-      sample-written p (lookAt k i false) (closed k (lookAt k i false) (Look i q) m (c .lowers .allowed) (after-look i q false))
-      (and-left (writes n S table p (lookAt k i false)) (writes n S table r (lookAt k i true)) both),
-      sample-written r (lookAt k i true) (closed k (lookAt k i true) (Look i q) m (c .lowers .allowed) (after-look i q true))
-      (and-right (writes n S table p (lookAt k i false)) (writes n S table r (lookAt k i true)) both))
+      let c = picked k (Look i q) m (and-left (chooses n S table k (Look i q)) (writes n S table p (lookAt k i false) && writes n S table r (lookAt k i true)) w) in (
+        c,
+        sample-written p (lookAt k i false) (closed k (lookAt k i false) (Look i q) m (c .lowers .allowed) (after-look i q false))
+            (and-left (writes n S table p (lookAt k i false)) (writes n S table r (lookAt k i true)) both),
+        sample-written r (lookAt k i true) (closed k (lookAt k i true) (Look i q) m (c .lowers .allowed) (after-look i q true))
+            (and-right (writes n S table p (lookAt k i false)) (writes n S table r (lookAt k i true)) both),
+      )

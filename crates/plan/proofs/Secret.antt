@@ -2,7 +2,7 @@
 -- open. A look on the way was at a digit 0, where nobody had set the setting, so it read the start's value, which both starts share.
 use mathlib.Core.Path.{_≡_, refl, sym, ap, _∙_}
 use mathlib.Core.Logic.{_⊎_, inl, inr}
-use mathlib.Core.List.{List, [], _∷_}
+use mathlib.Core.List.{List, _∷_}
 use mathlib.Core.Bool.{Bool, true, false, not, _||_}
 use Prim.Native.Nat.{ℕ, _^_, _<_}
 use native.Mathlib.Decide.{ℕ-discrete}
@@ -10,7 +10,7 @@ use native.Mathlib.Omega.{arith}
 use lib.Dec.{T}
 use Rattle.ground.specs.Digits.{digit, bit}
 use Rattle.ground.specs.Table.{truth}
-use Rattle.ground.proofs.Bools.{T→true, T→false, decide, or-left, or-right, both}
+use Rattle.ground.proofs.Bools.{T→false, decide, both}
 use Rattle.ground.proofs.Digits.{digit-lt}
 use Rattle.ground.proofs.Search.{all-at, all-intro, all-or}
 use Rattle.knowledge.specs.Seven.{startOf, afterSet, afterLook}
@@ -103,9 +103,15 @@ module _ (n : ℕ) (formula : List ℕ) where
       let v = always-no true side (c .0) in
       let w = always-no false side (c .1) in
       record {
-        one = v .0; other = w .0; one-lt = v .1; other-lt = w .1; one-fits = v .2; other-fits = w .2;
-        one-false = T→false (truth formula (v .0)) (v .3); other-true = not-not (truth formula (w .0)) (w .3);
-        alike = λ a b x y. refl
+        one = v .0;
+        other = w .0;
+        one-lt = v .1;
+        other-lt = w .1;
+        one-fits = v .2;
+        other-fits = w .2;
+        one-false = T→false (truth formula (v .0)) (v .3);
+        other-true = not-not (truth formula (w .0)) (w .3);
+        alike = λ a b x y. refl;
       }
 
   -- an unknown setting after a set is another one, which was unknown before, and the set has not touched it
@@ -123,11 +129,16 @@ module _ (n : ℕ) (formula : List ℕ) where
 
   open-set : (k i q : ℕ) (b : Bool) (p : Plan) → Open (setTo k i b) p → Open k (set-then i q b p)
   open-set k i q b p o = record {
-    one = o .one; other = o .other; one-lt = o .one-lt; other-lt = o .other-lt;
-    one-fits = fits-set n k i (o .one) b (o .one-fits); other-fits = fits-set n k i (o .other) b (o .other-fits);
-    one-false = o .one-false; other-true = o .other-true;
+    one = o .one;
+    other = o .other;
+    one-lt = o .one-lt;
+    other-lt = o .other-lt;
+    one-fits = fits-set n k i (o .one) b (o .one-fits);
+    other-fits = fits-set n k i (o .other) b (o .other-fits);
+    one-false = o .one-false;
+    other-true = o .other-true;
     alike = λ a c x y. ap (λ l. did (Set i q b) ∷ l)
-      (o .alike (change a i b) (change c i b) (real-set k i (o .one) a b x) (real-set k i (o .other) c b y))
+        (o .alike (change a i b) (change c i b) (real-set k i (o .one) a b x) (real-set k i (o .other) c b y));
   }
 
   -- the plan that a look goes on with
@@ -141,13 +152,18 @@ module _ (n : ℕ) (formula : List ℕ) where
 
   open-look : (k i q : ℕ) (b : Bool) (p r : Plan) → i < n → digit 7 k i ≡ 0 → Open (lookAt k i b) (taken b p r) → Open k (look-then i q p r)
   open-look k i q b p r l z o = record {
-    one = o .one; other = o .other; one-lt = o .one-lt; other-lt = o .other-lt;
-    one-fits = fits-look n k i (o .one) b z (o .one-fits); other-fits = fits-look n k i (o .other) b z (o .other-fits);
-    one-false = o .one-false; other-true = o .other-true;
+    one = o .one;
+    other = o .other;
+    one-lt = o .one-lt;
+    other-lt = o .other-lt;
+    one-fits = fits-look n k i (o .one) b z (o .one-fits);
+    other-fits = fits-look n k i (o .other) b z (o .other-fits);
+    one-false = o .one-false;
+    other-true = o .other-true;
     alike = λ a c x y.
-      run-look i q a b p r (x i l z ∙ fits-seen n k i (o .one) b l (o .one-fits))
-      ∙ ap (λ t. saw (Look i q) b ∷ t) (o .alike a c (real-look k i (o .one) a b x) (real-look k i (o .other) c b y))
-      ∙ sym (run-look i q c b p r (y i l z ∙ fits-seen n k i (o .other) b l (o .other-fits)))
+        run-look i q a b p r (x i l z ∙ fits-seen n k i (o .one) b l (o .one-fits))
+        ∙ ap (λ t. saw (Look i q) b ∷ t) (o .alike a c (real-look k i (o .one) a b x) (real-look k i (o .other) c b y))
+        ∙ sym (run-look i q c b p r (y i l z ∙ fits-seen n k i (o .other) b l (o .other-fits)));
   }
 
   -- a system in which nothing but the formula has to be settled
@@ -171,9 +187,14 @@ module _ (n : ℕ) (formula : List ℕ) where
 
     twins-of : (p : Plan) (k : ℕ) → Open k p → Twins n formula k p
     twins-of p k o = record {
-      one = o .one; other = o .other; one-lt = o .one-lt; other-lt = o .other-lt; one-fits = o .one-fits; other-fits = o .other-fits;
+      one = o .one;
+      other = o .other;
+      one-lt = o .one-lt;
+      other-lt = o .other-lt;
+      one-fits = o .one-fits;
+      other-fits = o .other-fits;
       differ = λ e. let z : false ≡ true = sym (o .one-false) ∙ e ∙ o .other-true in let c : _≡_ {A = ℕ} 0 1 = cc in omega arith;
-      same-run = o .alike (o .one) (o .other) (λ i l z. refl) (λ i l z. refl)
+      same-run = o .alike (o .one) (o .other) (λ i l z. refl) (λ i l z. refl);
     }
 
     -- a permitted plan works, or leaves two starts that it cannot tell apart

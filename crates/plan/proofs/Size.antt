@@ -1,19 +1,19 @@
 -- A permitted plan has at most 2 ^ (unknown settings) × (height + 1) bytes: each look halves what each outcome may take, since it
 -- makes a setting known.
-use mathlib.Core.Path.{_≡_, refl, sym, ap, _∙_}
-use mathlib.Core.List.{List, [], _∷_, _++_}
-use mathlib.Core.Bool.{Bool, true, false}
-use Prim.Native.Nat.{ℕ, zero, suc, max, _+_, _*_, _^_, _≤_, _<_}
-use native.Mathlib.Nat.{pow-zero, pow-succ', mul-suc, mul-assoc, one-le-mul, one-le-pow, mul-le-mul, mul-le-mul-left, mul-le-mul-right, le-trans, le-max-left, le-max-right}
+use mathlib.Core.Path.{_≡_}
+use mathlib.Core.List.{_++_}
+use mathlib.Core.Bool.{true, false}
+use Prim.Native.Nat.{ℕ, suc, max, _+_, _*_, _^_, _≤_}
+use native.Mathlib.Nat.{pow-succ', mul-suc, mul-assoc, one-le-mul, one-le-pow, mul-le-mul, mul-le-mul-left, mul-le-mul-right, le-trans, le-max-left, le-max-right}
 use native.Mathlib.Omega.{arith}
-use lib.Dec.{T, lit<}
+use lib.Dec.{lit<}
 use lib.ListN.{length, length-append}
 use lib.Pow.{pow-mono}
 use Rattle.knowledge.specs.Acts.{setTo, lookAt}
 use Rattle.knowledge.specs.declared.act.Act.the-variants.{Set, Look}
-use Rattle.plan.specs.Plans.{System, may, Lawful, Plan, stop, set-then, look-then, Permitted, Works, height}
+use Rattle.plan.specs.Plans.{System, Lawful, Plan, stop, set-then, look-then, Permitted, Works, height}
 use Rattle.plan.specs.Bytes.{encode}
-use Rattle.plan.specs.Pending.{nought, unknowns}
+use Rattle.plan.specs.Pending.{unknowns}
 use Rattle.plan.proofs.Unknowns.{unknowns-le, unknowns-set, unknowns-look}
 
 pub works-permitted : (S : System) (p : Plan) (k : ℕ) → Works S k p → Permitted S k p

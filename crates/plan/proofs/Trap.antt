@@ -1,10 +1,9 @@
 -- No plan works from a state of a trap: a list of states, none with the goal, where every act has an outcome in the list again. A
 -- plan would have to stop in it. The test is computed, so that "cannot" is shown by giving the list.
-use mathlib.Core.Path.{_≡_, refl, ap}
-use mathlib.Core.Logic.{_⊎_, inl, inr}
-use mathlib.Core.List.{List, [], _∷_}
+use mathlib.Core.Logic.{inl, inr}
+use mathlib.Core.List.{List}
 use mathlib.Core.Bool.{Bool, true, false, not, _&&_, _||_}
-use Prim.Native.Nat.{ℕ, _<_}
+use Prim.Native.Nat.{ℕ}
 use lib.Dec.{T}
 use Rattle.ground.proofs.Bools.{and-left, and-right, or-out, both}
 use Rattle.knowledge.specs.Acts.{setTo, lookAt}

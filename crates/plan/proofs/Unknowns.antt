@@ -1,11 +1,11 @@
 -- How many settings are unknown after a digit is changed: place by place, since the digit one up is the same place of k / 7.
-use mathlib.Core.Path.{_≡_, refl, sym, ap, _∙_}
+use mathlib.Core.Path.{_≡_, refl}
 use mathlib.Core.Bool.{Bool, true, false}
-use Prim.Native.Nat.{ℕ, zero, suc, _+_, _*_, _/_, _%_, _≤_, _<_}
+use Prim.Native.Nat.{ℕ, zero, suc, _+_, _/_, _%_, _≤_, _<_}
 use native.Mathlib.Nat.{mod-lt, not-suc-le-zero, le-of-suc-le-suc}
 use native.Mathlib.Omega.{arith}
 use lib.Arith.{digits-div, digits-mod}
-use lib.Dec.{lit<, T, eqb, ltb, ltb→lt}
+use lib.Dec.{lit<, ltb, ltb→lt}
 use Rattle.ground.specs.Digits.{digit, put}
 use Rattle.ground.specs.Search.{all}
 use Rattle.ground.proofs.Bits.{digit-zero, digit-suc}

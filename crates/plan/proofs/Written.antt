@@ -1,26 +1,25 @@
 -- The plan written: it exists where the rank is finite, by induction on the rank, with the least byte among the acts into lower
 -- ranks; it works and has the rank for its height, since each act lowers the rank and none lowers it by more than a plan can; and it
 -- is the only one, since a byte names one act.
-use mathlib.Core.Path.{_≡_, refl, sym, ap, _∙_}
-use mathlib.Core.Logic.{_⊎_, inl, inr}
+use mathlib.Core.Path.{_≡_, refl}
+use mathlib.Core.Logic.{inl, inr}
 use mathlib.Core.Bool.{Bool, true, false}
-use Prim.Native.Nat.{ℕ, zero, suc, max, _+_, _≤_, _<_}
+use Prim.Native.Nat.{ℕ, zero, suc, _≤_, _<_}
 use native.Mathlib.Nat.{le-antisymm}
 use native.Mathlib.Omega.{arith}
 use lib.Dec.{T}
-use Rattle.ground.specs.Search.{Least}
 use Rattle.ground.proofs.Bools.{lt-or-ge}
-use Rattle.knowledge.specs.Acts.{settingOf, postOf, byteOf, actOf, setTo, lookAt}
+use Rattle.knowledge.specs.Acts.{byteOf, actOf, setTo, lookAt}
 use Rattle.knowledge.specs.declared.act.Act.{Act}
 use Rattle.knowledge.specs.declared.act.Act.the-variants.{Set, Look}
 use Rattle.knowledge.specs.declared.act.Named.{Named}
 use Rattle.knowledge.specs.declared.act.Named.the-variants.{One, Nothing}
-use Rattle.plan.specs.Plans.{System, may, Lawful, Outcome, after-set, after-look, Plan, stop, set-then, look-then, Permitted, Works, height}
-use Rattle.plan.specs.Ranks.{Reach, Cannot, IsRank, Lowers, Chosen, Written}
+use Rattle.plan.specs.Plans.{System, Lawful, Outcome, after-set, after-look, Plan, stop, set-then, look-then, Works, height}
+use Rattle.plan.specs.Ranks.{IsRank, Lowers, Chosen, Written}
 use Rattle.plan.proofs.Acts.{can, can-in, can-may, can-at}
 use Rattle.plan.proofs.Layers.{below, complete, layer-out}
 use Rattle.plan.proofs.Bytes.{act-of-byte, byte-of-act, byte-injective}
-use Rattle.plan.proofs.Ranks.{first-of, rank-unique, rank-least, rank-small, rank-in, rank-out}
+use Rattle.plan.proofs.Ranks.{first-of, rank-unique, rank-least, rank-in, rank-out}
 
 -- a plan of height 0 is a stop
 stops-at-goal : (S : System) (p : Plan) (k : ℕ) → Works S k p → height p ≡ 0 → T (S .goal k)

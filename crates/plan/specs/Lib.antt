@@ -2,6 +2,7 @@
 -- settings, and the judgement on a plan's bytes. `Certificate` and `Pending` are inside: no public contract
 -- cites them.
 pub mod Plans
+pub mod Team
 pub mod Ranks
 pub mod Bytes
 pub mod Runs

@@ -22,9 +22,9 @@ use Rattle.finder.specs.declared.question.Refusal as Q2
 use Rattle.finder.specs.declared.question.Asked.{Asked}
 use Rattle.finder.specs.declared.question.Asked.the-variants.{Valid, Not}
 use Rattle.finder.proofs.RowLaws.{question-clear}
-use Rattle.plancheck.specs.Refusals.{number, place, faultNumber, checkRows}
+use Rattle.plancheck.specs.Refusals.{number, place, faultNumber, refusalOf, checkRows}
 use Rattle.plancheck.specs.Checks.{systemFor, startOf, Judged, Refuses, Checks}
-use Rattle.plancheck.specs.Inner.{refusalOf, answerOf}
+use Rattle.plancheck.specs.Inner.{answerOf}
 use Rattle.plancheck.specs.declared.answer.Refusal.{Refusal}
 use Rattle.plancheck.specs.declared.answer.Refusal.the-variants.{Question as OfQuestion, TooLong}
 use Rattle.plancheck.specs.declared.answer.CheckAnswer.{CheckAnswer}

@@ -22,7 +22,8 @@ use Rattle.plan.specs.Check.{Fault, no-act, not-permitted, not-settled, left-ov
 use Rattle.plan.specs.Check as C
 use Rattle.plan.proofs.Check.{judge-on, judge-fails}
 use Rattle.plan.proofs.Pending.{pending-first, pending-most, pending-stop, pending-set, pending-look}
-use Rattle.plancheck.specs.Inner.{refusalOf, answerOf, readingOf, down, firstDesk, stoppedDesk, failedDesk, afterDesk, HasRoom, endedAt, Small, Held, HeldAt, Ready, answerAt, answerFrom, Turned}
+use Rattle.plancheck.proofs.ByteLaws.{Step, stops, sets, looks, faults, step}
+use Rattle.plancheck.specs.Inner.{answerOf, readingOf, down, firstDesk, stoppedDesk, failedDesk, afterDesk, HasRoom, endedAt, Small, Held, HeldAt, Ready, answerAt, answerFrom, Turned}
 use Rattle.plancheck.specs.declared.answer.Refusal.{Refusal}
 use Rattle.plancheck.specs.declared.answer.Refusal.the-variants.{LeftOver}
 use Rattle.plancheck.specs.declared.answer.CheckAnswer.{CheckAnswer}
@@ -56,37 +57,6 @@ pub stopped-some : (here : ℕ) (w : List ℕ) (c : ℕ) → (c ≡ 0 → ⊥)
 stopped-some here w zero ne = absurd (ne refl)
 stopped-some here w (suc c) ne = let e : suc c - 1 ≡ c = omega arith in rw e
 
--- ---- a byte at a state
-
--- what a byte can come to: a stop, an act that may be done, or a fault
-data Step (S : System) (k : ℕ) : C.Reading → Type 0 where
-  stops : Step S k (goes-on [])
-  sets : (i q : ℕ) (b : Bool) → T (may S k (Set i q b)) → Step S k (goes-on (setTo k i b ∷ []))
-  looks : (i q : ℕ) → T (may S k (Look i q)) → Step S k (goes-on (lookAt k i false ∷ lookAt k i true ∷ []))
-  faults : (f : Fault) → Step S k (fails f)
-
-module _ (S : System) (k : ℕ) where
-  step-stop : (g : Bool) → Step S k (readStop g)
-  step-stop true = stops
-  step-stop false = faults not-settled
-
-  step-done : (a : Act) → T (may S k a) → Step S k (goes-on (outcomes k a))
-  step-done (Set i q b) m = sets i q b m
-  step-done (Look i q) m = looks i q m
-
-  step-act : (a : Act) (o p : Bool) → S .offers a ≡ o → S .permits k a ≡ p → Step S k (readAct o p (outcomes k a))
-  step-act a false p e f = faults no-act
-  step-act a true false e f = faults not-permitted
-  step-act a true true e f = step-done a (and-in (S .offers a) (S .permits k a) (true→T e) (true→T f))
-
-  step-named : (x : Named) → Step S k (readNamed S k x)
-  step-named Nothing = faults no-act
-  step-named (One a) = step-act a (S .offers a) (S .permits k a) refl refl
-
-  step : (c : ℕ) → Step S k (readByte S k c)
-  step zero = step-stop (S .goal k)
-  step (suc c) = step-named (actOf (suc c))
-
 -- ---- a turn of the loop
 
 -- the numbers of a desk that is open
@@ -115,14 +85,14 @@ module _ {n : ℕ} {S : System} (law : Lawful n S) (few : n ≤ 7) where
       let next = held-look (d .here) i q (down (d .waiting) (d .count)) m h in
       omega (arith, pending-most n (lookAt (d .here) i false) (lookAt (d .here) i true ∷ down (d .waiting) (d .count)) (next .pending), down-length (d .waiting) (d .count))
 
-  has-room : (d : Desk) (at : ℕ) (r : C.Reading) → Step S (d .here) r → Held n (d .here) (down (d .waiting) (d .count)) → HasRoom (d .count) (readingOf at r)
-  has-room d at r stops h = tt
-  has-room d at r (sets i q b m) h = tt
-  has-room d at r (looks i q m) h = omega (arith, look-room d i q m h)
-  has-room d at r (faults f) h = tt
+  has-room : (d : Desk) (at c : ℕ) (r : C.Reading) → Step S (d .here) c r → Held n (d .here) (down (d .waiting) (d .count)) → HasRoom (d .count) (readingOf at r)
+  has-room d at c r stops h = tt
+  has-room d at c r (sets i q b m) h = tt
+  has-room d at c r (looks i q m) h = omega (arith, look-room d i q m h)
+  has-room d at c r (faults f w) h = tt
 
   pub room-for : (d : Desk) (at c : ℕ) → Held n (d .here) (down (d .waiting) (d .count)) → HasRoom (d .count) (readingOf at (readByte S (d .here) c))
-  room-for d at c h = has-room d at (readByte S (d .here) c) (step S (d .here) c) h
+  room-for d at c h = has-room d at c (readByte S (d .here) c) (step S (d .here) c) h
 
   -- after a stop
   stop-ready : (here : ℕ) (w : List ℕ) (c : ℕ) → length w ≡ 7 → c ≤ n → Held n here (down w c) → Ready n (stoppedDesk here w c)
@@ -137,7 +107,7 @@ module _ {n : ℕ} {S : System} (law : Lawful n S) (few : n ≤ 7) where
   stop-same here w zero at cs = refl
   stop-same here w (suc c) at cs = refl
 
-  turn-step : (d : Desk) (at c : ℕ) (r : C.Reading) → readByte S (d .here) c ≡ r → Step S (d .here) r → Ready n d → d .stands ≡ Open
+  turn-step : (d : Desk) (at c : ℕ) (r : C.Reading) → readByte S (d .here) c ≡ r → Step S (d .here) c r → Ready n d → d .stands ≡ Open
       → Held n (d .here) (down (d .waiting) (d .count)) → Turned n S d at c (afterDesk d (readingOf at r))
   turn-step d at c r e stops ready opened h = record {
     ready = stop-ready (d .here) (d .waiting) (d .count) (ready .room) (ready .most) h;
@@ -160,7 +130,7 @@ module _ {n : ℕ} {S : System} (law : Lawful n S) (few : n ≤ 7) where
         same = λ cs. rw (opened, stored)
             (ap answerOf (judge-on S (d .here) (down (d .waiting) (d .count)) at c cs (lookAt (d .here) i false ∷ lookAt (d .here) i true ∷ []) e));
       }
-  turn-step d at c r e (faults f) ready opened h = record {
+  turn-step d at c r e (faults f w) ready opened h = record {
     ready = record { room = ready .room; most = ready .most; held = tt };
     same = λ cs. rw opened (ap answerOf (judge-fails S (d .here) (down (d .waiting) (d .count)) at c cs f e));
   }

@@ -9,11 +9,12 @@ use Rattle.ground.specs.Search.{all}
 use Rattle.knowledge.specs.Fits.{learnSettled}
 use Rattle.plan.specs.Plans.{System}
 use Rattle.plan.specs.Pending.{Pending}
-use Rattle.plan.specs.Check.{Fault, no-act, not-permitted, not-settled, too-soon, left-over, Verdict, accepted, faulty, judge}
+use Rattle.plan.specs.Check.{Verdict, accepted, faulty, judge}
 use Rattle.plan.specs.Check as C
 use Rattle.finder.specs.Question.{learnCount, learnTable}
+use Rattle.plancheck.specs.Refusals.{refusalOf}
 use Rattle.plancheck.specs.declared.answer.Refusal.{Refusal}
-use Rattle.plancheck.specs.declared.answer.Refusal.the-variants.{NoAct, NotPermitted, NotSettled, TooSoon, LeftOver}
+use Rattle.plancheck.specs.declared.answer.Refusal.the-variants.{TooSoon}
 use Rattle.plancheck.specs.declared.answer.CheckAnswer.{CheckAnswer}
 use Rattle.plancheck.specs.declared.answer.CheckAnswer.the-variants.{Yes, Refused}
 use Rattle.plancheck.specs.declared.reading.Reading.{Reading}
@@ -22,14 +23,7 @@ use Rattle.plancheck.specs.declared.desk.Stands.{Stands}
 use Rattle.plancheck.specs.declared.desk.Stands.the-variants.{Open, Whole, Fails as Failed}
 use Rattle.plancheck.specs.declared.desk.Desk.{Desk}
 
--- the refusal of a fault at an index
-abbrev pub refusalOf : Fault → ℕ → Refusal
-refusalOf no-act i = NoAct i
-refusalOf not-permitted i = NotPermitted i
-refusalOf not-settled i = NotSettled i
-refusalOf too-soon i = TooSoon i
-refusalOf left-over i = LeftOver i
-
+-- the answer of a judgement
 abbrev pub answerOf : Verdict → CheckAnswer
 answerOf accepted = Yes
 answerOf (faulty f i) = Refused (refusalOf f i)

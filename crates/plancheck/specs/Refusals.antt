@@ -37,6 +37,14 @@ faultNumber not-settled = 19
 faultNumber too-soon = 20
 faultNumber left-over = 21
 
+-- the refusal of a fault, at the index of its byte
+abbrev pub refusalOf : Fault → ℕ → Refusal
+refusalOf no-act i = NoAct i
+refusalOf not-permitted i = NotPermitted i
+refusalOf not-settled i = NotSettled i
+refusalOf too-soon i = TooSoon i
+refusalOf left-over i = LeftOver i
+
 -- "Plan check: the same through 12, then 16": "plan to check over 32,640 bytes"
 unfoldable pub checkRows : List ℕ → Question → List ℕ → List ℕ → List ℕ → List Row
 checkRows book q make learn plan =

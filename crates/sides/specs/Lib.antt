@@ -1,3 +1,4 @@
 -- What is known at each side: a side as a number, what a knowledge state shows of the present and of the start, and tables over all sides.
 pub mod Sides
 pub mod Over
+pub mod Inner

@@ -1,14 +1,16 @@
--- Tables over all 3^n sides: what a rule or a formula comes to at each, and which posts of a team may act there.
+-- Tables over all 3^n sides: what a rule or a formula comes to at each, which posts of a team may act there, and the marks of a goal.
 use mathlib.Core.Path.{_≡_}
 use mathlib.Core.List.{List, []}
-use mathlib.Core.Bool.{Bool, true, not, _&&_}
-use Prim.Native.Nat.{ℕ, _^_, _<_}
+use mathlib.Core.Bool.{Bool, true, false, not, _&&_, _||_}
+use Prim.Native.Nat.{ℕ, _*_, _/_, _^_, _≤_, _<_}
 use lib.Dec.{eqb}
-use lib.ListN.{length, getD}
+use lib.ListN.{length, getD, take, drop}
 use Rattle.ground.specs.Digits.{digit, bit}
-use Rattle.knowledge.specs.Fits.{always}
+use Rattle.ground.specs.Search.{all}
+use Rattle.knowledge.specs.Fits.{always, learnSettled}
 use Rattle.book.specs.Rule.{rule}
 use Rattle.book.specs.declared.rule.Right.{Right}
+use Rattle.sides.specs.Sides.{nowNumber, startNumber}
 
 -- the entry of setting i and side s
 unfoldable pub entry : List (List ℕ) → ℕ → ℕ → ℕ
@@ -22,3 +24,59 @@ Judged b n table t = (s : ℕ) → s < 3 ^ n → not (eqb (getD t s 0) 0) ≡ al
 abbrev pub Posts : ℕ → List ℕ → ℕ → Right → List (List ℕ) → Type 0
 Posts n book team right t =
     (i s q : ℕ) → i < n → s < 3 ^ n → q < 8 → bit (entry t i s) q ≡ (bit team q && always true n (digit 3 s) (rule book i q right))
+
+-- the tables of `posts_allowed`: seven settings of 2187 sides, bytes, and 0 at every setting past n and every side past 3^n
+pub record PostTables (n : ℕ) (book : List ℕ) (team : ℕ) (right : Right) (t : List (List ℕ)) : Type 0 where
+  pub posts : Posts n book team right t
+  pub bytes : (i s : ℕ) → entry t i s < 256
+  pub settings : length t ≡ 7
+  pub sides : (i : ℕ) → i < 7 → length (getD t i []) ≡ 2187
+  pub no-setting : (i s : ℕ) → n ≤ i → entry t i s ≡ 0
+  pub no-side : (i s : ℕ) → 3 ^ n ≤ s → entry t i s ≡ 0
+
+abbrev pub oneOf : Bool → ℕ
+oneOf true = 1
+oneOf false = 0
+
+-- a table over the sides of n settings: entry s is 1 where f holds at the side s, else 0; past 3^n it is 0
+pub record SideTable (n : ℕ) (f : ℕ → Bool) (t : List ℕ) : Type 0 where
+  pub long : length t ≡ 2187
+  pub each : (s : ℕ) → s < 3 ^ n → getD t s 0 ≡ oneOf (f s)
+  pub past : (s : ℕ) → 3 ^ n ≤ s → getD t s 0 ≡ 0
+
+-- "the make formula is true at every fitting present valuation", at each side
+abbrev pub Made : ℕ → List ℕ → List ℕ → Type 0
+Made n make t = SideTable n (λ s. always true n (digit 3 s) make) t
+
+-- "one same value at all fitting start valuations": of a formula's table, at those that fit the side
+unfoldable pub settled : ℕ → (ℕ → ℕ) → List ℕ → Bool
+settled n side table = always true n side table || always false n side table
+
+-- "learn tables 0 to 4 times 16 bytes": how many there are, and the one with index j
+abbrev pub learnCount : List ℕ → ℕ
+learnCount learn = length learn / 16
+
+unfoldable pub learnTable : List ℕ → ℕ → List ℕ
+learnTable learn j = take 16 (drop (16 * j) learn)
+
+-- "each learn formula has one same value at all fitting start valuations", where the team knows the digits d
+unfoldable pub allSettled : ℕ → (ℕ → ℕ) → List ℕ → Bool
+allSettled n d learn = all (learnCount learn) (λ j. learnSettled n d (learnTable learn j))
+
+-- the same, at each side
+abbrev pub Learnt : ℕ → List ℕ → List ℕ → Type 0
+Learnt n learn t = SideTable n (λ s. all (learnCount learn) (λ j. settled n (digit 3 s) (learnTable learn j))) t
+
+-- the mark of a state: 0 where its entries in both tables are not 0, else 255
+abbrev pub rankIf : Bool → ℕ
+rankIf true = 0
+rankIf false = 255
+
+unfoldable pub markOf : ℕ → ℕ → ℕ
+markOf done known = rankIf (not (eqb done 0) && not (eqb known 0))
+
+-- the first 7^n bytes of the rank table are marked, each by the present and the start side of its knowledge number; "later bytes keep what they held"
+pub record Marks (n : ℕ) (made learnt old new : List ℕ) : Type 0 where
+  pub long : length new ≡ length old
+  pub marked : (k : ℕ) → k < 7 ^ n → getD new k 0 ≡ markOf (getD made (nowNumber n k) 0) (getD learnt (startNumber n k) 0)
+  pub kept : (k : ℕ) → 7 ^ n ≤ k → getD new k 0 ≡ getD old k 0

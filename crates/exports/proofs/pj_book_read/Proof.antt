@@ -6,7 +6,8 @@ use Rattle.book.specs.Refusals.{number, place}
 use Rattle.exports.specs.Book.{readReturned}
 use Rattle.book.specs.Promise.{Reads}
 use Rattle.book.specs.declared.reading.ReadAnswer.{ReadAnswer}
-use Rattle.book.proofs.Small.{number-small, read-place-small}
+use Rattle.book.proofs.Small.{number-small}
+use Rattle.book.proofs.Theorems.{read-place-most}
 use borrow.Author.Needs.{needs}
 use Rattle.exports.proofs.pj_book_read.Statement.{statement}
 use Rattle.exports.proofs.pj_book_read.Tie as tie
@@ -39,7 +40,7 @@ place-requires : tie.Need-place-requires
 place-requires c κs = search needs
 
 refusal-requires : tie.Need-refusal-requires
-refusal-requires c κs = (omega (arith, c .before .number .ensures, number-small (c .before .before .before .why .given .0 .0)), omega (arith, c .place .ensures, read-place-small (c .before .before .before .before .before .before .before .before .before .before .before .args .book .now) (c .before .before .before .before .before .before .before .before .before .before .before .args .rights .now) (number (c .before .before .before .why .given .0 .0)) (place (c .before .before .before .why .given .0 .0)) (subst (λ (a : ReadAnswer). Reads (c .before .before .before .before .before .before .before .before .before .before .before .args .book .now) (c .before .before .before .before .before .before .before .before .before .before .before .args .rights .now) a (c .before .before .before .before .before .before .before .read .last .1 .0)) (c .before .before .before .why .given .1) (c .before .before .before .before .before .before .before .read .ensures) .0)))
+refusal-requires c κs = (omega (arith, c .before .number .ensures, number-small (c .before .before .before .why .given .0 .0)), omega (arith, c .place .ensures, read-place-most (c .before .before .before .before .before .before .before .before .before .before .before .args .book .now) (c .before .before .before .before .before .before .before .before .before .before .before .args .rights .now) (number (c .before .before .before .why .given .0 .0)) (place (c .before .before .before .why .given .0 .0)) (subst (λ (a : ReadAnswer). Reads (c .before .before .before .before .before .before .before .before .before .before .before .args .book .now) (c .before .before .before .before .before .before .before .before .before .before .before .args .rights .now) a (c .before .before .before .before .before .before .before .read .last .1 .0)) (c .before .before .before .why .given .1) (c .before .before .before .before .before .before .before .read .ensures) .0)))
 
 same-length : tie.Need-same-length
 same-length c = search needs

@@ -6,7 +6,8 @@ use Rattle.book.specs.Refusals.{number, place}
 use Rattle.exports.specs.Book.{writeReturned}
 use Rattle.book.specs.Promise.{Writes}
 use Rattle.book.specs.declared.writing.WriteAnswer.{WriteAnswer}
-use Rattle.book.proofs.Small.{number-small, write-place-small}
+use Rattle.book.proofs.Small.{number-small}
+use Rattle.book.proofs.Theorems.{write-place-most}
 use borrow.Author.Needs.{needs}
 use Rattle.exports.proofs.pj_book_write.Statement.{statement}
 use Rattle.exports.proofs.pj_book_write.Tie as tie
@@ -27,7 +28,7 @@ place-requires : tie.Need-place-requires
 place-requires c κs = search needs
 
 refusal-requires : tie.Need-refusal-requires
-refusal-requires c κs = (omega (arith, c .before .number .ensures, number-small (c .before .before .before .why .given .0 .0)), omega (arith, c .place .ensures, write-place-small (c .before .before .before .before .before .before .before .before .before .before .before .args .n) (c .before .before .before .before .before .before .before .before .before .before .before .args .m) (c .before .before .before .before .before .before .before .before .before .before .before .args .rights .now) (c .before .before .before .before .before .before .before .before .before .before .before .args .book .now) (number (c .before .before .before .why .given .0 .0)) (place (c .before .before .before .why .given .0 .0)) (subst (λ (a : WriteAnswer). Writes (c .before .before .before .before .before .before .before .before .before .before .before .args .n) (c .before .before .before .before .before .before .before .before .before .before .before .args .m) (c .before .before .before .before .before .before .before .before .before .before .before .args .rights .now) (c .before .before .before .before .before .before .before .before .before .before .before .args .book .now) a (c .before .before .before .before .before .before .before .write .last .1 .1 .1 .0)) (c .before .before .before .why .given .1) (c .before .before .before .before .before .before .before .write .ensures) .0)))
+refusal-requires c κs = (omega (arith, c .before .number .ensures, number-small (c .before .before .before .why .given .0 .0)), omega (arith, c .place .ensures, write-place-most (c .before .before .before .before .before .before .before .before .before .before .before .args .n) (c .before .before .before .before .before .before .before .before .before .before .before .args .m) (c .before .before .before .before .before .before .before .before .before .before .before .args .rights .now) (c .before .before .before .before .before .before .before .before .before .before .before .args .book .now) (number (c .before .before .before .why .given .0 .0)) (place (c .before .before .before .why .given .0 .0)) (subst (λ (a : WriteAnswer). Writes (c .before .before .before .before .before .before .before .before .before .before .before .args .n) (c .before .before .before .before .before .before .before .before .before .before .before .args .m) (c .before .before .before .before .before .before .before .before .before .before .before .args .rights .now) (c .before .before .before .before .before .before .before .before .before .before .before .args .book .now) a (c .before .before .before .before .before .before .before .write .last .1 .1 .1 .0)) (c .before .before .before .why .given .1) (c .before .before .before .before .before .before .before .write .ensures) .0)))
 
 same-length : tie.Need-same-length
 same-length c = search needs

@@ -3,7 +3,6 @@ use native.Mathlib.Omega.{arith}
 use mathlib.Core.Path.{refl}
 use denote.Ref.{now}
 use Rattle.book.specs.Sound.{Sound}
-use Rattle.book.specs.Refusals.{number, place}
 use Rattle.book.proofs.SoundLaws.{judged-book, judged-refused, no-room, read-room}
 use borrow.Author.Needs.{needs}
 use Rattle.book.proofs.reading.read.Statement.{statement}

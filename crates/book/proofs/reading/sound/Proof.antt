@@ -3,10 +3,9 @@ use mathlib.Core.Path.{subst}
 use Prim.Native.Nat.{ℕ, _+_, _≤_, _<_}
 use native.Mathlib.Omega.{arith}
 use denote.Ref.{now}
-use lib.ListN.{getD}
 use Rattle.book.specs.Block.{blocks, block, RightCheck}
 use Rattle.book.specs.Sound.{SettingBlock}
-use Rattle.book.specs.Refusals.{number, place, Whole, settingsOf, postsOf, RightHead}
+use Rattle.book.specs.Refusals.{Whole, settingsOf, postsOf, RightHead}
 use Rattle.book.specs.Inner.{Lowest}
 use Rattle.book.proofs.Answers.{told, untold, lowest-all}
 use Rattle.book.proofs.BookLaws.{whole-length}

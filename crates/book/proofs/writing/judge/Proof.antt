@@ -1,8 +1,7 @@
 -- `book::writing::judge` meets its contract: each way out is the first refusal in the order, or none, by what was tested before it.
 use native.Mathlib.Omega.{arith}
 use denote.Ref.{now}
-use Rattle.book.specs.Sound.{Settings, Posts, Tables, tablesOf}
-use Rattle.book.specs.Refusals.{number, place}
+use Rattle.book.specs.Sound.{SettingsFit, PostsFit, Tables, tablesOf}
 use Rattle.book.specs.Inner.{Lowest}
 use Rattle.book.proofs.Answers.{lowest-all}
 use Rattle.book.proofs.RefusalLaws.{refuse-settings, refuse-posts, refuse-size, refuse-tables, refuse-room, lowest-tables}
@@ -11,11 +10,11 @@ use Rattle.book.proofs.writing.judge.Statement.{statement}
 use Rattle.book.proofs.writing.judge.Tie as tie
 
 -- past the first two tests: 1 to 7 settings
-settings : (c : tie.Else2) → Settings (c .before .before .before .before .args .n)
+settings : (c : tie.Else2) → SettingsFit (c .before .before .before .before .args .n)
 settings c = record { least = c .before .if1 .left; most = c .if2 .left }
 
 -- past the next two: 1 to 8 posts
-posts : (c : tie.Else4) → Posts (c .before .before .before .before .before .before .args .m)
+posts : (c : tie.Else4) → PostsFit (c .before .before .before .before .before .before .args .m)
 posts c = record { least = c .before .if3 .left; most = c .if4 .left }
 
 -- what the search for a stray bit has found
@@ -61,7 +60,7 @@ mul-if7 c = search needs
 returns-7 : tie.Need-returns-7
 returns-7 c =
     refuse-room (c .before .before .before .before .before .before .before .before .before .before .args .n) (c .before .before .before .before .before .before .before .before .before .before .args .m) (now (c .before .before .before .before .before .before .before .before .before .before .args .rights)) (now (c .before .before .before .before .before .before .before .before .before .before .args .room)) (settings (c .before .before .before .before .before .before)) (posts (c .before .before .before .before)) (c .before .before .before .if5 .left)
-    (lowest-all (strays (c .before .before)) (c .before .if6 .left)) (c .if7 .taken)
+    (lowest-all (strays (c .before .before)) (c .before .if6 .left)) (omega (arith, c .if7))
 
 returns-8 : tie.Need-returns-8
 returns-8 c = (
@@ -71,7 +70,7 @@ returns-8 c = (
     size = c .before .before .before .if5 .left;
     tables = lowest-all (strays (c .before .before)) (c .before .if6 .left);
   },
-  c .if7 .left,
+  omega (arith, c .if7),
 )
 
 pub judge-spec : {M : Type 1} → statement M

@@ -3,7 +3,6 @@ use native.Mathlib.Omega.{arith}
 use lib.ListN.{drop}
 use Rattle.ground.specs.Table.{Within}
 use Rattle.book.proofs.Answers.{told, untold, tells-iff}
-use Rattle.finder.specs.Question.{learnCount}
 use Rattle.finder.specs.Rows.{LearnWithin, GoalFits}
 use borrow.Author.Needs.{needs}
 use Rattle.finder.proofs.question.goal_fits.Statement.{statement}
@@ -16,7 +15,6 @@ returns-2 : tie.Need-returns-2
 returns-2 c = search needs
 
 returns-3 : tie.Need-returns-3
-unfolding learnCount
 returns-3 c = λ f. omega (arith, f .learn-most)
 
 within-requires : tie.Need-within-requires
@@ -29,7 +27,6 @@ learn-within-requires : tie.Need-learn-within-requires
 learn-within-requires c κs = search needs
 
 returns-5 : tie.Need-returns-5
-unfolding learnCount
 returns-5 c = tells-iff {A = LearnWithin (c .before .before .before .before .before .before .before .before .args .n) (c .before .before .before .before .before .before .before .before .args .learn .now)} {B = GoalFits (c .before .before .before .before .before .before .before .before .args .n) (c .before .before .before .before .before .before .before .before .args .make .now) (c .before .before .before .before .before .before .before .before .args .learn .now)} (c .learn-within .result) (λ w. record { make-bytes = omega arith; learn-bytes = omega arith; learn-most = omega arith; make-within = told (Within (c .before .before .before .before .before .before .before .before .args .n) (c .before .before .before .before .before .before .before .before .args .make .now)) (c .before .before .within .result) (c .before .before .within .ensures) (c .before .if4 .left); learn-within = w }) (λ f. f .learn-within) (c .learn-within .ensures)
 
 pub goal-fits-spec : {M : Type 1} → statement M

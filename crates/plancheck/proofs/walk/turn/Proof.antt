@@ -2,7 +2,7 @@
 use mathlib.Core.Path.{_≡_, sym, ap, subst, _∙_}
 use native.Mathlib.Omega.{arith}
 use Rattle.plancheck.specs.Inner.{HasRoom, afterDesk}
-use Rattle.plancheck.proofs.SystemLaws.{lawful}
+use Rattle.plancheck.proofs.SystemLaws.{lawful, eight-posts}
 use Rattle.plancheck.proofs.DeskLaws.{open-held, room-for, turn-open, turn-whole, turn-failed}
 use borrow.Author.Needs.{needs}
 use Rattle.plancheck.proofs.walk.turn.Statement.{statement}
@@ -15,7 +15,7 @@ read-byte-requires : tie.Need-read-byte-requires
 read-byte-requires c κs = (c .before .before .before .before .before .pre .0, open-held (c .before .before .before .before .before .args .desk) (c .before .before .before .before .before .pre .1) (c .enum-told .given .1) .here)
 
 after-requires : tie.Need-after-requires
-after-requires c κs = (c .before .before .before .before .before .before .pre .1 .room, omega (arith, c .before .before .before .before .before .before .pre .0, c .before .before .before .before .before .before .pre .1 .most), subst (HasRoom (c .before .before .before .before .before .before .args .desk .count)) (sym (c .read-byte .ensures)) (room-for (lawful (c .before .before .before .before .before .before .args .n) (c .before .before .before .before .before .before .args .book .now) (c .before .before .before .before .before .before .args .team) (c .before .before .before .before .before .before .args .make .now) (c .before .before .before .before .before .before .args .learn .now) (omega (arith, c .before .before .before .before .before .before .fits .team))) (c .before .before .before .before .before .before .pre .0) (c .before .before .before .before .before .before .args .desk) (c .before .before .before .before .before .before .args .at) (c .before .before .before .before .before .before .args .byte) (open-held (c .before .before .before .before .before .before .args .desk) (c .before .before .before .before .before .before .pre .1) (c .before .enum-told .given .1))))
+after-requires c κs = (c .before .before .before .before .before .before .pre .1 .room, omega (arith, c .before .before .before .before .before .before .pre .0, c .before .before .before .before .before .before .pre .1 .most), subst (HasRoom (c .before .before .before .before .before .before .args .desk .count)) (sym (c .read-byte .ensures)) (room-for (lawful (c .before .before .before .before .before .before .args .n) (c .before .before .before .before .before .before .args .book .now) (c .before .before .before .before .before .before .args .team) (c .before .before .before .before .before .before .args .make .now) (c .before .before .before .before .before .before .args .learn .now) (eight-posts (c .before .before .before .before .before .before .args .team) (omega (arith, c .before .before .before .before .before .before .fits .team)))) (c .before .before .before .before .before .before .pre .0) (c .before .before .before .before .before .before .args .desk) (c .before .before .before .before .before .before .args .at) (c .before .before .before .before .before .before .args .byte) (open-held (c .before .before .before .before .before .before .args .desk) (c .before .before .before .before .before .before .pre .1) (c .before .enum-told .given .1))))
 
 enum-told-2 : tie.Need-enum-told-2
 enum-told-2 c = search needs
@@ -27,7 +27,7 @@ enum-told-3 : tie.Need-enum-told-3
 enum-told-3 c = search needs
 
 returns : tie.Need-returns
-returns c = turn-open (lawful (c .before .before .before .before .before .before .before .args .n) (c .before .before .before .before .before .before .before .args .book .now) (c .before .before .before .before .before .before .before .args .team) (c .before .before .before .before .before .before .before .args .make .now) (c .before .before .before .before .before .before .before .args .learn .now) (omega (arith, c .before .before .before .before .before .before .before .fits .team))) (c .before .before .before .before .before .before .before .pre .0) (c .before .before .before .before .before .before .before .args .desk) (c .before .before .before .before .before .before .before .args .at) (c .before .before .before .before .before .before .before .args .byte) (c .before .before .before .before .before .before .before .pre .1) (c .before .before .enum-told .given .1) (c .after .ensures ∙ ap (afterDesk (c .before .before .before .before .before .before .before .args .desk)) (c .before .read-byte .ensures))
+returns c = turn-open (lawful (c .before .before .before .before .before .before .before .args .n) (c .before .before .before .before .before .before .before .args .book .now) (c .before .before .before .before .before .before .before .args .team) (c .before .before .before .before .before .before .before .args .make .now) (c .before .before .before .before .before .before .before .args .learn .now) (eight-posts (c .before .before .before .before .before .before .before .args .team) (omega (arith, c .before .before .before .before .before .before .before .fits .team)))) (c .before .before .before .before .before .before .before .pre .0) (c .before .before .before .before .before .before .before .args .desk) (c .before .before .before .before .before .before .before .args .at) (c .before .before .before .before .before .before .before .args .byte) (c .before .before .before .before .before .before .before .pre .1) (c .before .before .enum-told .given .1) (c .after .ensures ∙ ap (afterDesk (c .before .before .before .before .before .before .before .args .desk)) (c .before .read-byte .ensures))
 
 returns-2 : tie.Need-returns-2
 returns-2 c = turn-whole (c .before .before .before .before .before .before .args .desk) (c .before .before .before .before .before .before .args .at) (c .before .before .before .before .before .before .args .byte) (c .before .before .before .before .before .before .pre .1) (c .before .enum-told2 .given .1) (c .failed .ensures)

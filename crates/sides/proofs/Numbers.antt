@@ -1,0 +1,134 @@
+-- The side that a knowledge number shows, as a number: its digit at a setting is what the knowledge digit tells there. For any way to read a
+-- knowledge digit as a side, by recursion on the settings; the present and the start are the two that paper 01 has.
+use mathlib.Core.Path.{_≡_, refl, sym, ap, _∙_}
+use Prim.Native.Nat.{ℕ, zero, suc, _+_, _*_, _/_, _%_, _^_, _≤_, _<_}
+use native.Mathlib.Nat.{pow-zero, pow-succ', add-comm, mod-lt}
+use native.Mathlib.Decide.{ℕ-discrete}
+use native.Mathlib.Omega.{arith}
+use lib.Arith.{digits-lt, digits-div, digits-mod}
+use lib.Dec.{lit<}
+use Rattle.ground.specs.Digits.{digit, put}
+use Rattle.ground.proofs.Bits.{digit-zero, digit-suc}
+use Rattle.ground.proofs.Digits.{digit-lt, digit-top, digit-low, put-same, put-other, put-lt, put-sum, same-digits}
+use Rattle.ground.proofs.Search.{below-suc}
+use Rattle.knowledge.specs.Seven.{startOf, nowOf}
+use Rattle.knowledge.proofs.Seven.{now-lt, start-lt}
+use Rattle.sides.specs.Sides.{sideNumber, nowNumber, startNumber}
+
+three : 0 < 3
+three = lit< tt
+
+seven : 0 < 7
+seven = lit< tt
+
+module _ (f : ℕ → ℕ) where
+  pub side-lt : (n : ℕ) → ((i : ℕ) → i < n → f i < 3) → sideNumber n f < 3 ^ n
+  unfolding sideNumber
+  side-lt zero small = rw pow-zero (lit< tt)
+  side-lt (suc n) small =
+      rw (pow-succ', add-comm (sideNumber n f) (f n * 3 ^ n))
+      (digits-lt (small n (omega arith)) (side-lt n (λ i h. small i (omega arith))))
+
+  pub side-digit : (n : ℕ) → ((i : ℕ) → i < n → f i < 3) → (i : ℕ) → i < n → digit 3 (sideNumber n f) i ≡ f i
+  unfolding sideNumber
+  side-digit zero small i h = absurd (omega arith)
+  side-digit (suc n) small i h =
+      let low = side-lt n (λ j l. small j (omega arith)) in
+      rw (add-comm (sideNumber n f) (f n * 3 ^ n))
+      (below-suc i n h
+      (λ e. rw e (digit-top three n (sideNumber n f) (f n) low (small n (omega arith))))
+      (λ l. digit-low three n (sideNumber n f) (f n) i low l ∙ side-digit n (λ j m. small j (omega arith)) i l))
+
+-- what a knowledge number shows, by a reading g of its digits
+abbrev pub seen : (ℕ → ℕ) → ℕ → ℕ → ℕ
+seen g n k = sideNumber n (λ i. g (digit 7 k i))
+
+module _ (g : ℕ → ℕ) (small : (d : ℕ) → d < 7 → g d < 3) where
+  pub seen-lt : (n k : ℕ) → seen g n k < 3 ^ n
+  seen-lt n k = side-lt (λ i. g (digit 7 k i)) n (λ i h. small (digit 7 k i) (digit-lt seven k i))
+
+  pub seen-digit : (n k i : ℕ) → i < n → digit 3 (seen g n k) i ≡ g (digit 7 k i)
+  seen-digit n k i h = side-digit (λ i. g (digit 7 k i)) n (λ i h. small (digit 7 k i) (digit-lt seven k i)) i h
+
+  -- a changed digit changes the side at its place
+  pub seen-put : (n k i d : ℕ) → i < n → d < 7 → seen g n (put 7 k i d) ≡ put 3 (seen g n k) i (g d)
+  seen-put n k i d h l =
+      same-digits three n (seen g n (put 7 k i d)) (put 3 (seen g n k) i (g d)) (seen-lt n (put 7 k i d))
+      (put-lt three (seen g n k) i n (g d) (seen-lt n k) h (small d l))
+      (λ j m. seen-digit n (put 7 k i d) j m ∙ at j m)
+    where
+      at : (j : ℕ) → j < n → g (digit 7 (put 7 k i d) j) ≡ digit 3 (put 3 (seen g n k) i (g d)) j
+      at j m = elim (ℕ-discrete j i) [
+        | yes e ↦ rw e (ap g (put-same seven k i d l) ∙ sym (put-same three (seen g n k) i (g d) (small d l)))
+        | no e ↦ ap g (put-other seven k i j d l e)
+            ∙ sym (put-other three (seen g n k) i j (g d) (small d l) e ∙ seen-digit n k j m)
+      ]
+
+  -- the same as a sum: the side moves by the difference of what the two digits tell
+  pub seen-move : (n k i d : ℕ) → i < n → d < 7 → seen g n (put 7 k i d) + g (digit 7 k i) * 3 ^ i ≡ seen g n k + g d * 3 ^ i
+  seen-move n k i d h l =
+      rw (seen-put n k i d h l, ← (seen-digit n k i h)) (put-sum three (seen g n k) i (g d))
+
+  -- one more setting below the others
+  pub seen-low : (n r d : ℕ) → d < 7 → seen g (suc n) (r * 7 + d) ≡ seen g n r * 3 + g d
+  seen-low n r d l =
+      same-digits three (suc n) (seen g (suc n) (r * 7 + d)) (seen g n r * 3 + g d) (seen-lt (suc n) (r * 7 + d))
+      (rw pow-succ' (low-lt (seen-lt n r)))
+      (λ j m. seen-digit (suc n) (r * 7 + d) j m ∙ at j m)
+    where
+      low-lt : seen g n r < 3 ^ n → seen g n r * 3 + g d < 3 * 3 ^ n
+      low-lt h = omega (arith, small d l)
+
+      at : (j : ℕ) → j < suc n → g (digit 7 (r * 7 + d) j) ≡ digit 3 (seen g n r * 3 + g d) j
+      at zero m =
+          ap g (digit-zero 7 (r * 7 + d) ∙ digits-mod r l)
+          ∙ sym (digit-zero 3 (seen g n r * 3 + g d) ∙ digits-mod (seen g n r) (small d l))
+      at (suc j) m =
+          ap g (digit-suc 7 (r * 7 + d) j ∙ ap (λ (x : ℕ). digit 7 x j) (digits-div r l))
+          ∙ sym (digit-suc 3 (seen g n r * 3 + g d) j
+          ∙ ap (λ (x : ℕ). digit 3 x j) (digits-div (seen g n r) (small d l))
+          ∙ seen-digit n r j (omega arith))
+
+-- the present side
+module _ (n k : ℕ) where
+  pub now-number-lt : nowNumber n k < 3 ^ n
+  unfolding nowNumber
+  now-number-lt = seen-lt nowOf (λ d l. now-lt d) n k
+
+  pub now-digit : (i : ℕ) → i < n → digit 3 (nowNumber n k) i ≡ nowOf (digit 7 k i)
+  unfolding nowNumber
+  now-digit i h = seen-digit nowOf (λ d l. now-lt d) n k i h
+
+  pub now-put : (i d : ℕ) → i < n → d < 7 → nowNumber n (put 7 k i d) ≡ put 3 (nowNumber n k) i (nowOf d)
+  unfolding nowNumber
+  now-put i d h l = seen-put nowOf (λ d l. now-lt d) n k i d h l
+
+  pub now-move : (i d : ℕ) → i < n → d < 7 → nowNumber n (put 7 k i d) + nowOf (digit 7 k i) * 3 ^ i ≡ nowNumber n k + nowOf d * 3 ^ i
+  unfolding nowNumber
+  now-move i d h l = seen-move nowOf (λ d l. now-lt d) n k i d h l
+
+  pub now-low : (d : ℕ) → d < 7 → nowNumber (suc n) (k * 7 + d) ≡ nowNumber n k * 3 + nowOf d
+  unfolding nowNumber
+  now-low d l = seen-low nowOf (λ d l. now-lt d) n k d l
+
+-- the start side
+module _ (n k : ℕ) where
+  pub start-number-lt : startNumber n k < 3 ^ n
+  unfolding startNumber
+  start-number-lt = seen-lt startOf (λ d l. start-lt d) n k
+
+  pub start-digit : (i : ℕ) → i < n → digit 3 (startNumber n k) i ≡ startOf (digit 7 k i)
+  unfolding startNumber
+  start-digit i h = seen-digit startOf (λ d l. start-lt d) n k i h
+
+  pub start-put : (i d : ℕ) → i < n → d < 7 → startNumber n (put 7 k i d) ≡ put 3 (startNumber n k) i (startOf d)
+  unfolding startNumber
+  start-put i d h l = seen-put startOf (λ d l. start-lt d) n k i d h l
+
+  pub start-move : (i d : ℕ) → i < n → d < 7 → startNumber n (put 7 k i d) + startOf (digit 7 k i) * 3 ^ i ≡ startNumber n k + startOf d * 3 ^ i
+  unfolding startNumber
+  start-move i d h l = seen-move startOf (λ d l. start-lt d) n k i d h l
+
+  pub start-low : (d : ℕ) → d < 7 → startNumber (suc n) (k * 7 + d) ≡ startNumber n k * 3 + startOf d
+  unfolding startNumber
+  start-low d l = seen-low startOf (λ d l. start-lt d) n k d l

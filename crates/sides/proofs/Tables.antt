@@ -1,0 +1,105 @@
+-- What the tables over all sides say of a knowledge number: the entry at the side that it shows is the judgement that paper 01 words over its
+-- digits, since a judgement reads nothing of a state but that side.
+use mathlib.Core.Path.{_≡_, refl, sym, ap, ap₂, _∙_}
+use mathlib.Core.List.{List}
+use mathlib.Core.Bool.{Bool, true, false, not, _&&_, _||_}
+use Prim.Native.Nat.{ℕ, _^_, _<_}
+use lib.Dec.{eqb, lit<}
+use lib.ListN.{getD}
+use Rattle.ground.specs.Digits.{digit, put, bit}
+use Rattle.ground.specs.Search.{all}
+use Rattle.ground.proofs.Digits.{digit-lt, put-digit}
+use Rattle.ground.proofs.Search.{all-ext}
+use Rattle.book.specs.Rule.{rule}
+use Rattle.book.specs.declared.rule.Right.{Right}
+use Rattle.knowledge.specs.Seven.{told, afterSet, afterLook}
+use Rattle.knowledge.specs.Fits.{always, nowSide, startSide, known, learnSettled}
+use Rattle.knowledge.specs.Acts.{setTo, lookAt}
+use Rattle.knowledge.proofs.Fits.{always-ext}
+use Rattle.knowledge.proofs.Seven.{now-set, start-set, set-lt, now-look, start-look, look-lt}
+use Rattle.sides.specs.Sides.{nowNumber, startNumber}
+use Rattle.sides.specs.Over.{entry, Judged, PostTables, oneOf, SideTable, Made, settled, learnCount, learnTable, allSettled, Learnt, rankIf, markOf, Marks}
+use Rattle.sides.proofs.Numbers.{now-number-lt, start-number-lt, now-digit, start-digit, now-put, start-put}
+
+three : 0 < 3
+three = lit< tt
+
+seven : 0 < 7
+seven = lit< tt
+
+-- an entry of 1 or 0 tells, by not being 0
+pub one-some : (b : Bool) → not (eqb (oneOf b) 0) ≡ b
+one-some true = refl
+one-some false = refl
+
+pub side-some : {n : ℕ} {f : ℕ → Bool} {t : List ℕ} → SideTable n f t → (s : ℕ) → s < 3 ^ n → not (eqb (getD t s 0) 0) ≡ f s
+side-some {n} {f} {t} table s h = ap (λ (e : ℕ). not (eqb e 0)) (table .each s h) ∙ one-some (f s)
+
+pub made-judged : {n : ℕ} (make : List ℕ) {t : List ℕ} → Made n make t → Judged true n make t
+made-judged make table s h = side-some table s h
+
+-- a judgement at the side that a knowledge number shows
+module _ (n k : ℕ) (t : List ℕ) where
+  pub always-now : (b : Bool) → always b n (digit 3 (nowNumber n k)) t ≡ always b n (nowSide (digit 7 k)) t
+  always-now b = always-ext b n (digit 3 (nowNumber n k)) (nowSide (digit 7 k)) t (now-digit n k)
+
+  pub always-start : (b : Bool) → always b n (digit 3 (startNumber n k)) t ≡ always b n (startSide (digit 7 k)) t
+  always-start b = always-ext b n (digit 3 (startNumber n k)) (startSide (digit 7 k)) t (start-digit n k)
+
+  pub known-now : always true n (digit 3 (nowNumber n k)) t ≡ known n (digit 7 k) t
+  unfolding known
+  known-now = always-now true
+
+  pub settled-start : settled n (digit 3 (startNumber n k)) t ≡ learnSettled n (digit 7 k) t
+  unfolding settled learnSettled
+  settled-start = ap₂ _||_ (always-start true) (always-start false)
+
+-- "A rule is known to hold", "the make formula is true at every fitting present valuation"
+module _ (n : ℕ) (rule t : List ℕ) where
+  pub judged-known : Judged true n rule t → (k : ℕ) → not (eqb (getD t (nowNumber n k) 0) 0) ≡ known n (digit 7 k) rule
+  judged-known table k = table (nowNumber n k) (now-number-lt n k) ∙ known-now n k rule
+
+  pub made-known : Made n rule t → (k : ℕ) → not (eqb (getD t (nowNumber n k) 0) 0) ≡ known n (digit 7 k) rule
+  made-known table k = judged-known (made-judged rule table) k
+
+-- "each learn formula has one same value at all fitting start valuations"
+pub learnt-settled : (n : ℕ) (learn t : List ℕ) → Learnt n learn t → (k : ℕ) → not (eqb (getD t (startNumber n k) 0) 0) ≡ allSettled n (digit 7 k) learn
+unfolding allSettled
+learnt-settled n learn t table k =
+    side-some table (startNumber n k) (start-number-lt n k)
+    ∙ all-ext (learnCount learn) _ _ (λ j h. settled-start n k (learnTable learn j))
+
+-- "by a post of the team .. where its rule for that post is known to hold"
+pub post-known : {n team : ℕ} {book : List ℕ} {right : Right} {t : List (List ℕ)} → PostTables n book team right t → (k i q : ℕ) → i < n → q < 8
+    → bit (entry t i (nowNumber n k)) q ≡ (bit team q && known n (digit 7 k) (rule book i q right))
+post-known {n} {team} {book} {right} table k i q h l =
+    table .posts i (nowNumber n k) q h (now-number-lt n k) l ∙ ap (λ (x : Bool). bit team q && x) (known-now n k (rule book i q right))
+
+-- "The goal is settled": a mark is 0 exactly where both halves of the goal hold
+pub goal-marked : {n : ℕ} (make learn : List ℕ) {made learnt old new : List ℕ} → Made n make made → Learnt n learn learnt → Marks n made learnt old new
+    → (k : ℕ) → k < 7 ^ n → getD new k 0 ≡ rankIf (known n (digit 7 k) make && allSettled n (digit 7 k) learn)
+unfolding markOf
+goal-marked {n} make learn {made} {learnt} m l marks k h = marks .marked k h ∙ ap rankIf (ap₂ _&&_ (made-known n make made m k) (learnt-settled n learn learnt l k))
+
+-- the sides after an act: a set tells the present value alone, a look both
+module _ (n k i : ℕ) (b : Bool) (below : i < n) where
+  pub now-after-set : nowNumber n (setTo k i b) ≡ put 3 (nowNumber n k) i (told b)
+  unfolding setTo
+  now-after-set =
+      now-put n k i (afterSet (digit 7 k i) b) below (set-lt (digit 7 k i) b (digit-lt seven k i))
+      ∙ ap (put 3 (nowNumber n k) i) (now-set (digit 7 k i) b (digit-lt seven k i))
+
+  pub start-after-set : startNumber n (setTo k i b) ≡ startNumber n k
+  unfolding setTo
+  start-after-set =
+      start-put n k i (afterSet (digit 7 k i) b) below (set-lt (digit 7 k i) b (digit-lt seven k i))
+      ∙ ap (put 3 (startNumber n k) i) (start-set (digit 7 k i) b (digit-lt seven k i) ∙ sym (start-digit n k i below))
+      ∙ put-digit three (startNumber n k) i
+
+  pub now-after-look : nowNumber n (lookAt k i b) ≡ put 3 (nowNumber n k) i (told b)
+  unfolding lookAt
+  now-after-look = now-put n k i (afterLook b) below (look-lt b) ∙ ap (put 3 (nowNumber n k) i) (now-look b)
+
+  pub start-after-look : startNumber n (lookAt k i b) ≡ put 3 (startNumber n k) i (told b)
+  unfolding lookAt
+  start-after-look = start-put n k i (afterLook b) below (look-lt b) ∙ ap (put 3 (startNumber n k) i) (start-look b)
