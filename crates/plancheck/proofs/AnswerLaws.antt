@@ -45,6 +45,21 @@ start-is known values e f =
 
 -- ---- the answer
 
+-- the number and the place of a fault's refusal
+pub fault-number : (f : Fault) (i : ℕ) → number (refusalOf f i) ≡ faultNumber f
+fault-number no-act i = refl
+fault-number not-permitted i = refl
+fault-number not-settled i = refl
+fault-number too-soon i = refl
+fault-number left-over i = refl
+
+pub fault-place : (f : Fault) (i : ℕ) → place (refusalOf f i) ≡ i
+fault-place no-act i = refl
+fault-place not-permitted i = refl
+fault-place not-settled i = refl
+fault-place too-soon i = refl
+fault-place left-over i = refl
+
 module _ (book : List ℕ) (q : Question) (make learn plan : List ℕ) where
   -- what `ask` ensures of its answer, once the answer is known
   pub as-valid : {a : Asked} {n m : ℕ} → a ≡ Valid n m → Asks book q make learn a → ValidQuestion book q make learn n m
@@ -67,20 +82,6 @@ module _ (book : List ℕ) (q : Question) (make learn plan : List ℕ) where
       (question-clear book (q .team) (q .known) (q .values) make learn (v .sound) (v .team) (v .known) (v .goal)) (inl (refl, least-only l)))
 
   -- then the judgement on the bytes
-  pub fault-number : (f : Fault) (i : ℕ) → number (refusalOf f i) ≡ faultNumber f
-  fault-number no-act i = refl
-  fault-number not-permitted i = refl
-  fault-number not-settled i = refl
-  fault-number too-soon i = refl
-  fault-number left-over i = refl
-
-  pub fault-place : (f : Fault) (i : ℕ) → place (refusalOf f i) ≡ i
-  fault-place no-act i = refl
-  fault-place not-permitted i = refl
-  fault-place not-settled i = refl
-  fault-place too-soon i = refl
-  fault-place left-over i = refl
-
   pub judged-checks : (v : Verdict) → Judged book q make learn plan v → Checks book q make learn plan (answerOf v)
   judged-checks accepted j = j
   judged-checks (faulty f i) j =

@@ -15,8 +15,8 @@ use Rattle.knowledge.specs.Number.{digitIn, digitsOf}
 use Rattle.knowledge.specs.Fits.{always, startSide, known, learnSettled}
 use Rattle.knowledge.proofs.Fits.{always-take}
 use Rattle.knowledge.proofs.Number.{digits-are}
-use Rattle.finder.specs.Question.{learnCount, learnTable, settled}
-use Rattle.plancheck.specs.Inner.{allLearnt}
+use Rattle.sides.specs.Over.{learnTable, allSettled}
+use Rattle.finder.specs.Question.{settled}
 
 -- a judgement that is guarded by at most seven settings
 pub unguarded : (n : ℕ) (b : Bool) → n ≤ 7 → leb n 7 && b ≡ b
@@ -37,12 +37,12 @@ module _ (n : ℕ) (d : ℕ → ℕ) (learn : List ℕ) (few : n ≤ 7) where
       unguarded n _ few
       ∙ sym (ap₂ _||_ (always-take true n (startSide d) (drop (16 * j) learn) few) (always-take false n (startSide d) (drop (16 * j) learn) few))
 
-  pub learnt-all : (j : ℕ) → Learnt n d learn j → length learn / 16 ≤ j → true ≡ allLearnt n d learn
-  unfolding allLearnt learnCount
+  pub learnt-all : (j : ℕ) → Learnt n d learn j → length learn / 16 ≤ j → true ≡ allSettled n d learn
+  unfolding allSettled
   learnt-all j f l = sym (T→true (all (length learn / 16) at-table) (all-intro (length learn / 16) at-table (λ i h. f i (omega arith))))
 
-  pub learnt-not : (j : ℕ) → j < length learn / 16 → at-table j ≡ false → false ≡ allLearnt n d learn
-  unfolding allLearnt learnCount
+  pub learnt-not : (j : ℕ) → j < length learn / 16 → at-table j ≡ false → false ≡ allSettled n d learn
+  unfolding allSettled
   learnt-not j l e =
       sym (T→false (all (length learn / 16) at-table)
       (not-T (all (length learn / 16) at-table) (λ t. both (at-table j) (all-at (length learn / 16) at-table t j l) (false→T e))))
@@ -58,10 +58,10 @@ module _ (n : ℕ) (make learn : List ℕ) (k : ℕ) (few : n ≤ 7) (small : k 
       rw made
 
   pub goal-learnt : {ds : List ℕ} {r s : Bool} → ds ≡ digitsOf k → r ≡ leb n 7 && known n (digitIn ds) make → r ≡ true
-      → s ≡ allLearnt n (digitIn ds) learn → s ≡ settled n make learn k
-  unfolding settled allLearnt
+      → s ≡ allSettled n (digitIn ds) learn → s ≡ settled n make learn k
+  unfolding settled
   goal-learnt e f g h =
       let made : known n (digit 7 k) make ≡ true =
       ap (λ (d : ℕ → ℕ). known n d make) (sym (digits-are k small)) ∙ ap (λ (l : List ℕ). known n (digitIn l) make) (sym e)
       ∙ sym (unguarded n _ few) ∙ sym f ∙ g in
-      rw made (h ∙ ap (λ (l : List ℕ). allLearnt n (digitIn l) learn) e ∙ ap (λ (d : ℕ → ℕ). allLearnt n d learn) (digits-are k small))
+      rw made (h ∙ ap (λ (l : List ℕ). allSettled n (digitIn l) learn) e ∙ ap (λ (d : ℕ → ℕ). allSettled n d learn) (digits-are k small))

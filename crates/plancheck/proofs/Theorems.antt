@@ -1,7 +1,7 @@
 -- What is proved of the plan check, in one place. Its answer is one alone. It says yes exactly where the bytes are those of a plan that works, up
 -- to 32,640 bytes. Each refusal is given exactly where paper 01 says, at the first fault in reading order. What is written is accepted, and
 -- no accepted plan is lower than the rank.
-use mathlib.Core.Path.{_≡_, refl, sym, ap, _∙_, subst}
+use mathlib.Core.Path.{_≡_, refl, sym, ap, ap₂, _∙_, subst}
 use mathlib.Core.Logic.{_⊎_, inl, inr, _↔_}
 use mathlib.Core.List.{List, [], _∷_, _++_, append-nil}
 use Prim.Native.Nat.{ℕ, _+_, _≤_, _<_}
@@ -57,40 +57,61 @@ place-unique κs a x y s p q = p ∙ sym q
 
 -- ---- 6 to 12: the question's own, whatever the plan
 
-module _ {book : List ℕ} {q : Question} {make learn plan : List ℕ} {r : CheckAnswer} (answer : Checks book q make learn plan r) where
-  -- no number of a question's refusal is 16 or more
-  question-number : (w : R.Refusal) → Q.number w ≤ 15
-  question-number (Book Settings) = lit≤ tt
-  question-number (Book Length) = lit≤ tt
-  question-number (Book (Check k)) = lit≤ tt
-  question-number (Book Head) = lit≤ tt
-  question-number (Book (StrayBit k)) = lit≤ tt
-  question-number (Book Room) = lit≤ tt
-  question-number Team = lit≤ tt
-  question-number Known = lit≤ tt
-  question-number Goal = lit≤ tt
-  question-number Ranks = lit≤ tt
-  question-number PlanRoom = lit≤ tt
+-- no number of a question's refusal is 16 or more
+question-number : (w : R.Refusal) → Q.number w ≤ 15
+question-number (Book Settings) = lit≤ tt
+question-number (Book Length) = lit≤ tt
+question-number (Book (Check k)) = lit≤ tt
+question-number (Book Head) = lit≤ tt
+question-number (Book (StrayBit k)) = lit≤ tt
+question-number (Book Room) = lit≤ tt
+question-number Team = lit≤ tt
+question-number Known = lit≤ tt
+question-number Goal = lit≤ tt
+question-number Ranks = lit≤ tt
+question-number PlanRoom = lit≤ tt
 
-  not-sixteen : (w : R.Refusal) → First (record { number = 16; given = only (32640 < length plan) } ∷ []) (Q.number w) (Q.place w) → ⊥
-  not-sixteen w (inl a) = omega (arith, a .0, question-number w)
-  not-sixteen w (inr a) = a .1
+not-sixteen : (plan : List ℕ) (w : R.Refusal) → First (record { number = 16; given = only (32640 < length plan) } ∷ []) (Q.number w) (Q.place w) → ⊥
+not-sixteen plan w (inl a) = omega (arith, a .0, question-number w)
+not-sixteen plan w (inr a) = a .1
 
+module _ (book : List ℕ) (q : Question) (make learn plan : List ℕ) where
   question-out : (w : R.Refusal) → Checks book q make learn plan (Refused (OfQuestion w))
       → First (questionRows book (q .team) (q .known) (q .values) make learn) (Q.number w) (Q.place w)
   unfolding checkRows
   question-out w (inl f) = elim (first-split (questionRows book (q .team) (q .known) (q .values) make learn) _ (Q.number w) (Q.place w) f) [
     | inl g ↦ g
-    | inr g ↦ absurd (not-sixteen w (g .1))
+    | inr g ↦ absurd (not-sixteen plan w (g .1))
   ]
   question-out w (inr f) = absurd (omega (arith, question-number w, f .1, fault-past (f .0)))
 
-  pub question-exact : (w : R.Refusal)
+  pub question-exact : (r : CheckAnswer) → Checks book q make learn plan r → (w : R.Refusal)
       → (r ≡ Refused (OfQuestion w)) ↔ First (questionRows book (q .team) (q .known) (q .values) make learn) (Q.number w) (Q.place w)
-  question-exact w = (
+  question-exact r answer w = (
     λ e. question-out w (subst (Checks book q make learn plan) e answer),
     λ f. checks-one book q make learn plan r (Refused (OfQuestion w)) answer (question-row book q make learn plan (Q.number w) (Q.place w) f),
   )
+
+-- ---- what is wrong at the end of a plan, and after it
+
+ends : (S : System) (pending left : List ℕ) → Wrong S pending left too-soon → (left ≡ []) × ((k : ℕ) × ((ks : List ℕ) × (pending ≡ k ∷ ks)))
+ends S [] [] w = absurd w
+ends S [] (c ∷ cs) w = absurd (let z : _≡_ {A = ℕ} 0 1 = cc in omega arith)
+ends S (k ∷ ks) [] w = (refl, (k, (ks, refl)))
+ends S (k ∷ ks) (c ∷ cs) w = absurd (fault-means S k c too-soon .0 w)
+
+over : (S : System) (pending left : List ℕ) → Wrong S pending left left-over → (pending ≡ []) × ((c : ℕ) × ((cs : List ℕ) × (left ≡ c ∷ cs)))
+over S [] [] w = absurd w
+over S [] (c ∷ cs) w = (refl, (c, (cs, refl)))
+over S (k ∷ ks) [] w = absurd (let z : _≡_ {A = ℕ} 0 1 = cc in omega arith)
+over S (k ∷ ks) (c ∷ cs) w = absurd (fault-means S k c left-over .0 w)
+
+-- bytes that read without a fault and leave nothing pending are those of a plan that works
+whole-plan : {n : ℕ} {S : System} → Lawful n S → n ≤ 7 → (k : ℕ) (before : List ℕ) → Reads S (k ∷ []) before []
+    → (p : Plan) × Works S k p × (before ≡ encode p)
+whole-plan {n} {S} law few k before reads =
+    check-exact law few k before .0
+    (ap (check S k) (sym (append-nil before)) ∙ judge-reads 0 [] reads)
 
 -- ---- a valid question
 
@@ -108,7 +129,7 @@ module _ {book : List ℕ} {q : Question} {make learn : List ℕ} {n m : ℕ} (v
   yes-in : (p : Plan) → length plan ≤ 32640 → Works (systemFor n book q make learn) (startOf q) p → plan ≡ encode p → Checks book q make learn plan Yes
   yes-in p l w e = record { n = n; m = m; valid = valid; short = l; judged = check-exact law few (startOf q) plan .1 (p, w, e) }
 
-  module _ {r : CheckAnswer} (answer : Checks book q make learn plan r) where
+  module _ (r : CheckAnswer) (answer : Checks book q make learn plan r) where
     -- demand 2: yes exactly where the bytes are those of a plan that works, up to 32,640 bytes
     pub yes-exact : (r ≡ Yes) ↔ ((length plan ≤ 32640) × ((p : Plan) × Works (systemFor n book q make learn) (startOf q) p × (plan ≡ encode p)))
     yes-exact = (
@@ -145,18 +166,12 @@ module _ {book : List ℕ} {q : Question} {make learn : List ℕ} {n m : ℕ} (v
         λ w. answer-is short ∙ ap answerOf (fault-in (systemFor n book q make learn) (startOf q ∷ []) plan 0 f i w ∙ ap (faulty f) (zero-add i)),
       )
 
-      ends : (pending left : List ℕ) → Wrong (systemFor n book q make learn) pending left too-soon → (left ≡ []) × ((k : ℕ) × ((ks : List ℕ) × (pending ≡ k ∷ ks)))
-      ends [] [] w = absurd w
-      ends [] (c ∷ cs) w = absurd (let z : _≡_ {A = ℕ} 0 1 = cc in omega arith)
-      ends (k ∷ ks) [] w = (refl, (k, (ks, refl)))
-      ends (k ∷ ks) (c ∷ cs) w = absurd (fault-means (systemFor n book q make learn) k c too-soon .0 w)
-
       -- 20 "plan ends too soon", at its length: all its bytes read without a fault, and a state is still pending
       pub soon-exact : (i : ℕ) → (r ≡ Refused (TooSoon i))
           ↔ ((i ≡ length plan) × ((k : ℕ) × ((ks : List ℕ) × Reads (systemFor n book q make learn) (startOf q ∷ []) plan (k ∷ ks))))
       soon-exact i = (
         λ e. let w = fault-exact too-soon i .0 e in
-            let (nothing-left, (k, (ks, pending))) = ends (w .pending) (w .left) (w .wrong) in
+            let (nothing-left, (k, (ks, pending))) = ends (systemFor n book q make learn) (w .pending) (w .left) (w .wrong) in
             let whole : w .before ≡ plan = sym (w .split ∙ ap (λ (l : List ℕ). w .before ++ l) nothing-left ∙ append-nil (w .before)) in
             (w .index ∙ ap length whole, (k, (ks, rw (whole, pending) at (w .reads)))),
         λ (e, (k, (ks, reads))). fault-exact too-soon i .1 (record {
@@ -164,27 +179,14 @@ module _ {book : List ℕ} {q : Question} {make learn : List ℕ} {n m : ℕ} (v
         }),
       )
 
-      over : (pending left : List ℕ) → Wrong (systemFor n book q make learn) pending left left-over → (pending ≡ []) × ((c : ℕ) × ((cs : List ℕ) × (left ≡ c ∷ cs)))
-      over [] [] w = absurd w
-      over [] (c ∷ cs) w = (refl, (c, (cs, refl)))
-      over (k ∷ ks) [] w = absurd (let z : _≡_ {A = ℕ} 0 1 = cc in omega arith)
-      over (k ∷ ks) (c ∷ cs) w = absurd (fault-means (systemFor n book q make learn) k c left-over .0 w)
-
-      -- bytes that read without a fault and leave nothing pending are those of a plan that works
-      whole-plan : (before : List ℕ) → Reads (systemFor n book q make learn) (startOf q ∷ []) before []
-          → (p : Plan) × Works (systemFor n book q make learn) (startOf q) p × (before ≡ encode p)
-      whole-plan before reads =
-          check-exact law few (startOf q) before .0
-          (ap (check (systemFor n book q make learn) (startOf q)) (sym (append-nil before)) ∙ judge-reads 0 [] reads)
-
       -- 21 "bytes after a whole plan", at the first of them
       pub over-exact : (i : ℕ) → (r ≡ Refused (LeftOver i))
           ↔ ((p : Plan) × Works (systemFor n book q make learn) (startOf q) p × (i ≡ length (encode p)) × ((c : ℕ) × ((cs : List ℕ) × (plan ≡ encode p ++ c ∷ cs))))
       over-exact i = (
         λ e. let w = fault-exact left-over i .0 e in
-            let (none-pending, (c, (cs, left))) = over (w .pending) (w .left) (w .wrong) in
-            let (p, works, bytes) = whole-plan (w .before) (rw none-pending at (w .reads)) in
-            (p, works, w .index ∙ ap length bytes, (c, (cs, rw (bytes, left) at (w .split)))),
+            let (none-pending, (c, (cs, left))) = over (systemFor n book q make learn) (w .pending) (w .left) (w .wrong) in
+            let (p, works, bytes) = whole-plan law few (startOf q) (w .before) (rw none-pending at (w .reads)) in
+            (p, works, w .index ∙ ap length bytes, (c, (cs, w .split ∙ ap₂ _++_ bytes left))),
         λ (p, works, e, (c, (cs, f))). answer-is short
             ∙ ap answerOf (ap (check (systemFor n book q make learn) (startOf q)) f ∙ judge-plan law few p (startOf q) [] 0 (c ∷ cs) works
             ∙ ap (faulty left-over) (zero-add (length (encode p)) ∙ sym e)),

@@ -2,16 +2,12 @@
 -- plan/specs/Check says what reading comes to.
 use mathlib.Core.Path.{_≡_}
 use mathlib.Core.List.{List, [], _∷_}
-use mathlib.Core.Bool.{Bool}
 use Prim.Native.Nat.{ℕ, zero, suc, _^_, _≤_, _<_}
 use lib.ListN.{length, getD, set, replicate}
-use Rattle.ground.specs.Search.{all}
-use Rattle.knowledge.specs.Fits.{learnSettled}
 use Rattle.plan.specs.Plans.{System}
 use Rattle.plan.specs.Pending.{Pending}
 use Rattle.plan.specs.Check.{Verdict, accepted, faulty, judge}
 use Rattle.plan.specs.Check as C
-use Rattle.finder.specs.Question.{learnCount, learnTable}
 use Rattle.plancheck.specs.Refusals.{refusalOf}
 use Rattle.plancheck.specs.declared.answer.Refusal.{Refusal}
 use Rattle.plancheck.specs.declared.answer.Refusal.the-variants.{TooSoon}
@@ -27,10 +23,6 @@ use Rattle.plancheck.specs.declared.desk.Desk.{Desk}
 abbrev pub answerOf : Verdict → CheckAnswer
 answerOf accepted = Yes
 answerOf (faulty f i) = Refused (refusalOf f i)
-
--- each learn formula has one same value where the digits are d
-unfoldable pub allLearnt : ℕ → (ℕ → ℕ) → List ℕ → Bool
-allLearnt n d learn = all (learnCount learn) (λ j. learnSettled n d (learnTable learn j))
 
 -- what the byte with index at comes to: no byte leaves more than two states
 abbrev pub readingOf : ℕ → C.Reading → Reading

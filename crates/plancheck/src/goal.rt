@@ -1,18 +1,16 @@
 // Whether the goal is settled where the team knows so much.
+use ground::TABLE;
 use knowledge::Knowledge;
 ghost use mathlib.Core.Path.{_≡_};
 ghost use Prim.Native.Nat.{_^_, _≤_, _<_};
 ghost use Rattle.knowledge.specs.Number.{digitIn};
+ghost use Rattle.sides.specs.Over.{allSettled};
 ghost use Rattle.finder.specs.Question.{settled};
-ghost use Rattle.plancheck.specs.Inner.{allLearnt};
-
-// How many bytes a table has.
-const TABLE: usize = 16;
 
 // Whether each learn formula has one same value at all start valuations that fit.
 fn learnt(n: u8, learn: &[u8], state: Knowledge) -> bool
     requires { ⌜ n ≤ 7 ⌝ }
-    ensures { λ r. ⌜ r ≡ allLearnt n (digitIn (state .digits)) (now (learn .entry)) ⌝ }
+    ensures { λ r. ⌜ r ≡ allSettled n (digitIn (state .digits)) (now (learn .entry)) ⌝ }
 {
     let count = learn.len() / TABLE;
     let mut j = 0;
