@@ -1,7 +1,7 @@
 -- Which answer a question and a plan get, from what the code found: the rows of the question, then 16, then the judgement on the bytes.
 use mathlib.Core.Path.{_≡_, refl, sym, ap, _∙_, subst}
-use mathlib.Core.Logic.{_⊎_, inl, inr}
-use mathlib.Core.List.{List, [], _∷_, _++_}
+use mathlib.Core.Logic.{inl, inr}
+use mathlib.Core.List.{List, [], _∷_}
 use Prim.Native.Nat.{ℕ, _^_, _≤_, _<_}
 use lib.Dec.{lit<}
 use lib.ListN.{length}
@@ -10,7 +10,7 @@ use Rattle.knowledge.specs.Number.{digitIn, numberOf, firstAt, firstDigits}
 use Rattle.knowledge.proofs.Seven.{first-lt}
 use Rattle.knowledge.proofs.Number.{sum-lt}
 use Rattle.knowledge.proofs.States.{number-state, first-state}
-use Rattle.book.specs.Order.{Row, only, First}
+use Rattle.book.specs.Order.{only, First}
 use Rattle.book.proofs.OrderLaws.{least-only, first-left, first-right}
 use Rattle.plan.specs.Check.{Fault, no-act, not-permitted, not-settled, too-soon, left-over, Verdict, accepted, faulty, check}
 use Rattle.finder.specs.Question.{systemOf, startNumber}
@@ -23,12 +23,10 @@ use Rattle.finder.specs.declared.question.Asked.{Asked}
 use Rattle.finder.specs.declared.question.Asked.the-variants.{Valid, Not}
 use Rattle.finder.proofs.RowLaws.{question-clear}
 use Rattle.plancheck.specs.Refusals.{number, place, faultNumber, refusalOf, checkRows}
-use Rattle.plancheck.specs.Checks.{systemFor, startOf, Judged, Refuses, Checks}
+use Rattle.plancheck.specs.Checks.{startOf, Judged, Refuses, Checks}
 use Rattle.plancheck.specs.Inner.{answerOf}
 use Rattle.plancheck.specs.declared.answer.Refusal.{Refusal}
-use Rattle.plancheck.specs.declared.answer.Refusal.the-variants.{Question as OfQuestion, TooLong}
 use Rattle.plancheck.specs.declared.answer.CheckAnswer.{CheckAnswer}
-use Rattle.plancheck.specs.declared.answer.CheckAnswer.the-variants.{Yes, Refused}
 
 -- ---- the start
 

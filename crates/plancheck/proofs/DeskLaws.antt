@@ -2,28 +2,23 @@
 -- the n settings known.
 use mathlib.Core.Path.{_≡_, refl, sym, ap, _∙_, subst}
 use mathlib.Core.Bool.{Bool, true, false}
-use mathlib.Core.List.{List, [], _∷_, _++_}
+use mathlib.Core.List.{List, [], _∷_}
 use Prim.Native.Nat.{ℕ, zero, suc, _+_, _-_, _^_, _≤_, _<_}
 use native.Mathlib.Numerals.{add-one}
 use native.Mathlib.Omega.{arith}
 use lib.Dec.{T}
 use lib.ListN.{length, getD, set, drop, length-set, drop-of-length-le}
 use lib.Seq.{getD-set-same, getD-set-other, drop-cons}
-use Rattle.ground.proofs.Bools.{true→T, and-in}
-use Rattle.knowledge.specs.Acts.{actOf, setTo, lookAt}
-use Rattle.knowledge.specs.declared.act.Act.{Act}
+use Rattle.knowledge.specs.Acts.{setTo, lookAt}
 use Rattle.knowledge.specs.declared.act.Act.the-variants.{Set, Look}
-use Rattle.knowledge.specs.declared.act.Named.{Named}
-use Rattle.knowledge.specs.declared.act.Named.the-variants.{One, Nothing}
 use Rattle.knowledge.proofs.Outcomes.{set-below, look-below}
 use Rattle.plan.specs.Plans.{System, may, Lawful}
-use Rattle.plan.specs.Pending.{Pending}
-use Rattle.plan.specs.Check.{Fault, no-act, not-permitted, not-settled, left-over, goes-on, fails, outcomes, readAct, readNamed, readStop, readByte, judge, check}
+use Rattle.plan.specs.Check.{readByte, judge, check}
 use Rattle.plan.specs.Check as C
 use Rattle.plan.proofs.Check.{judge-on, judge-fails}
 use Rattle.plan.proofs.Pending.{pending-first, pending-most, pending-stop, pending-set, pending-look}
 use Rattle.plancheck.proofs.ByteLaws.{Step, stops, sets, looks, faults, step}
-use Rattle.plancheck.specs.Inner.{answerOf, readingOf, down, firstDesk, stoppedDesk, failedDesk, afterDesk, HasRoom, endedAt, Small, Held, HeldAt, Ready, answerAt, answerFrom, Turned}
+use Rattle.plancheck.specs.Inner.{answerOf, readingOf, down, firstDesk, stoppedDesk, standingDesk, afterDesk, HasRoom, endedAt, Held, HeldAt, Ready, answerAt, answerFrom, Turned}
 use Rattle.plancheck.specs.declared.answer.Refusal.{Refusal}
 use Rattle.plancheck.specs.declared.answer.Refusal.the-variants.{LeftOver}
 use Rattle.plancheck.specs.declared.answer.CheckAnswer.{CheckAnswer}
@@ -140,7 +135,7 @@ module _ {n : ℕ} {S : System} (law : Lawful n S) (few : n ≤ 7) where
       subst (Turned n S d at c) (sym e) (turn-step d at c (readByte S (d .here) c) refl (step S (d .here) c) ready opened (open-held d ready opened))
 
 -- a byte after a whole plan
-pub turn-whole : {n : ℕ} {S : System} (d : Desk) (at c : ℕ) {r : Desk} → Ready n d → d .stands ≡ Whole → r ≡ failedDesk d (LeftOver at) → Turned n S d at c r
+pub turn-whole : {n : ℕ} {S : System} (d : Desk) (at c : ℕ) {r : Desk} → Ready n d → d .stands ≡ Whole → r ≡ standingDesk d (Failed (LeftOver at)) → Turned n S d at c r
 turn-whole {n} {S} d at c ready whole e =
     subst (Turned n S d at c) (sym e) (record {
       ready = record { room = ready .room; most = ready .most; held = tt };

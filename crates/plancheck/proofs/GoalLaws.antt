@@ -1,18 +1,18 @@
 -- The goal's judgement on a state is the judgement on its number: rules and learn tables are judged by sixteen bytes, table after table.
-use mathlib.Core.Path.{_≡_, refl, sym, ap, ap₂, _∙_}
+use mathlib.Core.Path.{_≡_, sym, ap, ap₂, _∙_}
 use mathlib.Core.Bool.{Bool, true, false, _&&_, _||_}
 use mathlib.Core.List.{List}
-use Prim.Native.Nat.{ℕ, _+_, _*_, _/_, _^_, _≤_, _<_}
+use Prim.Native.Nat.{ℕ, _*_, _/_, _^_, _≤_, _<_}
 use native.Mathlib.Omega.{arith}
 use lib.Dec.{T, leb, not-T}
 use lib.ListN.{length, drop}
 use borrow.Author.Tests.{le-leb}
 use Rattle.ground.specs.Digits.{digit}
 use Rattle.ground.specs.Search.{all}
-use Rattle.ground.proofs.Bools.{T→true, T→false, true→T, false→T, both}
+use Rattle.ground.proofs.Bools.{T→true, T→false, false→T, both}
 use Rattle.ground.proofs.Search.{all-at, all-intro}
 use Rattle.knowledge.specs.Number.{digitIn, digitsOf}
-use Rattle.knowledge.specs.Fits.{always, startSide, known, learnSettled}
+use Rattle.knowledge.specs.Fits.{startSide, known, learnSettled}
 use Rattle.knowledge.proofs.Fits.{always-take}
 use Rattle.knowledge.proofs.Number.{digits-are}
 use Rattle.sides.specs.Over.{learnTable, allSettled}

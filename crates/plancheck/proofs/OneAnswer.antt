@@ -1,14 +1,13 @@
 -- The contract of `check` allows one answer alone: a refusal is known by its number and place, the rows give one refusal, and the judgement on
 -- the bytes is a function.
 use mathlib.Core.Path.{_≡_, refl, sym, ap, ap₂, _∙_}
-use mathlib.Core.Logic.{_⊎_, inl, inr}
+use mathlib.Core.Logic.{inl, inr}
 use mathlib.Core.Bool.{cond}
-use mathlib.Core.List.{List, [], _∷_}
-use Prim.Native.Nat.{ℕ, _≤_, _<_}
+use mathlib.Core.List.{List}
+use Prim.Native.Nat.{ℕ, _<_}
 use native.Mathlib.Omega.{arith}
 use lib.Dec.{eqb, lit<}
-use lib.ListN.{length}
-use Rattle.book.specs.Order.{First, Clear}
+use Rattle.book.specs.Order.{Clear}
 use Rattle.book.specs.declared.refusal.Refusal as B
 use Rattle.book.specs.declared.refusal.Refusal.the-variants.{Settings, Length, Check, Head, StrayBit, Room}
 use Rattle.book.proofs.OrderLaws.{none-only, first-unique, first-clear, clear-append}

@@ -2,9 +2,9 @@
 -- to 32,640 bytes. Each refusal is given exactly where paper 01 says, at the first fault in reading order. What is written is accepted, and
 -- no accepted plan is lower than the rank.
 use mathlib.Core.Path.{_≡_, refl, sym, ap, ap₂, _∙_, subst}
-use mathlib.Core.Logic.{_⊎_, inl, inr, _↔_}
+use mathlib.Core.Logic.{inl, inr, _↔_}
 use mathlib.Core.List.{List, [], _∷_, _++_, append-nil}
-use Prim.Native.Nat.{ℕ, _+_, _≤_, _<_}
+use Prim.Native.Nat.{ℕ, _≤_, _<_}
 use native.Mathlib.Nat.{zero-add}
 use native.Mathlib.Omega.{arith}
 use lib.Dec.{lit≤}
@@ -30,7 +30,7 @@ use Rattle.finder.specs.Finds.{ValidQuestion}
 use Rattle.finder.specs.declared.question.Question.{Question}
 use Rattle.finder.specs.declared.question.Refusal as R
 use Rattle.finder.specs.declared.question.Refusal.the-variants.{Book, Team, Known, Goal, Ranks, PlanRoom}
-use Rattle.plancheck.specs.Refusals.{faultNumber, refusalOf, checkRows}
+use Rattle.plancheck.specs.Refusals.{refusalOf, checkRows}
 use Rattle.plancheck.specs.Checks.{systemFor, startOf, Judged, Checks}
 use Rattle.plancheck.specs.Inner.{answerOf}
 use Rattle.plancheck.specs.declared.answer.Refusal.the-variants.{Question as OfQuestion, TooLong, TooSoon, LeftOver}
@@ -175,7 +175,13 @@ module _ {book : List ℕ} {q : Question} {make learn : List ℕ} {n m : ℕ} (v
             let whole : w .before ≡ plan = sym (w .split ∙ ap (λ (l : List ℕ). w .before ++ l) nothing-left ∙ append-nil (w .before)) in
             (w .index ∙ ap length whole, (k, (ks, rw (whole, pending) at (w .reads)))),
         λ (e, (k, (ks, reads))). fault-exact too-soon i .1 (record {
-          before = plan; left = []; pending = k ∷ ks; split = sym (append-nil plan); index = e; reads = reads; wrong = refl
+          before = plan;
+          left = [];
+          pending = k ∷ ks;
+          split = sym (append-nil plan);
+          index = e;
+          reads = reads;
+          wrong = refl;
         }),
       )
 
@@ -206,7 +212,9 @@ written-accepted {book} {q} {make} {learn} {n} {m} valid p w =
     let rank = has-rank law (startOf q) in
     let low = rank-reach law (startOf q) (rank .0) few (rank .1) .1 (p, written-works (systemFor n book q make learn) p (startOf q) w) in
     record {
-      n = n; m = m; valid = valid;
+      n = n;
+      m = m;
+      valid = valid;
       short = Plans.written-most law few (startOf q) p (rank .0) w (rank .1) low;
-      judged = Plans.written-accepted law few (startOf q) p w
+      judged = Plans.written-accepted law few (startOf q) p w;
     }

@@ -43,8 +43,8 @@ abbrev pub stoppedDesk : ℕ → List ℕ → ℕ → Desk
 stoppedDesk here waiting zero = record { here = here; waiting = waiting; count = 0; stands = Whole }
 stoppedDesk here waiting (suc c) = record { here = getD waiting c 0; waiting = waiting; count = c; stands = Open }
 
-abbrev pub failedDesk : Desk → Refusal → Desk
-failedDesk d why = record { here = d .here; waiting = d .waiting; count = d .count; stands = Failed why }
+abbrev pub standingDesk : Desk → Stands → Desk
+standingDesk d stands = record { here = d .here; waiting = d .waiting; count = d .count; stands = stands }
 
 abbrev pub movedDesk : Desk → ℕ → Desk
 movedDesk d x = record { here = x; waiting = d .waiting; count = d .count; stands = Open }
@@ -56,7 +56,7 @@ abbrev pub afterDesk : Desk → Reading → Desk
 afterDesk d Stops = stoppedDesk (d .here) (d .waiting) (d .count)
 afterDesk d (Goes x) = movedDesk d x
 afterDesk d (Parts x y) = partedDesk d x y
-afterDesk d (Fails why) = failedDesk d why
+afterDesk d (Fails why) = standingDesk d (Failed why)
 
 -- a look finds room at the desk
 abbrev pub HasRoom : ℕ → Reading → Type 0

@@ -6,7 +6,7 @@ use knowledge::Knowledge;
 ghost use mathlib.Core.Path.{_≡_};
 ghost use Prim.Native.Nat.{_≤_, _<_};
 ghost use lib.ListN.{length};
-ghost use Rattle.plancheck.specs.Inner.{firstDesk, stoppedDesk, movedDesk, partedDesk, failedDesk, afterDesk, HasRoom, endedAt};
+ghost use Rattle.plancheck.specs.Inner.{firstDesk, stoppedDesk, movedDesk, partedDesk, standingDesk, afterDesk, HasRoom, endedAt};
 
 pub enum Stands {
     // The next byte is read at the desk's number.
@@ -50,12 +50,7 @@ impl Desk {
         let waiting = self.waiting;
         let count = self.count;
         if count == 0 {
-            return Desk {
-                here: self.here,
-                waiting,
-                count,
-                stands: Stands::Whole,
-            };
+            return self.standing(Stands::Whole);
         }
         let last = count - 1;
         Desk {
@@ -95,16 +90,16 @@ impl Desk {
         }
     }
 
-    // After a fault.
-    pub fn failed(self, why: Refusal) -> Self
-        ensures { λ r. ⌜ r ≡ failedDesk self why ⌝ }
+    // The same numbers, where the plan stands otherwise.
+    pub fn standing(self, stands: Stands) -> Self
+        ensures { λ r. ⌜ r ≡ standingDesk self stands ⌝ }
     {
         let waiting = self.waiting;
         Desk {
             here: self.here,
             waiting,
             count: self.count,
-            stands: Stands::Fails(why),
+            stands,
         }
     }
 
@@ -117,7 +112,7 @@ impl Desk {
             Reading::Stops => self.stopped(),
             Reading::Goes(next) => self.moved(next),
             Reading::Parts(no, yes) => self.parted(no, yes),
-            Reading::Fails(why) => self.failed(why),
+            Reading::Fails(why) => self.standing(Stands::Fails(why)),
         }
     }
 

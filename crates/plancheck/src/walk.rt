@@ -35,7 +35,7 @@ fn turn(
     let stands = desk.stands;
     match stands {
         Stands::Open => desk.after(read_byte(n, book, team, make, learn, desk.here, at, byte)),
-        Stands::Whole => desk.failed(Refusal::LeftOver(at)),
+        Stands::Whole => desk.standing(Stands::Fails(Refusal::LeftOver(at))),
         Stands::Fails(_) => desk,
     }
 }

@@ -1,5 +1,5 @@
 -- `outcomes_of` meets its contract: the numbers of the states after the act.
-use mathlib.Core.Path.{_≡_, subst}
+use mathlib.Core.Path.{subst}
 use mathlib.Core.Bool.{true, false}
 use Prim.Native.Nat.{_<_}
 use Rattle.knowledge.specs.Acts.{settingOf}

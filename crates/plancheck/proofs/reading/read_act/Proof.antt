@@ -1,5 +1,5 @@
 -- `read_act` meets its contract: 17 before 18.
-use mathlib.Core.Path.{_≡_, sym, _∙_}
+use mathlib.Core.Path.{sym, _∙_}
 use native.Mathlib.Omega.{arith}
 use borrow.Author.Tests.{not-true, not-false}
 use Rattle.plancheck.proofs.ReadingLaws.{permits-at, offered-setting, act-unknown, act-forbidden, act-done}

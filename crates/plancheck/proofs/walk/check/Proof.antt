@@ -1,5 +1,5 @@
 -- `check` meets its contract: the question's refusals, then 16, then the judgement on the bytes.
-use mathlib.Core.Path.{_≡_, sym, subst}
+use mathlib.Core.Path.{sym, subst}
 use Prim.Native.Nat.{ℕ, _^_, _<_}
 use Rattle.finder.specs.Rows as Q
 use Rattle.plancheck.proofs.AnswerLaws.{start-small, start-is, as-valid, as-not, question-row, long-row, verdict-checks}

@@ -1,7 +1,6 @@
 -- `after` meets its contract: by what the byte came to.
-use mathlib.Core.Path.{_≡_, ap, sym, subst, _∙_}
+use mathlib.Core.Path.{ap, sym, subst, _∙_}
 use Rattle.plancheck.specs.Inner.{HasRoom, afterDesk}
-use Rattle.plancheck.specs.declared.reading.Reading.{Reading}
 use borrow.Author.Needs.{needs}
 use Rattle.plancheck.proofs.desk.Desk.after.Statement.{statement}
 use Rattle.plancheck.proofs.desk.Desk.after.Tie as tie
@@ -27,8 +26,8 @@ parted-requires c κs = (c .before .before .before .pre .0, subst (HasRoom (c .b
 enum-known-reading-3 : tie.Need-enum-known-reading-3
 enum-known-reading-3 c = search needs
 
-failed-requires : tie.Need-failed-requires
-failed-requires c κs = search needs
+standing-requires : tie.Need-standing-requires
+standing-requires c κs = search needs
 
 returns : tie.Need-returns
 returns c = c .stopped .ensures ∙ ap (afterDesk (c .before .before .before .args .self)) (sym (c .before .enum-told .given .1))
@@ -40,7 +39,7 @@ returns-3 : tie.Need-returns-3
 returns-3 c = c .parted .ensures ∙ ap (afterDesk (c .before .before .before .before .args .self)) (sym (c .before .before .reading2 .given .1))
 
 returns-4 : tie.Need-returns-4
-returns-4 c = c .failed .ensures ∙ ap (afterDesk (c .before .before .before .before .args .self)) (sym (c .before .before .reading3 .given .1))
+returns-4 c = c .standing .ensures ∙ ap (afterDesk (c .before .before .before .before .args .self)) (sym (c .before .before .reading3 .given .1))
 
 pub after-spec : {M : Type 1} → statement M
 after-spec =
@@ -53,7 +52,7 @@ after-spec =
     enum-known-reading-2
     parted-requires
     enum-known-reading-3
-    failed-requires
+    standing-requires
     returns
     returns-2
     returns-3
