@@ -3,8 +3,10 @@ pub mod SystemLaws
 pub mod GoalLaws
 pub mod ReadingLaws
 pub mod ByteLaws
+pub mod EndLaws
 pub mod DeskLaws
 pub mod AnswerLaws
 pub mod OneAnswer
+pub mod Small
 pub mod Theorems
 pub mod Examples

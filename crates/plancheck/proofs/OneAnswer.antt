@@ -3,14 +3,15 @@
 use mathlib.Core.Path.{_≡_, refl, sym, ap, ap₂, _∙_}
 use mathlib.Core.Logic.{inl, inr}
 use mathlib.Core.Bool.{cond}
-use mathlib.Core.List.{List}
-use Prim.Native.Nat.{ℕ, _<_}
+use mathlib.Core.List.{List, [], _∷_}
+use Prim.Native.Nat.{ℕ, _≤_, _<_}
+use lib.ListN.{length}
 use native.Mathlib.Omega.{arith}
-use lib.Dec.{eqb, lit<}
-use Rattle.book.specs.Order.{Clear}
+use lib.Dec.{eqb, lit<, lit≤}
+use Rattle.book.specs.Order.{First, Clear, only}
 use Rattle.book.specs.declared.refusal.Refusal as B
 use Rattle.book.specs.declared.refusal.Refusal.the-variants.{Settings, Length, Check, Head, StrayBit, Room}
-use Rattle.book.proofs.OrderLaws.{none-only, first-unique, first-clear, clear-append}
+use Rattle.book.proofs.OrderLaws.{none-only, first-unique, first-clear, clear-append, first-split}
 use Rattle.book.proofs.Theorems.{sound-one}
 use Rattle.plan.specs.Check.{Fault, no-act, not-permitted, not-settled, too-soon, left-over, Verdict, accepted, faulty, check}
 use Rattle.finder.specs.Rows.{questionRows}
@@ -136,3 +137,34 @@ module _ (book : List ℕ) (q : Question) (make learn plan : List ℕ) where
       let f : a .0 ≡ b .0 = cc in
       let p : place r ≡ place s = cc in
       ap Refused (refusal-one r s (a .1 ∙ ap faultNumber f ∙ sym (b .1)) p)
+
+-- ---- 6 to 12
+
+-- no number of a question's refusal is 16 or more
+pub question-number : (w : R.Refusal) → Q.number w ≤ 15
+question-number (Book Settings) = lit≤ tt
+question-number (Book Length) = lit≤ tt
+question-number (Book (Check k)) = lit≤ tt
+question-number (Book Head) = lit≤ tt
+question-number (Book (StrayBit k)) = lit≤ tt
+question-number (Book Room) = lit≤ tt
+question-number Team = lit≤ tt
+question-number Known = lit≤ tt
+question-number Goal = lit≤ tt
+question-number Ranks = lit≤ tt
+question-number PlanRoom = lit≤ tt
+
+not-sixteen : (plan : List ℕ) (w : R.Refusal) → First (record { number = 16; given = only (32640 < length plan) } ∷ []) (Q.number w) (Q.place w) → ⊥
+not-sixteen plan w (inl a) = omega (arith, a .0, question-number w)
+not-sixteen plan w (inr a) = a .1
+
+module _ (book : List ℕ) (q : Question) (make learn plan : List ℕ) where
+  -- a refusal of the question is given by its rows
+  pub question-out : (w : R.Refusal) → Checks book q make learn plan (Refused (OfQuestion w))
+      → First (questionRows book (q .team) (q .known) (q .values) make learn) (Q.number w) (Q.place w)
+  unfolding checkRows
+  question-out w (inl f) = elim (first-split (questionRows book (q .team) (q .known) (q .values) make learn) _ (Q.number w) (Q.place w) f) [
+    | inl g ↦ g
+    | inr g ↦ absurd (not-sixteen plan w (g .1))
+  ]
+  question-out w (inr f) = absurd (omega (arith, question-number w, f .1, fault-past (f .0)))

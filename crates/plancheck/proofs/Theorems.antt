@@ -10,18 +10,16 @@ use native.Mathlib.Omega.{arith}
 use lib.Dec.{lit≤}
 use lib.ListN.{length}
 use Rattle.ground.proofs.Bools.{lt-or-ge}
-use Rattle.book.specs.Order.{First, only}
-use Rattle.book.specs.declared.refusal.Refusal.the-variants.{Settings, Length, Check, Head, StrayBit, Room}
-use Rattle.book.proofs.OrderLaws.{first-split}
+use Rattle.book.specs.Order.{First}
 use Rattle.book.proofs.Theorems.{sound-one}
-use Rattle.plan.specs.Plans.{System, Lawful, Plan, Works, height}
+use Rattle.plan.specs.Plans.{Lawful, Plan, Works, height}
 use Rattle.plan.specs.Ranks.{IsRank, Written}
 use Rattle.plan.specs.Bytes.{encode}
 use Rattle.plan.specs.Check.{Fault, too-soon, left-over, Verdict, accepted, faulty, check}
 use Rattle.plan.proofs.Ranks.{has-rank, rank-reach}
 use Rattle.plan.proofs.Written.{written-works}
 use Rattle.plan.proofs.Check.{check-exact, judge-plan}
-use Rattle.plan.proofs.Faults.{Reads, Wrong, judge-reads, fault-in, fault-out}
+use Rattle.plan.proofs.Faults.{Reads, fault-in, fault-out}
 use Rattle.plan.proofs.Faults as Faults
 use Rattle.plan.proofs.Accepted as Plans
 use Rattle.finder.specs.Rows.{questionRows}
@@ -29,17 +27,16 @@ use Rattle.finder.specs.Rows as Q
 use Rattle.finder.specs.Finds.{ValidQuestion}
 use Rattle.finder.specs.declared.question.Question.{Question}
 use Rattle.finder.specs.declared.question.Refusal as R
-use Rattle.finder.specs.declared.question.Refusal.the-variants.{Book, Team, Known, Goal, Ranks, PlanRoom}
-use Rattle.plancheck.specs.Refusals.{refusalOf, checkRows}
+use Rattle.plancheck.specs.Refusals.{refusalOf}
 use Rattle.plancheck.specs.Checks.{systemFor, startOf, Judged, Checks}
 use Rattle.plancheck.specs.Inner.{answerOf}
 use Rattle.plancheck.specs.declared.answer.Refusal.the-variants.{Question as OfQuestion, TooLong, TooSoon, LeftOver}
 use Rattle.plancheck.specs.declared.answer.CheckAnswer.{CheckAnswer}
 use Rattle.plancheck.specs.declared.answer.CheckAnswer.the-variants.{Yes, Refused}
 use Rattle.plancheck.proofs.SystemLaws.{valid-lawful}
-use Rattle.plancheck.proofs.ByteLaws.{fault-means}
+use Rattle.plancheck.proofs.EndLaws.{ends, over, whole-plan}
 use Rattle.plancheck.proofs.AnswerLaws.{question-row, long-row, judged-checks}
-use Rattle.plancheck.proofs.OneAnswer.{checks-one, fault-past, answer-fault, answer-short}
+use Rattle.plancheck.proofs.OneAnswer.{checks-one, question-out, answer-fault, answer-short}
 use Rattle.plancheck.proofs.walk.check.Reads as check-reads
 use Rattle.plancheck.proofs.answer.Refusal.number.Reads as number-reads
 use Rattle.plancheck.proofs.answer.Refusal.place.Reads as place-reads
@@ -57,61 +54,13 @@ place-unique κs a x y s p q = p ∙ sym q
 
 -- ---- 6 to 12: the question's own, whatever the plan
 
--- no number of a question's refusal is 16 or more
-question-number : (w : R.Refusal) → Q.number w ≤ 15
-question-number (Book Settings) = lit≤ tt
-question-number (Book Length) = lit≤ tt
-question-number (Book (Check k)) = lit≤ tt
-question-number (Book Head) = lit≤ tt
-question-number (Book (StrayBit k)) = lit≤ tt
-question-number (Book Room) = lit≤ tt
-question-number Team = lit≤ tt
-question-number Known = lit≤ tt
-question-number Goal = lit≤ tt
-question-number Ranks = lit≤ tt
-question-number PlanRoom = lit≤ tt
-
-not-sixteen : (plan : List ℕ) (w : R.Refusal) → First (record { number = 16; given = only (32640 < length plan) } ∷ []) (Q.number w) (Q.place w) → ⊥
-not-sixteen plan w (inl a) = omega (arith, a .0, question-number w)
-not-sixteen plan w (inr a) = a .1
-
 module _ (book : List ℕ) (q : Question) (make learn plan : List ℕ) where
-  question-out : (w : R.Refusal) → Checks book q make learn plan (Refused (OfQuestion w))
-      → First (questionRows book (q .team) (q .known) (q .values) make learn) (Q.number w) (Q.place w)
-  unfolding checkRows
-  question-out w (inl f) = elim (first-split (questionRows book (q .team) (q .known) (q .values) make learn) _ (Q.number w) (Q.place w) f) [
-    | inl g ↦ g
-    | inr g ↦ absurd (not-sixteen plan w (g .1))
-  ]
-  question-out w (inr f) = absurd (omega (arith, question-number w, f .1, fault-past (f .0)))
-
   pub question-exact : (r : CheckAnswer) → Checks book q make learn plan r → (w : R.Refusal)
       → (r ≡ Refused (OfQuestion w)) ↔ First (questionRows book (q .team) (q .known) (q .values) make learn) (Q.number w) (Q.place w)
   question-exact r answer w = (
-    λ e. question-out w (subst (Checks book q make learn plan) e answer),
+    λ e. question-out book q make learn plan w (subst (Checks book q make learn plan) e answer),
     λ f. checks-one book q make learn plan r (Refused (OfQuestion w)) answer (question-row book q make learn plan (Q.number w) (Q.place w) f),
   )
-
--- ---- what is wrong at the end of a plan, and after it
-
-ends : (S : System) (pending left : List ℕ) → Wrong S pending left too-soon → (left ≡ []) × ((k : ℕ) × ((ks : List ℕ) × (pending ≡ k ∷ ks)))
-ends S [] [] w = absurd w
-ends S [] (c ∷ cs) w = absurd (let z : _≡_ {A = ℕ} 0 1 = cc in omega arith)
-ends S (k ∷ ks) [] w = (refl, (k, (ks, refl)))
-ends S (k ∷ ks) (c ∷ cs) w = absurd (fault-means S k c too-soon .0 w)
-
-over : (S : System) (pending left : List ℕ) → Wrong S pending left left-over → (pending ≡ []) × ((c : ℕ) × ((cs : List ℕ) × (left ≡ c ∷ cs)))
-over S [] [] w = absurd w
-over S [] (c ∷ cs) w = (refl, (c, (cs, refl)))
-over S (k ∷ ks) [] w = absurd (let z : _≡_ {A = ℕ} 0 1 = cc in omega arith)
-over S (k ∷ ks) (c ∷ cs) w = absurd (fault-means S k c left-over .0 w)
-
--- bytes that read without a fault and leave nothing pending are those of a plan that works
-whole-plan : {n : ℕ} {S : System} → Lawful n S → n ≤ 7 → (k : ℕ) (before : List ℕ) → Reads S (k ∷ []) before []
-    → (p : Plan) × Works S k p × (before ≡ encode p)
-whole-plan {n} {S} law few k before reads =
-    check-exact law few k before .0
-    (ap (check S k) (sym (append-nil before)) ∙ judge-reads 0 [] reads)
 
 -- ---- a valid question
 
@@ -202,6 +151,11 @@ module _ {book : List ℕ} {q : Question} {make learn : List ℕ} {n m : ℕ} (v
   pub accepted-height : Checks book q make learn plan Yes → (rank : ℕ) → IsRank (systemFor n book q make learn) (startOf q) rank
       → (p : Plan) × Works (systemFor n book q make learn) (startOf q) p × (plan ≡ encode p) × (rank ≤ height p)
   accepted-height j rank is = Plans.accepted-plan law few (startOf q) plan rank is (judged-at j)
+
+-- "the empty plan is 20 at 0"
+pub empty-plan : {book : List ℕ} {q : Question} {make learn : List ℕ} {n m : ℕ} → ValidQuestion book q make learn n m
+    → Checks book q make learn [] (Refused (TooSoon 0))
+empty-plan {n = n} {m = m} valid = inr (too-soon, refl, record { n = n; m = m; valid = valid; short = lit≤ tt; judged = refl })
 
 -- what `find` writes, `check` accepts: the bytes of the written plan get a yes
 pub written-accepted : {book : List ℕ} {q : Question} {make learn : List ℕ} {n m : ℕ} → ValidQuestion book q make learn n m

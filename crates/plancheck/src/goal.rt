@@ -23,8 +23,7 @@ fn learnt(n: u8, learn: &[u8], state: Knowledge) -> bool
     true
 }
 
-// Whether the make formula is true at all present valuations that fit, and all is learnt. Asked by
-// this crate alone, for a knowledge number of up to seven settings.
+// Whether the make formula is true at all present valuations that fit, and all is learnt.
 pub fn is_settled(n: u8, make: &[u8], learn: &[u8], k: u32) -> bool
     requires { ⌜ (n ≤ 7) × (k < 7 ^ 7) ⌝ }
     ensures { λ r. ⌜ r ≡ settled n (now (make .entry)) (now (learn .entry)) k ⌝ }
