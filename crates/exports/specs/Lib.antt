@@ -2,3 +2,4 @@
 pub mod Packed
 pub mod Formula
 pub mod Book
+pub mod Find

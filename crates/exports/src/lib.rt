@@ -5,9 +5,12 @@ ghost use mathlib.Core.Path.{_≡_};
 ghost use Prim.Native.Nat.{_<_, _^_};
 ghost use Rattle.exports.specs.Packed.{packed};
 ghost use Rattle.exports.specs.Formula.{FormulaRead};
+ghost use Rattle.exports.specs.Find.{asked, PlanFound};
 ghost use Rattle.exports.specs.Book.{BookRead, BookWritten};
 use book::ReadAnswer;
 use book::WriteAnswer;
+use finder::Answer as Found;
+use finder::Question;
 use formula::Answer;
 
 // The table of a formula. 0, or a refusal, which leaves the 16 bytes as they were.
@@ -48,6 +51,33 @@ pub extern "C" fn pj_book_write(n: u64, m: u64, rights: &[u8], book: &mut [u8]) 
     match book::write(n as usize, m as usize, rights, book) {
         WriteAnswer::Written => 0,
         WriteAnswer::Refused(why) => refusal(why.number(), why.place() as u64),
+    }
+}
+
+// "Reach" with the least height, its plan in the plan room, and the ranks of all knowledge numbers in
+// the rank table: height << 16 | plan length; "cannot": 0; or a refusal.
+#[no_mangle]
+pub extern "C" fn pj_find(
+    book: &[u8],
+    team: u8,
+    known: u8,
+    values: u8,
+    make: &[u8],
+    learn: &[u8],
+    ranks: &mut [u8],
+    plan: &mut [u8],
+) -> u64
+    ensures { λ r. ⌜ PlanFound (now (book .entry)) (asked team known values) (now (make .entry)) (now (learn .entry)) (now (ranks .entry)) (now (plan .entry)) r (now (ranks .exit)) (now (plan .exit)) ⌝ }
+{
+    let question = Question {
+        team,
+        known,
+        values,
+    };
+    match finder::find(book, question, make, learn, ranks, plan) {
+        Found::Reach { height, length } => (height as u64) * 65536 + length as u64,
+        Found::Cannot => 0,
+        Found::Refused(why) => refusal(why.number(), why.place() as u64),
     }
 }
 

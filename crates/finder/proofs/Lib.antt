@@ -2,3 +2,7 @@
 pub mod QuestionLaws
 pub mod RowLaws
 pub mod StepLaws
+pub mod PlanLaws
+pub mod Tables
+pub mod FindLaws
+pub mod Small

@@ -1,5 +1,6 @@
 -- What `find` gives: the answer, and the lent rank table and plan room on return, for every book, question, goal and room.
 use mathlib.Core.Path.{_≡_}
+use mathlib.Core.Logic.{_⊎_}
 use mathlib.Core.List.{List, _++_}
 use Prim.Native.Nat.{ℕ, _^_, _≤_, _<_}
 use lib.ListN.{length, getD, drop}
@@ -13,6 +14,8 @@ use Rattle.finder.specs.Question.{systemOf, startNumber}
 use Rattle.finder.specs.Rows.{number, place, TeamFits, KnownFits, GoalFits, questionRows, findRows}
 use Rattle.finder.specs.declared.question.Refusal.{Refusal}
 use Rattle.finder.specs.declared.question.Refusal.the-variants.{Book, Team, Known, Goal, Ranks, PlanRoom}
+use Rattle.finder.specs.declared.finding.Answer.{Answer}
+use Rattle.finder.specs.declared.finding.Answer.the-variants.{Reach, Cannot, Refused}
 use Rattle.finder.specs.declared.question.Question.{Question}
 use Rattle.finder.specs.declared.question.Asked.{Asked}
 use Rattle.finder.specs.declared.question.Asked.the-variants.{Valid, Not}
@@ -34,3 +37,33 @@ pub record RanksFilled (n : ℕ) (S : System) (old new : List ℕ) : Type 0 wher
   pub size : length new ≡ length old
   pub ranks : (k : ℕ) → k < 7 ^ n → IsRank S k (getD new k 0)
   pub later : (j : ℕ) → 7 ^ n ≤ j → getD new j 0 ≡ getD old j 0
+
+-- the answer to a valid question, from its start, with the plan room before and after. "The height named is the least; the plan written is such a plan";
+-- "for "cannot" and 14, the plan room keep[s] what [it] held. A success writes only the plan's bytes there"
+abbrev pub Answers : System → ℕ → List ℕ → Answer → List ℕ → Type 0
+Answers S start old (Reach h size) new =
+    Least (ReachIn S start) h × ((p : Plan) × Written S start p × (size ≡ length (encode p)) × (size ≤ length old) × (new ≡ encode p ++ drop size old))
+Answers S start old Cannot new = CannotFrom S start × (new ≡ old)
+Answers S start old (Refused (Book r)) new = ⊥
+Answers S start old (Refused Team) new = ⊥
+Answers S start old (Refused Known) new = ⊥
+Answers S start old (Refused Goal) new = ⊥
+Answers S start old (Refused Ranks) new = ⊥
+-- 14: "plan longer than the lent plan room"
+Answers S start old (Refused PlanRoom) new = ((p : Plan) × Written S start p × (length old < length (encode p))) × (new ≡ old)
+
+-- a question that is refused before it is looked into
+pub record Unmet (book : List ℕ) (q : Question) (make learn ranks plan : List ℕ) (answer : Answer) (ranks′ plan′ : List ℕ) : Type 0 where
+  pub why : Refusal
+  pub answered : answer ≡ Refused why
+  pub first : First (findRows book (q .team) (q .known) (q .values) make learn ranks) (number why) (place why)
+  pub ranks-kept : ranks′ ≡ ranks
+  pub plan-kept : plan′ ≡ plan
+
+-- what `find` gives: the first of refusals 6 to 13, which leaves both rooms as they were; or, for a valid question, all ranks and the answer
+abbrev pub Finds : List ℕ → Question → List ℕ → List ℕ → List ℕ → List ℕ → Answer → List ℕ → List ℕ → Type 0
+Finds book q make learn ranks plan answer ranks′ plan′ =
+    Unmet book q make learn ranks plan answer ranks′ plan′
+    ⊎ ((n : ℕ) × (m : ℕ) × ValidQuestion book q make learn n m × (7 ^ n ≤ length ranks)
+      × RanksFilled n (systemOf n book (q .team) make learn) ranks ranks′
+      × Answers (systemOf n book (q .team) make learn) (startNumber (q .known) (q .values)) plan answer plan′)

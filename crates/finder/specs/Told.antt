@@ -2,15 +2,16 @@
 use mathlib.Core.Path.{_≡_}
 use mathlib.Core.Bool.{Bool}
 use mathlib.Core.List.{List}
-use Prim.Native.Nat.{ℕ, _/_, _%_, _^_, _≤_, _<_}
+use Prim.Native.Nat.{ℕ, _+_, _/_, _%_, _^_, _≤_, _<_}
 use lib.Dec.{T}
-use lib.ListN.{getD}
+use lib.ListN.{length, getD}
 use Rattle.ground.specs.Digits.{digit, bit}
 use Rattle.knowledge.specs.Acts.{ofKind}
 use Rattle.knowledge.specs.declared.act.Act.{Act}
 use Rattle.knowledge.specs.declared.act.Act.the-variants.{Set, Look}
-use Rattle.plan.specs.Plans.{System, Lawful, may}
-use Rattle.plan.specs.Ranks.{IsRank, Chosen}
+use Rattle.plan.specs.Plans.{System, Lawful, may, Plan}
+use Rattle.plan.specs.Bytes.{encode}
+use Rattle.plan.specs.Ranks.{IsRank, Chosen, Written}
 use Rattle.plan.specs.Certificate.{Leads}
 use Rattle.sides.specs.Sides.{nowNumber}
 use Rattle.sides.specs.Over.{entry}
@@ -42,3 +43,16 @@ family p q = ofKind (p / 7) (p % 7) q
 abbrev pub Chooses : System → List ℕ → ℕ → Step → Type 0
 Chooses S ranks k Stop = (a : Act) → Lower S ranks k a → ⊥
 Chooses S ranks k (Do a) = Chosen S k a
+
+-- what the writer of a plan starts from: a state with a rank, and tables that tell some system
+pub record Ranked (n : ℕ) (set look : List (List ℕ)) (ranks : List ℕ) (k : ℕ) : Type 0 where
+  pub few : n ≤ 7
+  pub state : k < 7 ^ n
+  pub size : 7 ^ n ≤ length ranks
+  pub finite : getD ranks k 0 < 255
+  pub system : System
+  pub told : Told n set look ranks system
+
+-- the plan written from k fits between `at` and the room's end
+abbrev pub Room : ℕ → List (List ℕ) → List (List ℕ) → List ℕ → ℕ → ℕ → ℕ → Type 0
+Room n set look ranks k at end = (S : System) → Told n set look ranks S → (p : Plan) → Written S k p → at + length (encode p) ≤ end

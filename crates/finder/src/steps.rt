@@ -141,3 +141,29 @@ fn step_of(
     }
     look_step(n, set, look, ranks, k, side, i)
 }
+
+// The step that the plan written takes at the state k.
+pub fn choose(
+    n: u8,
+    set: &[[u8; 2187]; 7],
+    look: &[[u8; 2187]; 7],
+    ranks: &[u8],
+    k: u32,
+) -> Step
+    requires { ⌜ (n ≤ 7) × (k < 7 ^ n) × (7 ^ n ≤ length (now ranks)) ⌝ }
+    ensures { λ r. ⌜ ((S : System) → Told n (now (set .entry)) (now (look .entry)) (now (ranks .entry)) S → Chooses S (now (ranks .entry)) k r) ⌝ }
+{
+    let side = spread::side_of(n as usize, k as usize);
+    let mut pair: u8 = 0;
+    while pair < 21 {
+        match step_of(n, set, look, ranks, k, side, pair) {
+            Step::Do(act) => {
+                return Step::Do(act);
+            }
+            Step::Stop => {
+                pair += 1;
+            }
+        }
+    }
+    Step::Stop
+}

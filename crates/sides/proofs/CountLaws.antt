@@ -1,7 +1,7 @@
 -- The powers that code reads from a table, by a computed test over its eight entries.
 use mathlib.Core.Path.{_≡_}
 use mathlib.Core.List.{List, [], _∷_}
-use Prim.Native.Nat.{ℕ, _^_, _%_, _*_, _≤_, _<_}
+use Prim.Native.Nat.{ℕ, _^_, _%_, _*_, _≤_}
 use native.Mathlib.Nat.{mod-eq-of-lt, one-mul}
 use native.Mathlib.Omega.{arith}
 use lib.Dec.{T, eqb, eqb→eq}

@@ -1,7 +1,7 @@
 -- A table over all sides is right from a side up; one entry more is right because a side that does not know a setting is judged from the two
 -- larger sides that tell it (`always-split`), and a side that tells all from its one valuation (`always-one`).
 use mathlib.Core.Path.{_≡_, refl, sym, ap, ap₂, _∙_}
-use mathlib.Core.Logic.{_⊎_, inl, inr}
+use mathlib.Core.Logic.{inl, inr}
 use mathlib.Core.List.{List}
 use mathlib.Core.Bool.{Bool, true, false, _&&_}
 use Prim.Native.Nat.{ℕ, _+_, _*_, _^_, _≤_, _<_}
@@ -20,12 +20,10 @@ use Rattle.ground.proofs.Digits.{put-same, put-other, put-lt, put-sum}
 use Rattle.knowledge.specs.Seven.{unknown, told}
 use Rattle.knowledge.specs.Fits.{always, is}
 use Rattle.knowledge.proofs.Fits.{always-split, always-one}
-use Rattle.sides.specs.Inner.{Tells, FilledAt, FilledFrom, Filled, Column}
+use Rattle.sides.proofs.Numbers.{three}
+use Rattle.sides.specs.Inner.{Tells, FilledAt, FilledFrom, Filled}
 use Rattle.sides.specs.declared.told.Told.{Told}
 use Rattle.sides.specs.declared.told.Told.the-variants.{Unknown, Valuation}
-
-three : 0 < 3
-three = lit< tt
 
 pub sides-most : (n : ℕ) → n ≤ 7 → 3 ^ n ≤ 2187
 sides-most n h = pow-le-pow-right three h
@@ -73,7 +71,8 @@ module _ {n side i : ℕ} (below : i < n) (small : side < 3 ^ n) (at : digit 3 s
       one-power = omega arith
 
 -- a side with nothing unknown has the column of its valuation
-pub filled-known : {n side v : ℕ} (columns : List ℕ) → v < 2 ^ n → ((i : ℕ) → i < n → digit 3 side i ≡ told (bit v i)) → FilledAt n columns side (getD columns v 0)
+pub filled-known : {n side v : ℕ} (columns : List ℕ) → v < 2 ^ n → ((i : ℕ) → i < n → digit 3 side i ≡ told (bit v i))
+    → FilledAt n columns side (getD columns v 0)
 filled-known {n} {side} {v} columns small all-told = record {
   tells = λ q g b t col. col v small ∙ ap (λ (z : Bool). g && z) (sym (always-one b n (digit 3 side) t v small all-told));
   small = λ m h. h v small;
@@ -92,7 +91,8 @@ pub filled-all : {n side : ℕ} {columns : List ℕ} (table : List ℕ) → side
     → ((s : ℕ) → 3 ^ n ≤ s → getD table s 0 ≡ 0) → Filled n columns table
 filled-all table none long from past = record { long = long; each = λ s h. from s (omega arith) h; past = past }
 
-pub past-more : (n : ℕ) {x : ℕ} (table : List ℕ) (e : ℕ) → x < 3 ^ n → ((s : ℕ) → 3 ^ n ≤ s → getD table s 0 ≡ 0) → (s : ℕ) → 3 ^ n ≤ s → getD (set table x e) s 0 ≡ 0
+pub past-more : (n : ℕ) {x : ℕ} (table : List ℕ) (e : ℕ) → x < 3 ^ n → ((s : ℕ) → 3 ^ n ≤ s → getD table s 0 ≡ 0)
+    → (s : ℕ) → 3 ^ n ≤ s → getD (set table x e) s 0 ≡ 0
 past-more n {x} table e small past s h = getD-set-other table x s e 0 (λ q. absurd (omega arith)) ∙ past s h
 
 -- a list of zeros, whatever its length

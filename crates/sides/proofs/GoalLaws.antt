@@ -1,26 +1,26 @@
 -- The goal's two halves over all sides: the entry of the make formula is its one bit, that of a learn formula has a bit exactly where it is settled,
 -- and learn formulas are settled together where each is.
 use mathlib.Core.Path.{_≡_, refl, sym, ap, ap₂, _∙_}
-use mathlib.Core.Logic.{_⊎_, inl, inr}
+use mathlib.Core.Logic.{inl, inr}
 use mathlib.Core.List.{List, []}
 use mathlib.Core.Bool.{Bool, true, false, not, _&&_, _||_}
 use Prim.Native.Nat.{ℕ, zero, suc, _+_, _*_, _/_, _%_, _^_, _≤_, _<_}
 use native.Mathlib.Numerals.{add-one}
 use native.Mathlib.Omega.{arith}
-use lib.Dec.{T, eqb, lit<}
+use lib.Dec.{eqb, lit<}
 use lib.ListN.{length, getD, take, drop, replicate, getD-replicate, List·getD-eq-default}
 use lib.Pow.{pow-mono}
 use Rattle.ground.specs.Digits.{digit, bit}
 use Rattle.ground.specs.Search.{all}
 use Rattle.ground.specs.Table.{truth}
 use Rattle.ground.proofs.Bits.{below-2, bit-of-zero}
-use Rattle.ground.proofs.Bools.{T→true, true→T, lt-or-ge}
+use Rattle.ground.proofs.Bools.{T→true, lt-or-ge}
 use Rattle.knowledge.specs.Fits.{always, is}
 use Rattle.knowledge.proofs.Fits.{always-intro, always-take}
 use Rattle.sides.specs.Over.{oneOf, SideTable, Made, settled, learnTable, Learnt}
 use Rattle.sides.proofs.FillLaws.{sides-most}
-use Rattle.sides.proofs.Tables.{side-some}
-use Rattle.sides.specs.Inner.{Filled, FilledAt, Column, EachColumn, MadeAt, sameOf, SettledAt, Settled, bothOf, Meets}
+use Rattle.sides.proofs.Tables.{one-lt, side-some}
+use Rattle.sides.specs.Inner.{Filled, EachColumn, MadeAt, sameOf, SettledAt, Settled, bothOf, Meets}
 
 -- small entries by their bits
 one-bit : (e : ℕ) → e < 2 → e ≡ oneOf (bit e 0)
@@ -38,10 +38,6 @@ one-low : (b : Bool) → bit (oneOf b) 0 ≡ b
 unfolding bit digit
 one-low true = refl
 one-low false = refl
-
-one-lt : (b : Bool) → oneOf b < 2
-one-lt true = lit< tt
-one-lt false = lit< tt
 
 same-low : (b : Bool) → bit (sameOf b) 0 ≡ b
 unfolding bit digit
@@ -116,7 +112,8 @@ pub learnt-none : {n : ℕ} {t : List ℕ} (learn : List ℕ) → n ≤ 7 → Fi
 unfolding all
 learnt-none learn most filled = table-of-ones most filled
 
-pub learnt-more : {n : ℕ} (j : ℕ) {a b t : List ℕ} (learn : List ℕ) → n ≤ 7 → LearntTo n learn j a → Settled n (drop (16 * j) learn) b → Meets a b t → LearntTo n learn (j + 1) t
+pub learnt-more : {n : ℕ} (j : ℕ) {a b t : List ℕ} (learn : List ℕ) → n ≤ 7 → LearntTo n learn j a → Settled n (drop (16 * j) learn) b → Meets a b t
+    → LearntTo n learn (j + 1) t
 unfolding all bothOf learnTable
 learnt-more {n} j {a} {b} {t} learn most x y m = record {
   long = m .long;
@@ -132,5 +129,6 @@ learnt-more {n} j {a} {b} {t} learn most x y m = record {
   ];
 }
 
-pub learnt-all : {n : ℕ} (j : ℕ) {t : List ℕ} (learn : List ℕ) → LearntTo n learn j t → j ≤ length learn / 16 → length learn / 16 ≤ j → Learnt n learn t
+pub learnt-all : {n : ℕ} (j : ℕ) {t : List ℕ} (learn : List ℕ) → LearntTo n learn j t → j ≤ length learn / 16 → length learn / 16 ≤ j
+    → Learnt n learn t
 learnt-all j learn x up down = let e : j ≡ length learn / 16 = omega arith in rw e at x

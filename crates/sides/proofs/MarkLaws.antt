@@ -1,14 +1,12 @@
 -- The marks: the knowledge numbers with the same digits but the lowest show sides that differ in the lowest setting alone.
-use mathlib.Core.Path.{_≡_, refl, sym, ap, ap₂, _∙_}
+use mathlib.Core.Path.{_≡_, refl, sym, ap, _∙_}
 use mathlib.Core.List.{List}
 use Prim.Native.Nat.{ℕ, zero, suc, _+_, _*_, _-_, _/_, _%_, _^_, _≤_, _<_}
-use native.Mathlib.Nat.{pow-zero, pow-suc, div-one, div-div-eq-div-mul, mod-lt}
-use native.Mathlib.Numerals.{add-one, sub-one}
+use native.Mathlib.Nat.{pow-zero, pow-suc, div-one, div-div-eq-div-mul}
+use native.Mathlib.Numerals.{add-one}
 use native.Mathlib.Omega.{arith}
-use lib.Dec.{lit<}
-use lib.ListN.{length, getD}
+use lib.ListN.{getD}
 use Rattle.ground.specs.Digits.{digit}
-use Rattle.ground.proofs.Search.{below-suc}
 use Rattle.knowledge.specs.Seven.{nowOf, startOf}
 use Rattle.knowledge.proofs.Seven.{now-lt, start-lt}
 use Rattle.sides.specs.Sides.{sideNumber, nowNumber, startNumber}

@@ -1,8 +1,8 @@
 -- The side that a knowledge number shows, as a number: its digit at a setting is what the knowledge digit tells there. For any way to read a
 -- knowledge digit as a side, by recursion on the settings; the present and the start are the two that paper 01 has.
-use mathlib.Core.Path.{_≡_, refl, sym, ap, _∙_}
-use Prim.Native.Nat.{ℕ, zero, suc, _+_, _*_, _/_, _%_, _^_, _≤_, _<_}
-use native.Mathlib.Nat.{pow-zero, pow-succ', add-comm, mod-lt}
+use mathlib.Core.Path.{_≡_, sym, ap, _∙_}
+use Prim.Native.Nat.{ℕ, zero, suc, _+_, _*_, _^_, _<_}
+use native.Mathlib.Nat.{pow-zero, pow-succ', add-comm}
 use native.Mathlib.Decide.{ℕ-discrete}
 use native.Mathlib.Omega.{arith}
 use lib.Arith.{digits-lt, digits-div, digits-mod}
@@ -15,10 +15,10 @@ use Rattle.knowledge.specs.Seven.{startOf, nowOf}
 use Rattle.knowledge.proofs.Seven.{now-lt, start-lt}
 use Rattle.sides.specs.Sides.{sideNumber, nowNumber, startNumber}
 
-three : 0 < 3
+pub three : 0 < 3
 three = lit< tt
 
-seven : 0 < 7
+pub seven : 0 < 7
 seven = lit< tt
 
 module _ (f : ℕ → ℕ) where

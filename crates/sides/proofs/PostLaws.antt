@@ -1,7 +1,7 @@
 -- The posts at a valuation are read from the last post down, each bit below those before it; filled over all sides, bit q tells what is known
 -- of the rule of post q, since its column tells that rule's table wherever the post is of the team.
-use mathlib.Core.Path.{_≡_, refl, sym, ap, ap₂, _∙_}
-use mathlib.Core.Logic.{_⊎_, inl, inr}
+use mathlib.Core.Path.{_≡_, refl, sym, ap, _∙_}
+use mathlib.Core.Logic.{inl, inr}
 use mathlib.Core.List.{List, []}
 use mathlib.Core.Bool.{Bool, true, false, _&&_}
 use Prim.Native.Nat.{ℕ, zero, suc, _+_, _*_, _-_, _/_, _%_, _^_, _≤_, _<_}
@@ -13,7 +13,6 @@ use borrow.Author.Tests.{eq-eqb, ne-eqb}
 use lib.ListN.{length, getD, set, drop, replicate, length-replicate, getD-replicate, length-set, List·getD-eq-default}
 use lib.Seq.{getD-set-other}
 use Rattle.ground.specs.Digits.{digit, bit}
-use Rattle.ground.specs.Table.{truth}
 use Rattle.ground.proofs.Bits.{bit-zero, bit-suc}
 use Rattle.ground.proofs.Bools.{lt-or-ge}
 use Rattle.book.specs.Rule.{rule, rulePlace}
@@ -21,13 +20,10 @@ use Rattle.book.specs.declared.rule.Right.{Right}
 use Rattle.knowledge.specs.Fits.{always}
 use Rattle.knowledge.proofs.Fits.{always-take}
 use Rattle.sides.proofs.ListLaws.{each-more}
+use Rattle.sides.proofs.Tables.{one-lt}
 use Rattle.sides.proofs.FillLaws.{zeros, zeros-long, zeros-at}
-use Rattle.sides.specs.Over.{entry, oneOf, Posts, PostTables}
-use Rattle.sides.specs.Inner.{doubled, PostsAt, EachColumn, Filled, FilledAt}
-
-pub one-small : (b : Bool) → oneOf b < 2
-one-small true = lit< tt
-one-small false = lit< tt
+use Rattle.sides.specs.Over.{entry, oneOf, PostTables}
+use Rattle.sides.specs.Inner.{doubled, PostsAt, EachColumn, Filled}
 
 one-is : (b : Bool) → eqb (oneOf b) 1 ≡ b
 one-is true = refl
@@ -35,10 +31,10 @@ one-is false = refl
 
 -- the lowest bit, and the others one place up
 low-bit : (x : ℕ) (b : Bool) → bit (doubled x b) 0 ≡ b
-low-bit x b = bit-zero (x * 2 + oneOf b) ∙ ap (λ (y : ℕ). eqb y 1) (digits-mod x (one-small b)) ∙ one-is b
+low-bit x b = bit-zero (x * 2 + oneOf b) ∙ ap (λ (y : ℕ). eqb y 1) (digits-mod x (one-lt b)) ∙ one-is b
 
 next-bit : (x i : ℕ) (b : Bool) → bit (doubled x b) (suc i) ≡ bit x i
-next-bit x i b = bit-suc (x * 2 + oneOf b) i ∙ ap (λ (y : ℕ). bit y i) (digits-div x (one-small b))
+next-bit x i b = bit-suc (x * 2 + oneOf b) i ∙ ap (λ (y : ℕ). bit y i) (digits-div x (one-lt b))
 
 -- the bits of the posts from this one on
 pub record BitsFrom (f : ℕ → Bool) (post bits : ℕ) : Type 0 where
@@ -57,7 +53,7 @@ module _ {f : ℕ → Bool} {post bits : ℕ} (b : BitsFrom f post bits) (some :
   more-small : (x : Bool) → doubled bits x < 2 ^ (8 - (post - 1))
   more-small x =
       let e : 8 - (post - 1) ≡ suc (8 - post) = omega (arith, b .most) in
-      rw (e, pow-suc) (omega (arith, b .small, one-small x))
+      rw (e, pow-suc) (omega (arith, b .small, one-lt x))
 
   pub bits-more : (x : Bool) → x ≡ f (post - 1) → BitsFrom f (post - 1) (doubled bits x)
   bits-more x e = record { most = omega (arith, b .most); small = more-small x; tells = more-tells x e }
@@ -91,7 +87,8 @@ pub record BlankRow (row : List ℕ) : Type 0 where
 blank-row : BlankRow (zeros 2187)
 blank-row = record { long = zeros-long 2187; zero-at = λ s. zeros-at 2187 s }
 
-module _ {n team i : ℕ} {book columns t : List ℕ} {right : Right} (most : n ≤ 7) (cols : EachColumn (PostsAt book team i right) (2 ^ n) columns) (filled : Filled n columns t) where
+module _ {n team i : ℕ} {book columns t : List ℕ} {right : Right} (most : n ≤ 7)
+    (cols : EachColumn (PostsAt book team i right) (2 ^ n) columns) (filled : Filled n columns t) where
   post-known : (s q : ℕ) → s < 3 ^ n → q < 8 → bit (getD t s 0) q ≡ (bit team q && always true n (digit 3 s) (rule book i q right))
   unfolding rule
   post-known s q h l =
@@ -121,7 +118,8 @@ module _ {n team : ℕ} {book : List ℕ} {right : Right} where
     blank = λ i h l. rw (getD-replicate 7 i (zeros 2187) [] l) blank-row;
   }
 
-  pub more-rows : {k : ℕ} (t : List (List ℕ)) (row : List ℕ) → k < 7 → RowsTo n book team right k t → PostRow n book team right k row → RowsTo n book team right (k + 1) (set t k row)
+  pub more-rows : {k : ℕ} (t : List (List ℕ)) (row : List ℕ) → k < 7 → RowsTo n book team right k t → PostRow n book team right k row
+      → RowsTo n book team right (k + 1) (set t k row)
   more-rows {k} t row below r here = record {
     settings = length-set t k row ∙ r .settings;
     rows = each-more [] (λ i x. PostRow n book team right i x) t k row (omega (arith, r .settings)) (r .rows) here;

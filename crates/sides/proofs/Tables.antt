@@ -7,7 +7,6 @@ use Prim.Native.Nat.{ℕ, _^_, _<_}
 use lib.Dec.{eqb, lit<}
 use lib.ListN.{getD}
 use Rattle.ground.specs.Digits.{digit, put, bit}
-use Rattle.ground.specs.Search.{all}
 use Rattle.ground.proofs.Digits.{digit-lt, put-digit}
 use Rattle.ground.proofs.Search.{all-ext}
 use Rattle.book.specs.Rule.{rule}
@@ -19,13 +18,11 @@ use Rattle.knowledge.proofs.Fits.{always-ext}
 use Rattle.knowledge.proofs.Seven.{now-set, start-set, set-lt, now-look, start-look, look-lt}
 use Rattle.sides.specs.Sides.{nowNumber, startNumber}
 use Rattle.sides.specs.Over.{entry, Judged, PostTables, oneOf, SideTable, Made, settled, learnCount, learnTable, allSettled, Learnt, rankIf, markOf, Marks}
-use Rattle.sides.proofs.Numbers.{now-number-lt, start-number-lt, now-digit, start-digit, now-put, start-put}
+use Rattle.sides.proofs.Numbers.{three, seven, now-number-lt, start-number-lt, now-digit, start-digit, now-put, start-put}
 
-three : 0 < 3
-three = lit< tt
-
-seven : 0 < 7
-seven = lit< tt
+pub one-lt : (b : Bool) → oneOf b < 2
+one-lt true = lit< tt
+one-lt false = lit< tt
 
 -- an entry of 1 or 0 tells, by not being 0
 pub one-some : (b : Bool) → not (eqb (oneOf b) 0) ≡ b

@@ -18,9 +18,11 @@ _Noreturn void _exit(int status);
 u64 pj_formula_read(u64 n, const u8 *text, u64 len, u8 *table);
 u64 pj_book_read(const u8 *book, u64 len, u8 *rights, u64 rights_len);
 u64 pj_book_write(u64 n, u64 m, const u8 *rights, u64 len, u8 *book, u64 book_len);
+u64 pj_find(const u8 *book, u64 book_len, u8 team, u8 known, u8 values, const u8 *make, u64 make_len,
+            const u8 *learn, u64 learn_len, u8 *ranks, u64 ranks_len, u8 *plan, u64 plan_len);
 
 enum { GUARD = 32, ROOMS_MOST = 8 };
-enum { FORMULA_READ = 1, BOOK_READ = 2, BOOK_WRITE = 3 };
+enum { FORMULA_READ = 1, BOOK_READ = 2, BOOK_WRITE = 3, FIND = 4 };
 
 static void fill(void *bytes, u64 size) {
     for (u64 done = 0; done < size;) {
@@ -43,6 +45,8 @@ static u64 call(u64 function, const u64 *number, u8 *const *room, const u64 *len
     case FORMULA_READ: return pj_formula_read(number[0], room[0], lent[0], room[1]);
     case BOOK_READ: return pj_book_read(room[0], lent[0], room[1], lent[1]);
     case BOOK_WRITE: return pj_book_write(number[0], number[1], room[0], lent[0], room[1], lent[1]);
+    case FIND: return pj_find(room[0], lent[0], (u8)number[0], (u8)number[1], (u8)number[2], room[1], lent[1],
+                              room[2], lent[2], room[3], lent[3], room[4], lent[4]);
     }
     _exit(2);
 }

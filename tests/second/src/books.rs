@@ -147,7 +147,7 @@ pub fn written(n: usize, m: usize, rights: &[u8]) -> Vec<u8> {
 }
 
 /// The same bytes with a right check in each whole block.
-fn repaired(bytes: &[u8]) -> Vec<u8> {
+pub fn repaired(bytes: &[u8]) -> Vec<u8> {
     let block = |block: &[u8]| if block.len() < BLOCK { block.to_vec() } else { book::block(&block[..CHECKED]) };
     bytes.chunks(BLOCK).flat_map(block).collect()
 }

@@ -27,3 +27,16 @@ pub fn book_read(book: &mut Room, rights: &mut Room) -> u64 {
 pub fn book_write(n: u64, m: u64, rights: &mut Room, book: &mut Room) -> u64 {
     route::book_write(n, m, rights, book)
 }
+
+/// Answers a question (its masks are team, known and values) and leaves the ranks in `ranks` and the plan in `plan`.
+/// "Reach" is the height in bits 16 to 31 and the plan's length below them; "cannot" is 0.
+pub fn find(
+    book: &mut Room,
+    masks: [u8; 3],
+    make: &mut Room,
+    learn: &mut Room,
+    ranks: &mut Room,
+    plan: &mut Room,
+) -> u64 {
+    route::find(book, masks, make, learn, ranks, plan)
+}

@@ -7,10 +7,16 @@
 mod book;
 mod books;
 mod damage;
+mod fast;
 mod ffi;
+mod finder;
+mod finding;
 mod formula;
 mod formulas;
 mod grow;
+mod knowledge;
+mod question;
+mod questions;
 mod refusal;
 mod report;
 mod rng;
@@ -36,6 +42,7 @@ const AREAS: &[Area] = &[
     Area { name: "formulas", functions: &["pj_formula_read"], test: formulas::test },
     Area { name: "reading books", functions: &["pj_book_read"], test: books::reading },
     Area { name: "writing books", functions: &["pj_book_write"], test: books::writing },
+    Area { name: "finding", functions: &["pj_find"], test: finding::test },
 ];
 
 fn main() -> ExitCode {

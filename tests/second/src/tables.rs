@@ -16,7 +16,22 @@ pub fn all(n: usize) -> u128 {
 
 /// Where setting i is true.
 pub fn letter(i: usize) -> u128 {
-    (0..128).filter(|v| v >> i & 1 == 1).fold(0, |bits, v| bits | 1 << v)
+    const LETTERS: [u128; 7] = letters();
+    LETTERS[i]
+}
+
+const fn letters() -> [u128; 7] {
+    let mut letters = [0; 7];
+    let mut v = 0;
+    while v < 128 {
+        let mut i = 0;
+        while i < 7 {
+            letters[i] |= (v >> i & 1) << v;
+            i += 1;
+        }
+        v += 1;
+    }
+    letters
 }
 
 pub fn any_table(rng: &mut Rng, n: usize) -> Table {

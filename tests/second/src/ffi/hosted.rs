@@ -10,6 +10,7 @@ use crate::room::Room;
 const FORMULA_READ: u64 = 1;
 const BOOK_READ: u64 = 2;
 const BOOK_WRITE: u64 = 3;
+const FIND: u64 = 4;
 
 pub fn formula_read(n: u64, text: &mut Room, table: &mut Room) -> u64 {
     call(FORMULA_READ, &[n], &mut [text, table])
@@ -21,6 +22,17 @@ pub fn book_read(book: &mut Room, rights: &mut Room) -> u64 {
 
 pub fn book_write(n: u64, m: u64, rights: &mut Room, book: &mut Room) -> u64 {
     call(BOOK_WRITE, &[n, m], &mut [rights, book])
+}
+
+pub fn find(
+    book: &mut Room,
+    masks: [u8; 3],
+    make: &mut Room,
+    learn: &mut Room,
+    ranks: &mut Room,
+    plan: &mut Room,
+) -> u64 {
+    call(FIND, &masks.map(u64::from), &mut [book, make, learn, ranks, plan])
 }
 
 struct Host {

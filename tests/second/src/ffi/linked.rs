@@ -7,6 +7,21 @@ extern "C" {
     fn pj_formula_read(n: u64, text: *const u8, len: u64, table: *mut u8) -> u64;
     fn pj_book_read(book: *const u8, len: u64, rights: *mut u8, rights_len: u64) -> u64;
     fn pj_book_write(n: u64, m: u64, rights: *const u8, len: u64, book: *mut u8, book_len: u64) -> u64;
+    fn pj_find(
+        book: *const u8,
+        book_len: u64,
+        team: u8,
+        known: u8,
+        values: u8,
+        make: *const u8,
+        make_len: u64,
+        learn: *const u8,
+        learn_len: u64,
+        ranks: *mut u8,
+        ranks_len: u64,
+        plan: *mut u8,
+        plan_len: u64,
+    ) -> u64;
 }
 
 /// The pointer may be used over the whole room, guards too, so a stray store is found and is not undefined.
@@ -28,4 +43,31 @@ pub fn book_read(book: &mut Room, rights: &mut Room) -> u64 {
 
 pub fn book_write(n: u64, m: u64, rights: &mut Room, book: &mut Room) -> u64 {
     unsafe { pj_book_write(n, m, start(rights), size(rights), start(book), size(book)) }
+}
+
+pub fn find(
+    book: &mut Room,
+    [team, known, values]: [u8; 3],
+    make: &mut Room,
+    learn: &mut Room,
+    ranks: &mut Room,
+    plan: &mut Room,
+) -> u64 {
+    unsafe {
+        pj_find(
+            start(book),
+            size(book),
+            team,
+            known,
+            values,
+            start(make),
+            size(make),
+            start(learn),
+            size(learn),
+            start(ranks),
+            size(ranks),
+            start(plan),
+            size(plan),
+        )
+    }
 }

@@ -1,6 +1,5 @@
 -- `sides::marks::mark` meets its contract. The loop has marked the states below seven times the rest.
-use mathlib.Core.Path.{_≡_, _∙_}
-use Prim.Native.Nat.{_+_, _*_, _≤_, _-_, _^_}
+use Prim.Native.Nat.{_+_, _*_, _≤_, _-_}
 use native.Mathlib.Omega.{arith}
 use native.Mathlib.Nat.{zero-mul}
 use Rattle.sides.specs.Inner.{Stored, markAt}

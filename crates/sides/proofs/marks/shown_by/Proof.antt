@@ -1,6 +1,5 @@
 -- `sides::marks::shown_by` meets its contract. The loop has read the lowest i digits.
 use borrow.Author.Needs.{needs}
-use mathlib.Core.Path.{_≡_, sym, ap, _∙_}
 use Prim.Native.Nat.{_≤_, _-_, _%_}
 use native.Mathlib.Omega.{arith}
 use Rattle.sides.proofs.MarkLaws.{ShownTo, nothing-shown, one-more-shown, now-small, start-small, power-most, now-told, start-told, told-most, shown-all}

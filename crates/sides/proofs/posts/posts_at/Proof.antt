@@ -1,7 +1,6 @@
 -- `sides::posts::posts_at` meets its contract. The loop has read the posts from the last down.
-use mathlib.Core.Path.{_≡_, ap, _∙_}
 use mathlib.Core.Bool.{_&&_}
-use Prim.Native.Nat.{ℕ, _-_, _≤_}
+use Prim.Native.Nat.{_-_, _≤_}
 use native.Mathlib.Omega.{arith}
 use lib.ListN.{drop}
 use lib.Pow.{pow-mono}

@@ -1,6 +1,5 @@
 -- `sides::posts::push` meets its contract, by the two bits.
 use native.Mathlib.Omega.{arith}
-use Rattle.sides.specs.Over.{oneOf}
 use borrow.Author.Needs.{needs}
 use Rattle.sides.proofs.posts.push.Statement.{statement}
 use Rattle.sides.proofs.posts.push.Tie as tie

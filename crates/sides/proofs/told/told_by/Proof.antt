@@ -1,8 +1,7 @@
 -- `sides::told::told_by` meets its contract. The loop has read the lowest i settings, all of them told.
-use mathlib.Core.Path.{_≡_, sym, ap, _∙_}
+use mathlib.Core.Path.{sym, _∙_}
 use Prim.Native.Nat.{_≤_, _-_}
 use native.Mathlib.Omega.{arith}
-use lib.Pow.{pow-mono}
 use Rattle.sides.proofs.ToldLaws.{ToldTo, nothing-told, the-digit, one-more-told, value-most, weight-most, told-all}
 use Rattle.sides.proofs.MarkLaws.{power-most}
 use Rattle.sides.proofs.told.told_by.Statement.{statement}

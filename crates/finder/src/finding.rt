@@ -1,0 +1,103 @@
+// The finder: refusals 6 to 13, the ranks of all knowledge numbers, then the answer and its plan.
+use crate::question::Asked;
+use crate::question::Question;
+use crate::question::Refusal;
+use crate::question::ask;
+use crate::written::length;
+use crate::written::write;
+use book::Right;
+use knowledge::Knowledge;
+ghost use mathlib.Core.Path.{_≡_};
+ghost use Prim.Native.Nat.{ℕ, _^_, _≤_, _<_};
+ghost use lib.ListN.{length as size};
+ghost use Rattle.plan.specs.Plans.{System};
+ghost use Rattle.finder.specs.Told.{Told};
+ghost use Rattle.finder.specs.Rows.{KnownFits};
+ghost use Rattle.finder.specs.Finds.{RanksFilled, Answers, Finds};
+ghost use Rattle.finder.specs.Question.{systemOf, startNumber};
+
+pub enum Answer {
+    // A plan of this height, the least, stands in the first `length` bytes of the plan room.
+    Reach { height: u8, length: usize },
+    // No plan brings it about.
+    Cannot,
+    // The question is not answered.
+    Refused(Refusal),
+}
+
+// The answer at the start, by the ranks; a plan is written only where it fits.
+fn from_start(
+    n: u8,
+    set: &[[u8; 2187]; 7],
+    look: &[[u8; 2187]; 7],
+    ranks: &[u8],
+    start: u32,
+    plan: &mut [u8],
+) -> Answer
+    requires { ⌜ (start < 7 ^ n) × (7 ^ n ≤ size (now ranks)) × ((S : System) × Told n (now set) (now look) (now ranks) S) ⌝ }
+    ensures { λ r. ⌜ ((S : System) → Told n (now (set .entry)) (now (look .entry)) (now (ranks .entry)) S → Answers S start (now (plan .entry)) r (now (plan .exit))) ⌝ }
+{
+    let height = ranks[start as usize];
+    if height == 255 {
+        return Answer::Cannot;
+    }
+    let bytes = length(n, set, look, ranks, start);
+    if plan.len() < bytes {
+        return Answer::Refused(Refusal::PlanRoom);
+    }
+    write(n, set, look, ranks, start, plan, 0);
+    Answer::Reach {
+        height,
+        length: bytes,
+    }
+}
+
+// Fills the ranks of a question over n settings, and answers it.
+fn search(
+    book: &[u8],
+    team: u8,
+    known: u8,
+    values: u8,
+    make: &[u8],
+    learn: &[u8],
+    n: u8,
+    ranks: &mut [u8],
+    plan: &mut [u8],
+) -> Answer
+    requires { ⌜ (0 < n) × (n ≤ 7) × KnownFits n known values × (7 ^ n ≤ size (now ranks)) ⌝ }
+    ensures { λ r. ⌜ RanksFilled n (systemOf n (now (book .entry)) team (now (make .entry)) (now (learn .entry))) (now (ranks .entry)) (now (ranks .exit)) × Answers (systemOf n (now (book .entry)) team (now (make .entry)) (now (learn .entry))) (startNumber known values) (now (plan .entry)) r (now (plan .exit)) ⌝ }
+{
+    let made = sides::made(make, n);
+    let learnt = sides::learnt(learn, n);
+    sides::mark(n, &made, &learnt, ranks);
+    let set = sides::posts_allowed(book, n, team, Right::Set);
+    let look = sides::posts_allowed(book, n, team, Right::Look);
+    spread::spread(n, &set, &look, ranks);
+    let start = Knowledge::at_start(known, values).number();
+    from_start(n, &set, &look, ranks, start, plan)
+}
+
+// "Reach" with the least height and its plan, or "cannot"; or the first of refusals 6 to 14.
+pub fn find(
+    book: &[u8],
+    question: Question,
+    make: &[u8],
+    learn: &[u8],
+    ranks: &mut [u8],
+    plan: &mut [u8],
+) -> Answer
+    ensures { λ r. ⌜ Finds (now (book .entry)) question (now (make .entry)) (now (learn .entry)) (now (ranks .entry)) (now (plan .entry)) r (now (ranks .exit)) (now (plan .exit)) ⌝ }
+{
+    match ask(book, question, make, learn) {
+        Asked::Not(why) => Answer::Refused(why),
+        Asked::Valid { settings, posts: _ } => {
+            if ranks.len() < spread::states(settings as usize) {
+                return Answer::Refused(Refusal::Ranks);
+            }
+            let team = question.team;
+            let known = question.known;
+            let values = question.values;
+            search(book, team, known, values, make, learn, settings, ranks, plan)
+        }
+    }
+}

@@ -1,0 +1,107 @@
+-- A state's number and its present side, as one digit changes: each moves by the digit's place, in base 7 and in base 3. So both are running sums.
+use mathlib.Core.Path.{_≡_, refl, sym, ap, _∙_}
+use Prim.Native.Nat.{ℕ, zero, suc, _+_, _*_, _/_, _%_, _^_, _≤_, _<_}
+use native.Mathlib.Nat.{pow-zero, pow-succ', add-comm, pow-le-pow-right, lt-of-lt-of-le}
+use native.Mathlib.Omega.{arith}
+use lib.Arith.{digits-lt}
+use lib.Dec.{lit<}
+use Rattle.ground.specs.Digits.{digit, put}
+use Rattle.ground.specs.Search.{all}
+use Rattle.ground.proofs.Search.{below-suc}
+use Rattle.ground.proofs.Digits.{digit-lt, put-same, put-other, put-lt, put-sum, put-digit}
+use Rattle.knowledge.specs.Seven.{nowOf}
+use Rattle.knowledge.proofs.Seven.{now-lt, at-digit}
+use Rattle.sides.specs.Sides.{sideNumber, nowNumber}
+use Rattle.spread.specs.Inner.{Spotted}
+
+pub pos : 0 < 7
+pos = lit< tt
+
+pub pow-seven : (n : ℕ) → n ≤ 7 → 7 ^ n ≤ 823543
+pow-seven n l = pow-le-pow-right pos l
+
+pub pow-three : (n : ℕ) → n ≤ 7 → 3 ^ n ≤ 2187
+pow-three n l = pow-le-pow-right (lit< {m = 0} {n = 3} tt) l
+
+-- a side of n settings has n digits in base 3
+side-lt : (n : ℕ) (f : ℕ → ℕ) → ((i : ℕ) → f i < 3) → sideNumber n f < 3 ^ n
+unfolding sideNumber
+side-lt zero f small = rw pow-zero (lit< tt)
+side-lt (suc n) f small = rw (pow-succ', add-comm (sideNumber n f) (f n * 3 ^ n)) (digits-lt (small n) (side-lt n f small))
+
+side-same : (n : ℕ) (f g : ℕ → ℕ) → ((j : ℕ) → j < n → f j ≡ g j) → sideNumber n f ≡ sideNumber n g
+unfolding sideNumber
+side-same zero f g same = refl
+side-same (suc n) f g same = rw (side-same n f g (λ j l. same j (omega arith)), same n (omega arith))
+
+-- a side that differs at one setting
+side-change : (n i : ℕ) (f g : ℕ → ℕ) → i < n → ((j : ℕ) → (j ≡ i → ⊥) → f j ≡ g j)
+    → sideNumber n f + g i * 3 ^ i ≡ sideNumber n g + f i * 3 ^ i
+unfolding sideNumber
+side-change zero i f g l other = absurd (omega arith)
+side-change (suc n) i f g l other =
+    below-suc i n l
+    (λ e. rw (side-same n f g (λ j m. other j (λ q. absurd (omega arith))), e) (omega arith))
+    (λ m. rw (other n (λ q. absurd (omega arith))) (omega (arith, side-change n i f g m other)))
+
+pub now-below : (n k : ℕ) → nowNumber n k < 3 ^ n
+unfolding nowNumber
+now-below n k = side-lt n (λ i. nowOf (digit 7 k i)) (λ i. now-lt (digit 7 k i))
+
+pub below-sides : (n k : ℕ) → n ≤ 7 → nowNumber n k < 2187
+below-sides n k l = lt-of-lt-of-le (now-below n k) (pow-three n l)
+
+-- the number and the side of a state with another digit at setting i
+module _ (n k i : ℕ) where
+  pub put-rest : (e : ℕ) → put 7 k i e ≡ put 7 k i 0 + e * 7 ^ i
+  put-rest e = omega (arith, put-sum pos k i e, put-sum pos k i 0)
+
+  pub put-from : put 7 k i 0 + digit 7 k i * 7 ^ i ≡ k
+  put-from = omega (arith, put-sum pos k i 0)
+
+  put-side : (d e : ℕ) → d < 7 → e < 7 → i < n
+      → nowNumber n (put 7 k i d) + nowOf e * 3 ^ i ≡ nowNumber n (put 7 k i e) + nowOf d * 3 ^ i
+  unfolding nowNumber
+  put-side d e l m h =
+      let here = put-same pos k i d l in
+      let there = put-same pos k i e m in
+      rw (here, there) at (side-change n i (λ j. nowOf (digit 7 (put 7 k i d) j)) (λ j. nowOf (digit 7 (put 7 k i e) j)) h
+      (λ j ne. ap nowOf (put-other pos k i j d l ne ∙ sym (put-other pos k i j e m ne))))
+
+  pub side-rest : (e : ℕ) → e < 7 → i < n → nowNumber n (put 7 k i e) ≡ nowNumber n (put 7 k i 0) + nowOf e * 3 ^ i
+  unfolding nowOf
+  side-rest e l h = omega (arith, put-side 0 e (lit< tt) l h)
+
+  pub side-from : i < n → nowNumber n k ≡ nowNumber n (put 7 k i 0) + nowOf (digit 7 k i) * 3 ^ i
+  side-from h = rw (put-digit pos k i) at (side-rest (digit 7 k i) (digit-lt pos k i) h)
+
+-- what a digit tells of the present value, packed into one number
+pub packed : (d : ℕ) → d < 7 → 0x2121210 / 2 ^ (4 * d) % 16 ≡ nowOf d
+unfolding all nowOf
+packed d l = at-digit (λ d. 0x2121210 / 2 ^ (4 * d) % 16) nowOf tt d l
+
+-- how a spot is made: what is taken away
+module _ (n k i d : ℕ) (is : d ≡ digit 7 k i) where
+  pub rest-of : (seven : ℕ) → seven ≡ 7 ^ i → put 7 k i 0 + d * seven ≡ k
+  rest-of seven e = rw (is, e) (put-from n k i)
+
+  pub side-of : (three side told : ℕ) → i < n → side ≡ nowNumber n k → told ≡ nowOf d → three ≡ 3 ^ i
+      → nowNumber n (put 7 k i 0) + told * three ≡ side
+  side-of three side told l s e f = rw (s, e, is, f) (sym (side-from n k i l))
+
+-- at a spot: where the state with the digit e stands, and which side it has
+module _ {n k i rest side seven three : ℕ} (s : Spotted n k i rest side seven three) where
+  pub spot-at : (e : ℕ) → put 7 k i e ≡ rest + e * seven
+  spot-at e = rw (s .rest-is, s .seven-is) (put-rest n k i e)
+
+  pub spot-side : (e : ℕ) → e < 7 → nowNumber n (put 7 k i e) ≡ side + nowOf e * three
+  spot-side e l = rw (s .side-is, s .three-is) (side-rest n k i e l (s .setting))
+
+  pub spot-below : (e : ℕ) → e < 7 → rest + e * seven < 7 ^ n
+  spot-below e l = rw (spot-at e) at (put-lt pos k i n e (s .state) (s .setting) l)
+
+  pub spot-states : 7 ^ n ≤ 823543
+  spot-states = pow-seven n (s .few)
+
+  pub spot-sides : (e : ℕ) → e < 7 → side + nowOf e * three < 2187
+  spot-sides e l = rw (spot-side e l) at (below-sides n (put 7 k i e) (s .few))

@@ -1,0 +1,57 @@
+// The rank of every knowledge number, spread from the states that are settled. The crate knows two
+// tables of what is permitted and the marks, and nothing of books, rules or posts. It refuses nothing:
+// its functions have a `requires`, for this repository alone. Of the lent ranks it changes only
+// entries below 7^n that hold 255.
+mod push;
+mod round;
+mod scan;
+
+use round::round;
+pub use round::side_of;
+ghost use mathlib.Core.Path.{_≡_};
+ghost use Prim.Native.Nat.{_^_, _≤_};
+ghost use Rattle.spread.specs.Spread.{Ready, Spread};
+
+// How many present sides seven settings have.
+const SIDES: usize = 2187;
+// The most settings.
+const SETTINGS: usize = 7;
+// The entry of a state from which no plan works.
+const NONE: u8 = 255;
+
+// How many knowledge numbers n settings have.
+pub fn states(n: usize) -> usize
+    requires { ⌜ n ≤ 7 ⌝ }
+    ensures { λ r. ⌜ r ≡ 7 ^ n ⌝ }
+{
+    let mut power = 1;
+    let mut i = 0;
+    while i < n {
+        power *= 7;
+        i += 1;
+    }
+    power
+}
+
+// Gives every knowledge number of n settings its rank. An entry of `set` and of `look`, by setting and
+// present side, is not 0 where the setting may be set, or looked at. `ranks` comes with 0 where the goal
+// is settled and with 255 elsewhere. Round h pushes from the states of rank h - 1 to those before them.
+pub fn spread(
+    n: u8,
+    set: &[[u8; SIDES]; SETTINGS],
+    look: &[[u8; SIDES]; SETTINGS],
+    ranks: &mut [u8],
+)
+    requires { ⌜ Ready n (now ranks) ⌝ }
+    ensures { λ _. ⌜ Spread n (now (set .entry)) (now (look .entry)) (now (ranks .entry)) (now (ranks .exit)) ⌝ }
+{
+    let settings = n as usize;
+    let size = states(settings);
+    let mut h: u8 = 1;
+    while h < NONE {
+        if round(settings, size, h, set, look, ranks) == 0 {
+            return;
+        }
+        h += 1;
+    }
+}

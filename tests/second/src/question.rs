@@ -1,0 +1,92 @@
+//! A question: a book, a team, what it knows, and a goal; from paper 01's refusals 6 to 12 alone.
+
+use crate::book;
+use crate::knowledge::{known_to_hold, learnt, Act, Kind, Knowledge, DIGITS};
+use crate::refusal::{refusal, Refusal};
+use crate::tables::all;
+
+/// As it is handed over: bytes of any length and content. Bit q of the team is post index q; bit i of `known` and
+/// `values` is setting i. The learn tables stand one after the other.
+#[derive(Clone)]
+pub struct Question {
+    pub book: Vec<u8>,
+    pub team: u8,
+    pub known: u8,
+    pub values: u8,
+    pub make: Vec<u8>,
+    pub learn: Vec<u8>,
+}
+
+/// A question that nothing is refused of.
+pub struct Asked {
+    pub n: usize,
+    team: u8,
+    rules: Vec<u128>,
+    pub start: Knowledge,
+    make: u128,
+    learn: Vec<u128>,
+}
+
+impl Question {
+    /// The book's 6 to 9, then 10, 11, 12.
+    pub fn read(&self) -> Result<Asked, Refusal> {
+        let book = book::read(&self.book, usize::MAX)?;
+        let n = book.n;
+        if self.team == 0 || u32::from(self.team) >= 1 << book.m {
+            return refusal(10, 0);
+        }
+        if u32::from(self.known) >= 1 << n || self.values & !self.known != 0 {
+            return refusal(11, 0);
+        }
+        if self.make.len() != 16 || !matches!(self.learn.len(), 0 | 16 | 32 | 48 | 64) {
+            return refusal(12, 0);
+        }
+        let make = bits(&self.make);
+        let learn: Vec<u128> = self.learn.chunks(16).map(bits).collect();
+        if make & !all(n) != 0 || learn.iter().any(|table| table & !all(n) != 0) {
+            return refusal(12, 0);
+        }
+        let start = Knowledge::at_start(n, self.known, self.values);
+        Ok(Asked { n, team: self.team, rules: book.rights.chunks(16).map(bits).collect(), start, make, learn })
+    }
+}
+
+/// Bit v of the number is bit v mod 8 of byte v / 8.
+pub fn bits(table: &[u8]) -> u128 {
+    u128::from_le_bytes(table.try_into().unwrap())
+}
+
+impl Asked {
+    /// Whether the act is one of this book and team.
+    pub fn names(&self, act: Act) -> bool {
+        act.setting < self.n && self.team >> act.post & 1 == 1
+    }
+
+    /// The look table for post index q is at byte 32 × q of its setting's 256, the set table 16 later.
+    pub fn rule(&self, act: Act) -> u128 {
+        self.rules[act.setting * 16 + act.post * 2 + usize::from(act.kind != Kind::Look)]
+    }
+
+    /// Set where the set rule is known to hold; look where the look rule is, and the digit is 0.
+    pub fn permits(&self, knowledge: &Knowledge, act: Act) -> bool {
+        self.permits_where(knowledge, knowledge.presents(), act)
+    }
+
+    /// The same for one who asks of many acts and has all fitting present valuations at hand.
+    pub fn permits_where(&self, knowledge: &Knowledge, presents: u128, act: Act) -> bool {
+        let new = act.kind != Kind::Look || knowledge.of_setting(act.setting) == DIGITS[0];
+        self.names(act) && new && known_to_hold(self.rule(act), presents)
+    }
+
+    /// All acts there are, by their bytes.
+    pub fn acts(&self) -> Vec<Act> {
+        (1..=168).filter_map(Act::of_byte).filter(|&act| self.names(act)).collect()
+    }
+
+    /// The make formula is true at every fitting present valuation, and each learn formula has one same value at all
+    /// fitting start valuations.
+    pub fn settled(&self, knowledge: &Knowledge) -> bool {
+        known_to_hold(self.make, knowledge.presents())
+            && self.learn.iter().all(|&formula| learnt(formula, knowledge.starts()))
+    }
+}
