@@ -8,7 +8,8 @@ use Prim.Native.Nat.{ℕ, _≤_, _<_}
 use native.Mathlib.Nat.{zero-add}
 use native.Mathlib.Omega.{arith}
 use lib.Dec.{lit≤}
-use lib.ListN.{length}
+use lib.ListN.{length, take, drop}
+use lib.Seq.{take-at}
 use Rattle.ground.proofs.Bools.{lt-or-ge}
 use Rattle.book.specs.Order.{First}
 use Rattle.book.proofs.Theorems.{sound-one}
@@ -24,7 +25,8 @@ use Rattle.plan.proofs.Faults as Faults
 use Rattle.plan.proofs.Accepted as Plans
 use Rattle.finder.specs.Rows.{questionRows}
 use Rattle.finder.specs.Rows as Q
-use Rattle.finder.specs.Finds.{ValidQuestion}
+use Rattle.finder.specs.Finds.{ValidQuestion, Finds}
+use Rattle.finder.specs.declared.finding.Answer.the-variants.{Reach, Cannot}
 use Rattle.finder.specs.declared.question.Question.{Question}
 use Rattle.finder.specs.declared.question.Refusal as R
 use Rattle.plancheck.specs.Refusals.{refusalOf}
@@ -157,7 +159,7 @@ pub empty-plan : {book : List ℕ} {q : Question} {make learn : List ℕ} {n m :
     → Checks book q make learn [] (Refused (TooSoon 0))
 empty-plan {n = n} {m = m} valid = inr (too-soon, refl, record { n = n; m = m; valid = valid; short = lit≤ tt; judged = refl })
 
--- what `find` writes, `check` accepts: the bytes of the written plan get a yes
+-- the bytes of the written plan get a yes
 pub written-accepted : {book : List ℕ} {q : Question} {make learn : List ℕ} {n m : ℕ} → ValidQuestion book q make learn n m
     → (p : Plan) → Written (systemFor n book q make learn) (startOf q) p → Checks book q make learn (encode p) Yes
 written-accepted {book} {q} {make} {learn} {n} {m} valid p w =
@@ -172,3 +174,26 @@ written-accepted {book} {q} {make} {learn} {n} {m} valid p w =
       short = Plans.written-most law few (startOf q) p (rank .0) w (rank .1) low;
       judged = Plans.written-accepted law few (startOf q) p w;
     }
+
+-- ---- the finder's answers and the check: a finder's contract is `Finds`
+
+module _ (book : List ℕ) (q : Question) (make learn ranks room : List ℕ) (ranks′ room′ : List ℕ) where
+  -- what `find` writes, `check` accepts
+  pub found-accepted : (h size : ℕ) → Finds book q make learn ranks room (Reach h size) ranks′ room′ → Checks book q make learn (take size room′) Yes
+  found-accepted h size (inl u) = absurd (let e = u .answered in let z : _≡_ {A = ℕ} 0 1 = cc in omega arith)
+  found-accepted h size (inr (n, m, valid, fits, filled, (least, (p, written, long, short, bytes)))) =
+      let same : take size room′ ≡ encode p = ap (take size) bytes ∙ take-at (encode p) (drop size room) size (sym long) in
+      rw same (written-accepted valid p written)
+
+  -- no accepted plan is lower than the height that `find` names
+  pub found-least : (h size : ℕ) → Finds book q make learn ranks room (Reach h size) ranks′ room′ → (plan : List ℕ) → Checks book q make learn plan Yes
+      → (p : Plan) × (plan ≡ encode p) × (h ≤ height p)
+  found-least h size (inl u) plan said = absurd (let e = u .answered in let z : _≡_ {A = ℕ} 0 1 = cc in omega arith)
+  found-least h size (inr (n, m, valid, fits, filled, (least, more))) plan said =
+      let w = accepted-height valid plan said h (inl least) in (w .0, w .2, w .3)
+
+  -- where `find` says "cannot", no plan is accepted
+  pub cannot-accepted : Finds book q make learn ranks room Cannot ranks′ room′ → (plan : List ℕ) → Checks book q make learn plan Yes → ⊥
+  cannot-accepted (inl u) plan said = let e = u .answered in let z : _≡_ {A = ℕ} 0 1 = cc in omega arith
+  cannot-accepted (inr (n, m, valid, fits, filled, (none, kept))) plan said =
+      let w = accepted-height valid plan said 255 (inr (refl, none)) in none (w .0) (w .1)
