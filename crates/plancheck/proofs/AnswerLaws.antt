@@ -1,0 +1,92 @@
+-- Which answer a question and a plan get, from what the code found: the rows of the question, then 16, then the judgement on the bytes.
+use mathlib.Core.Path.{_≡_, refl, sym, ap, _∙_, subst}
+use mathlib.Core.Logic.{inl, inr}
+use mathlib.Core.List.{List, [], _∷_}
+use Prim.Native.Nat.{ℕ, _^_, _≤_, _<_}
+use lib.Dec.{lit<}
+use lib.ListN.{length}
+use Rattle.ground.specs.Digits.{bit}
+use Rattle.knowledge.specs.Number.{digitIn, numberOf, firstAt, firstDigits}
+use Rattle.knowledge.proofs.Seven.{first-lt}
+use Rattle.knowledge.proofs.Number.{sum-lt}
+use Rattle.knowledge.proofs.States.{number-state, first-state}
+use Rattle.book.specs.Order.{only, First}
+use Rattle.book.proofs.OrderLaws.{least-only, first-left, first-right}
+use Rattle.plan.specs.Check.{Fault, no-act, not-permitted, not-settled, too-soon, left-over, Verdict, accepted, faulty, check}
+use Rattle.finder.specs.Question.{systemOf, startNumber}
+use Rattle.finder.specs.Rows.{questionRows}
+use Rattle.finder.specs.Rows as Q
+use Rattle.finder.specs.Finds.{ValidQuestion, Asks}
+use Rattle.finder.specs.declared.question.Question.{Question}
+use Rattle.finder.specs.declared.question.Refusal as Q2
+use Rattle.finder.specs.declared.question.Asked.{Asked}
+use Rattle.finder.specs.declared.question.Asked.the-variants.{Valid, Not}
+use Rattle.finder.proofs.RowLaws.{question-clear}
+use Rattle.plancheck.specs.Refusals.{number, place, faultNumber, refusalOf, checkRows}
+use Rattle.plancheck.specs.Checks.{startOf, Judged, Refuses, Checks}
+use Rattle.plancheck.specs.Inner.{answerOf}
+use Rattle.plancheck.specs.declared.answer.Refusal.{Refusal}
+use Rattle.plancheck.specs.declared.answer.CheckAnswer.{CheckAnswer}
+
+-- ---- the start
+
+-- seven digits make a number below 7 ^ 7
+pub start-small : (known values : ℕ) → startNumber known values < 7 ^ 7
+unfolding startNumber firstAt
+start-small known values = sum-lt (lit< tt) (firstAt known values) 7 (λ i l. first-lt (bit known i) (bit values i))
+
+-- the number of the state at the start
+pub start-is : (known values : ℕ) {ds : List ℕ} {x : ℕ} → ds ≡ firstDigits known values → x ≡ numberOf 7 (digitIn ds) → x ≡ startNumber known values
+unfolding startNumber
+start-is known values e f =
+    f ∙ ap (λ (l : List ℕ). numberOf 7 (digitIn l)) (e ∙ first-state known values) ∙ number-state (numberOf 7 (firstAt known values)) (start-small known values)
+
+-- ---- the answer
+
+-- the number and the place of a fault's refusal
+pub fault-number : (f : Fault) (i : ℕ) → number (refusalOf f i) ≡ faultNumber f
+fault-number no-act i = refl
+fault-number not-permitted i = refl
+fault-number not-settled i = refl
+fault-number too-soon i = refl
+fault-number left-over i = refl
+
+pub fault-place : (f : Fault) (i : ℕ) → place (refusalOf f i) ≡ i
+fault-place no-act i = refl
+fault-place not-permitted i = refl
+fault-place not-settled i = refl
+fault-place too-soon i = refl
+fault-place left-over i = refl
+
+module _ (book : List ℕ) (q : Question) (make learn plan : List ℕ) where
+  -- what `ask` ensures of its answer, once the answer is known
+  pub as-valid : {a : Asked} {n m : ℕ} → a ≡ Valid n m → Asks book q make learn a → ValidQuestion book q make learn n m
+  as-valid e h = subst (Asks book q make learn) e h
+
+  pub as-not : {a : Asked} {why : Q2.Refusal} → a ≡ Not why → Asks book q make learn a
+      → First (questionRows book (q .team) (q .known) (q .values) make learn) (Q.number why) (Q.place why)
+  as-not e h = subst (Asks book q make learn) e h
+
+  -- the question's refusals come first
+  pub question-row : (x p : ℕ) → First (questionRows book (q .team) (q .known) (q .values) make learn) x p → Refuses book q make learn plan x p
+  unfolding checkRows
+  question-row x p f = inl (first-left (questionRows book (q .team) (q .known) (q .values) make learn) (record { number = 16; given = only (32640 < length plan) } ∷ []) x p f)
+
+  -- then 16
+  pub long-row : {n m : ℕ} → ValidQuestion book q make learn n m → 32640 < length plan → Refuses book q make learn plan 16 0
+  unfolding checkRows
+  long-row v l =
+      inl (first-right (questionRows book (q .team) (q .known) (q .values) make learn) (record { number = 16; given = only (32640 < length plan) } ∷ []) 16 0
+      (question-clear book (q .team) (q .known) (q .values) make learn (v .sound) (v .team) (v .known) (v .goal)) (inl (refl, least-only l)))
+
+  -- then the judgement on the bytes
+  pub judged-checks : (v : Verdict) → Judged book q make learn plan v → Checks book q make learn plan (answerOf v)
+  judged-checks accepted j = j
+  judged-checks (faulty f i) j =
+      inr (f, fault-number f i, subst (λ (p : ℕ). Judged book q make learn plan (faulty f p)) (sym (fault-place f i)) j)
+
+  pub verdict-checks : {n m s : ℕ} {r : CheckAnswer} → ValidQuestion book q make learn n m → length plan ≤ 32640 → s ≡ startOf q
+      → r ≡ answerOf (check (systemOf n book (q .team) make learn) s plan) → Checks book q make learn plan r
+  verdict-checks {n} {m} v l e f =
+      subst (Checks book q make learn plan) (sym (f ∙ ap (λ (s : ℕ). answerOf (check (systemOf n book (q .team) make learn) s plan)) e))
+      (judged-checks (check (systemOf n book (q .team) make learn) (startOf q) plan) (record { n = n; m = m; valid = v; short = l; judged = refl }))

@@ -1,0 +1,67 @@
+-- Paper 01's marked example on the plan check, computed: "P10 for P9 the plan 1, 0: 19 at 1". Setting first and learning afterwards does not
+-- learn.
+use mathlib.Core.Path.{_≡_, refl, sym, subst, _∙_}
+use mathlib.Core.List.{List, [], _∷_}
+use mathlib.Core.Logic.{inr}
+use mathlib.Core.Bool.{false, not}
+use Prim.Native.Nat.{ℕ}
+use lib.Dec.{T, lit<, lit≤}
+use lib.ListN.{replicate}
+use Rattle.ground.specs.Digits.{digit, put, bit}
+use Rattle.ground.specs.Search.{all}
+use Rattle.ground.specs.Table.{truth}
+use Rattle.book.specs.Rule.{rule}
+use Rattle.book.specs.declared.rule.Right.the-variants.{Set as set-rule}
+use Rattle.knowledge.specs.Seven.{startOf, nowOf, afterSet, firstDigit}
+use Rattle.knowledge.specs.Number.{sumOf, firstAt}
+use Rattle.knowledge.specs.Fits.{agrees, fits, always, known, learnSettled}
+use Rattle.knowledge.specs.declared.act.Act.the-variants.{Set}
+use Rattle.knowledge.specs.Acts.{actOf, offered, permitted, setTo}
+use Rattle.plan.specs.Plans.{may}
+use Rattle.plan.proofs.Check.{judge-on, judge-fails, read-act, read-unsettled}
+use Rattle.plan.specs.Check.{not-settled, faulty, check}
+use Rattle.sides.specs.Over.{learnTable, allSettled}
+use Rattle.finder.specs.Question.{settled, systemOf, startNumber}
+use Rattle.finder.specs.Finds.{ValidQuestion}
+use Rattle.finder.specs.declared.question.Question.{Question}
+use Rattle.plancheck.specs.Checks.{Checks}
+use Rattle.plancheck.specs.declared.answer.Refusal.the-variants.{NotSettled}
+use Rattle.plancheck.specs.declared.answer.CheckAnswer.the-variants.{Refused}
+
+-- the tables over one setting of `1`, `~a` and `a`
+abbrev pub always-true : List ℕ
+always-true = 3 ∷ replicate 15 0
+
+abbrev pub not-a : List ℕ
+not-a = 1 ∷ replicate 15 0
+
+abbrev pub is-a : List ℕ
+is-a = 2 ∷ replicate 15 0
+
+-- post 1 alone, with nothing known
+abbrev pub p9-question : Question
+p9-question = record { team = 1; known = 0; values = 0 }
+
+-- "n = 1, look and set rules `1`, make `~a`, learn `a`", "the plan 1, 0": the look rule is not asked for
+-- its first byte is a set that may be done
+first-set : (book : List ℕ) → rule book 0 0 set-rule ≡ always-true → T (may (systemOf 1 book 1 not-a is-a) 0 (Set 0 0 false))
+unfolding systemOf offered permitted known always fits agrees nowOf truth all digit bit
+first-set book e = subst (λ (t : List ℕ). T (known 1 (digit 7 0) t)) (sym e) tt
+
+-- after which nothing is known of the start, so that the learn formula is not settled
+then-stop : (book : List ℕ) → T (not (systemOf 1 book 1 not-a is-a .goal (setTo 0 0 false)))
+unfolding systemOf settled allSettled learnTable setTo known learnSettled always fits agrees afterSet nowOf startOf truth all digit put bit
+then-stop book = tt
+
+pub p10-judged : (book : List ℕ) → rule book 0 0 set-rule ≡ always-true
+    → check (systemOf 1 book 1 not-a is-a) (startNumber 0 0) (1 ∷ 0 ∷ []) ≡ faulty not-settled 1
+unfolding startNumber sumOf firstAt firstDigit actOf digit bit
+p10-judged book e =
+    judge-on (systemOf 1 book 1 not-a is-a) 0 [] 0 1 (0 ∷ []) (setTo 0 0 false ∷ [])
+    (read-act (systemOf 1 book 1 not-a is-a) 0 1 (Set 0 0 false) (lit< tt) refl (first-set book e))
+    ∙ judge-fails (systemOf 1 book 1 not-a is-a) (setTo 0 0 false) [] 1 0 [] not-settled
+    (read-unsettled (systemOf 1 book 1 not-a is-a) (setTo 0 0 false) (then-stop book))
+
+pub p10 : {book : List ℕ} {m : ℕ} → ValidQuestion book p9-question not-a is-a 1 m → rule book 0 0 set-rule ≡ always-true
+    → Checks book p9-question not-a is-a (1 ∷ 0 ∷ []) (Refused (NotSettled 1))
+p10 {book} {m} valid e = inr (not-settled, refl, record { n = 1; m = m; valid = valid; short = lit≤ tt; judged = p10-judged book e })

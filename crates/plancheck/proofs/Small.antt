@@ -1,0 +1,59 @@
+-- How large a refusal's number and place are: for those who pack the two into one number. A place is a block of the book, the index of a
+-- byte, or the plan's length.
+use mathlib.Core.Path.{ap}
+use mathlib.Core.Logic.{inl, inr}
+use mathlib.Core.List.{List, []}
+use Prim.Native.Nat.{ℕ, _≤_, _<_}
+use native.Mathlib.Omega.{arith}
+use lib.ListN.{length, length-append}
+use Rattle.book.specs.Order.{First}
+use Rattle.book.specs.Refusals.{bookRows, readRows}
+use Rattle.book.proofs.OrderLaws.{first-left, first-split}
+use Rattle.book.proofs.Theorems.{read-place-most}
+use Rattle.plan.proofs.Faults.{fault-out}
+use Rattle.finder.specs.Rows.{questionRows}
+use Rattle.finder.specs.declared.question.Question.{Question}
+use Rattle.plancheck.specs.Refusals.{number, place, checkRows}
+use Rattle.plancheck.specs.Checks.{systemFor, Checks}
+use Rattle.plancheck.specs.declared.answer.Refusal.{Refusal}
+use Rattle.plancheck.specs.declared.answer.Refusal.the-variants.{Question as OfQuestion, TooLong, NoAct, NotPermitted, NotSettled, TooSoon, LeftOver}
+use Rattle.plancheck.specs.declared.answer.CheckAnswer.the-variants.{Refused}
+use Rattle.plancheck.proofs.OneAnswer.{question-number}
+
+pub number-small : (r : Refusal) → number r < 256
+number-small (OfQuestion w) = omega (arith, question-number w)
+number-small TooLong = omega arith
+number-small (NoAct i) = omega arith
+number-small (NotPermitted i) = omega arith
+number-small (NotSettled i) = omega arith
+number-small (TooSoon i) = omega arith
+number-small (LeftOver i) = omega arith
+
+book-place : (book : List ℕ) (x p : ℕ) → First (bookRows book) x p → p ≤ 8
+unfolding readRows
+book-place book x p f = read-place-most book [] x p (first-left (bookRows book) _ x p f)
+
+question-place : (book : List ℕ) (team known values : ℕ) (make learn : List ℕ) (x p : ℕ) → First (questionRows book team known values make learn) x p → p ≤ 8
+unfolding questionRows
+question-place book team known values make learn x p f = elim (first-split (bookRows book) _ x p f) [
+  | inl g ↦ book-place book x p g
+  | inr (c, inl a) ↦ omega (arith, a .1 .here .1)
+  | inr (c, inr (d, inl a)) ↦ omega (arith, a .1 .here .1)
+  | inr (c, inr (d, inr (e, inl a))) ↦ omega (arith, a .1 .here .1)
+  | inr (c, inr (d, inr (e, inr a))) ↦ absurd (a .1)
+]
+
+row-place : (book : List ℕ) (q : Question) (make learn plan : List ℕ) (x p : ℕ) → First (checkRows book q make learn plan) x p → p ≤ 8
+unfolding checkRows
+row-place book q make learn plan x p f =
+    elim (first-split (questionRows book (q .team) (q .known) (q .values) make learn) _ x p f) [
+      | inl g ↦ question-place book (q .team) (q .known) (q .values) make learn x p g
+      | inr (c, inl a) ↦ omega (arith, a .1 .here .1)
+      | inr (c, inr a) ↦ absurd (a .1)
+    ]
+
+pub place-small : (book : List ℕ) (q : Question) (make learn plan : List ℕ) (r : Refusal) → Checks book q make learn plan (Refused r) → place r ≤ 32640
+place-small book q make learn plan r (inl f) = omega (arith, row-place book q make learn plan (number r) (place r) f)
+place-small book q make learn plan r (inr (f, e, j)) =
+    let w = fault-out (systemFor (j .n) book q make learn) plan _ 0 f (place r) (j .judged) in
+    omega (arith, w .1, w .2 .index, simp length-append at (ap length (w .2 .split)), j .short)

@@ -1,0 +1,199 @@
+-- What is proved of the plan check, in one place. Its answer is one alone. It says yes exactly where the bytes are those of a plan that works, up
+-- to 32,640 bytes. Each refusal is given exactly where paper 01 says, at the first fault in reading order. What is written is accepted, and
+-- no accepted plan is lower than the rank.
+use mathlib.Core.Path.{_≡_, refl, sym, ap, ap₂, _∙_, subst}
+use mathlib.Core.Logic.{inl, inr, _↔_}
+use mathlib.Core.List.{List, [], _∷_, _++_, append-nil}
+use Prim.Native.Nat.{ℕ, _≤_, _<_}
+use native.Mathlib.Nat.{zero-add}
+use native.Mathlib.Omega.{arith}
+use lib.Dec.{lit≤}
+use lib.ListN.{length, take, drop}
+use lib.Seq.{take-at}
+use Rattle.ground.proofs.Bools.{lt-or-ge}
+use Rattle.book.specs.Order.{First}
+use Rattle.book.proofs.Theorems.{sound-one}
+use Rattle.plan.specs.Plans.{Lawful, Plan, Works, height}
+use Rattle.plan.specs.Ranks.{IsRank, Written}
+use Rattle.plan.specs.Bytes.{encode}
+use Rattle.plan.specs.Check.{Fault, too-soon, left-over, Verdict, accepted, faulty, check}
+use Rattle.plan.proofs.Ranks.{has-rank, rank-reach}
+use Rattle.plan.proofs.Written.{written-works}
+use Rattle.plan.proofs.Check.{check-exact, judge-plan}
+use Rattle.plan.proofs.Faults.{Reads, fault-in, fault-out}
+use Rattle.plan.proofs.Faults as Faults
+use Rattle.plan.proofs.Accepted as Plans
+use Rattle.finder.specs.Rows.{questionRows}
+use Rattle.finder.specs.Rows as Q
+use Rattle.finder.specs.Finds.{ValidQuestion, Finds}
+use Rattle.finder.specs.declared.finding.Answer.the-variants.{Reach, Cannot}
+use Rattle.finder.specs.declared.question.Question.{Question}
+use Rattle.finder.specs.declared.question.Refusal as R
+use Rattle.plancheck.specs.Refusals.{refusalOf}
+use Rattle.plancheck.specs.Checks.{systemFor, startOf, Judged, Checks}
+use Rattle.plancheck.specs.Inner.{answerOf}
+use Rattle.plancheck.specs.declared.answer.Refusal.the-variants.{Question as OfQuestion, TooLong, TooSoon, LeftOver}
+use Rattle.plancheck.specs.declared.answer.CheckAnswer.{CheckAnswer}
+use Rattle.plancheck.specs.declared.answer.CheckAnswer.the-variants.{Yes, Refused}
+use Rattle.plancheck.proofs.SystemLaws.{valid-lawful}
+use Rattle.plancheck.proofs.EndLaws.{ends, over, whole-plan}
+use Rattle.plancheck.proofs.AnswerLaws.{question-row, long-row, judged-checks}
+use Rattle.plancheck.proofs.OneAnswer.{checks-one, question-out, answer-fault, answer-short}
+use Rattle.plancheck.proofs.walk.check.Reads as check-reads
+use Rattle.plancheck.proofs.answer.Refusal.number.Reads as number-reads
+use Rattle.plancheck.proofs.answer.Refusal.place.Reads as place-reads
+
+-- ---- one result alone: any two that a public function's contract allows are the same; nothing that is lent is written to
+
+pub check-unique : (κs : _) (a : _) (x y : _) (s : _) → check-reads.Post κs a x s → check-reads.Post κs a y s → x ≡ y
+check-unique κs a x y s p q = checks-one _ _ _ _ _ x y p q
+
+pub number-unique : (κs : _) (a : _) (x y : _) (s : _) → number-reads.Post κs a x s → number-reads.Post κs a y s → x ≡ y
+number-unique κs a x y s p q = p ∙ sym q
+
+pub place-unique : (κs : _) (a : _) (x y : _) (s : _) → place-reads.Post κs a x s → place-reads.Post κs a y s → x ≡ y
+place-unique κs a x y s p q = p ∙ sym q
+
+-- ---- 6 to 12: the question's own, whatever the plan
+
+module _ (book : List ℕ) (q : Question) (make learn plan : List ℕ) where
+  pub question-exact : (r : CheckAnswer) → Checks book q make learn plan r → (w : R.Refusal)
+      → (r ≡ Refused (OfQuestion w)) ↔ First (questionRows book (q .team) (q .known) (q .values) make learn) (Q.number w) (Q.place w)
+  question-exact r answer w = (
+    λ e. question-out book q make learn plan w (subst (Checks book q make learn plan) e answer),
+    λ f. checks-one book q make learn plan r (Refused (OfQuestion w)) answer (question-row book q make learn plan (Q.number w) (Q.place w) f),
+  )
+
+-- ---- a valid question
+
+module _ {book : List ℕ} {q : Question} {make learn : List ℕ} {n m : ℕ} (valid : ValidQuestion book q make learn n m) (plan : List ℕ) where
+  few : n ≤ 7
+  few = valid .sound .settings .most
+
+  law : Lawful n (systemFor n book q make learn)
+  law = valid-lawful valid
+
+  -- the judgement, over this n
+  judged-at : {v : Verdict} → Judged book q make learn plan v → check (systemFor n book q make learn) (startOf q) plan ≡ v
+  judged-at j = ap (λ (n : ℕ). check (systemFor n book q make learn) (startOf q) plan) (sound-one (valid .sound) (j .valid .sound) .0) ∙ j .judged
+
+  yes-in : (p : Plan) → length plan ≤ 32640 → Works (systemFor n book q make learn) (startOf q) p → plan ≡ encode p → Checks book q make learn plan Yes
+  yes-in p l w e = record { n = n; m = m; valid = valid; short = l; judged = check-exact law few (startOf q) plan .1 (p, w, e) }
+
+  module _ (r : CheckAnswer) (answer : Checks book q make learn plan r) where
+    -- demand 2: yes exactly where the bytes are those of a plan that works, up to 32,640 bytes
+    pub yes-exact : (r ≡ Yes) ↔ ((length plan ≤ 32640) × ((p : Plan) × Works (systemFor n book q make learn) (startOf q) p × (plan ≡ encode p)))
+    yes-exact = (
+      λ e. let j : Judged book q make learn plan accepted = subst (Checks book q make learn plan) e answer in
+          (j .short, check-exact law few (startOf q) plan .0 (judged-at j)),
+      λ w. checks-one book q make learn plan r Yes answer (yes-in (w .1 .0) (w .0) (w .1 .1) (w .1 .2)),
+    )
+
+    -- a plan of at most 32,640 bytes gets the answer of the judgement on its bytes
+    answer-is : length plan ≤ 32640 → r ≡ answerOf (check (systemFor n book q make learn) (startOf q) plan)
+    answer-is l =
+        checks-one book q make learn plan r _ answer
+        (judged-checks book q make learn plan (check (systemFor n book q make learn) (startOf q) plan)
+        (record { n = n; m = m; valid = valid; short = l; judged = refl }))
+
+    -- 16 "plan to check over 32,640 bytes"
+    pub long-exact : (r ≡ Refused TooLong) ↔ (32640 < length plan)
+    long-exact = (
+      λ e. elim (lt-or-ge 32640 (length plan)) [
+        | inl l ↦ l
+        | inr l ↦ absurd (answer-short (check (systemFor n book q make learn) (startOf q) plan) (sym (answer-is l) ∙ e))
+      ],
+      λ l. checks-one book q make learn plan r (Refused TooLong) answer (long-row book q make learn plan valid l),
+    )
+
+    module _ (short : length plan ≤ 32640) where
+      -- 17 to 21: "the first fault in reading order". All bytes before it read without one, and it is the fault of the byte that stands
+      -- there, or of the end; `fault-means` of ByteLaws says in paper 01's words what a byte's fault is
+      pub fault-exact : (f : Fault) (i : ℕ) → (r ≡ Refused (refusalOf f i)) ↔ Faults.First (systemFor n book q make learn) (startOf q ∷ []) plan f i
+      fault-exact f i = (
+        λ e. let w = fault-out (systemFor n book q make learn) plan (startOf q ∷ []) 0 f i
+            (answer-fault (check (systemFor n book q make learn) (startOf q) plan) f i (sym (answer-is short) ∙ e)) in
+            subst (Faults.First (systemFor n book q make learn) (startOf q ∷ []) plan f) (omega (arith, w .1)) (w .2),
+        λ w. answer-is short ∙ ap answerOf (fault-in (systemFor n book q make learn) (startOf q ∷ []) plan 0 f i w ∙ ap (faulty f) (zero-add i)),
+      )
+
+      -- 20 "plan ends too soon", at its length: all its bytes read without a fault, and a state is still pending
+      pub soon-exact : (i : ℕ) → (r ≡ Refused (TooSoon i))
+          ↔ ((i ≡ length plan) × ((k : ℕ) × ((ks : List ℕ) × Reads (systemFor n book q make learn) (startOf q ∷ []) plan (k ∷ ks))))
+      soon-exact i = (
+        λ e. let w = fault-exact too-soon i .0 e in
+            let (nothing-left, (k, (ks, pending))) = ends (systemFor n book q make learn) (w .pending) (w .left) (w .wrong) in
+            let whole : w .before ≡ plan = sym (w .split ∙ ap (λ (l : List ℕ). w .before ++ l) nothing-left ∙ append-nil (w .before)) in
+            (w .index ∙ ap length whole, (k, (ks, rw (whole, pending) at (w .reads)))),
+        λ (e, (k, (ks, reads))). fault-exact too-soon i .1 (record {
+          before = plan;
+          left = [];
+          pending = k ∷ ks;
+          split = sym (append-nil plan);
+          index = e;
+          reads = reads;
+          wrong = refl;
+        }),
+      )
+
+      -- 21 "bytes after a whole plan", at the first of them
+      pub over-exact : (i : ℕ) → (r ≡ Refused (LeftOver i))
+          ↔ ((p : Plan) × Works (systemFor n book q make learn) (startOf q) p × (i ≡ length (encode p)) × ((c : ℕ) × ((cs : List ℕ) × (plan ≡ encode p ++ c ∷ cs))))
+      over-exact i = (
+        λ e. let w = fault-exact left-over i .0 e in
+            let (none-pending, (c, (cs, left))) = over (systemFor n book q make learn) (w .pending) (w .left) (w .wrong) in
+            let (p, works, bytes) = whole-plan law few (startOf q) (w .before) (rw none-pending at (w .reads)) in
+            (p, works, w .index ∙ ap length bytes, (c, (cs, w .split ∙ ap₂ _++_ bytes left))),
+        λ (p, works, e, (c, (cs, f))). answer-is short
+            ∙ ap answerOf (ap (check (systemFor n book q make learn) (startOf q)) f ∙ judge-plan law few p (startOf q) [] 0 (c ∷ cs) works
+            ∙ ap (faulty left-over) (zero-add (length (encode p)) ∙ sym e)),
+      )
+
+  -- no accepted plan is lower than the rank
+  pub accepted-height : Checks book q make learn plan Yes → (rank : ℕ) → IsRank (systemFor n book q make learn) (startOf q) rank
+      → (p : Plan) × Works (systemFor n book q make learn) (startOf q) p × (plan ≡ encode p) × (rank ≤ height p)
+  accepted-height j rank is = Plans.accepted-plan law few (startOf q) plan rank is (judged-at j)
+
+-- "the empty plan is 20 at 0"
+pub empty-plan : {book : List ℕ} {q : Question} {make learn : List ℕ} {n m : ℕ} → ValidQuestion book q make learn n m
+    → Checks book q make learn [] (Refused (TooSoon 0))
+empty-plan {n = n} {m = m} valid = inr (too-soon, refl, record { n = n; m = m; valid = valid; short = lit≤ tt; judged = refl })
+
+-- the bytes of the written plan get a yes
+pub written-accepted : {book : List ℕ} {q : Question} {make learn : List ℕ} {n m : ℕ} → ValidQuestion book q make learn n m
+    → (p : Plan) → Written (systemFor n book q make learn) (startOf q) p → Checks book q make learn (encode p) Yes
+written-accepted {book} {q} {make} {learn} {n} {m} valid p w =
+    let few = valid .sound .settings .most in
+    let law = valid-lawful valid in
+    let rank = has-rank law (startOf q) in
+    let low = rank-reach law (startOf q) (rank .0) few (rank .1) .1 (p, written-works (systemFor n book q make learn) p (startOf q) w) in
+    record {
+      n = n;
+      m = m;
+      valid = valid;
+      short = Plans.written-most law few (startOf q) p (rank .0) w (rank .1) low;
+      judged = Plans.written-accepted law few (startOf q) p w;
+    }
+
+-- ---- the finder's answers and the check: a finder's contract is `Finds`
+
+module _ (book : List ℕ) (q : Question) (make learn ranks room : List ℕ) (ranks′ room′ : List ℕ) where
+  -- what `find` writes, `check` accepts
+  pub found-accepted : (h size : ℕ) → Finds book q make learn ranks room (Reach h size) ranks′ room′ → Checks book q make learn (take size room′) Yes
+  found-accepted h size (inl u) = absurd (let e = u .answered in let z : _≡_ {A = ℕ} 0 1 = cc in omega arith)
+  found-accepted h size (inr (n, m, valid, fits, filled, (least, (p, written, long, short, bytes)))) =
+      let same : take size room′ ≡ encode p = ap (take size) bytes ∙ take-at (encode p) (drop size room) size (sym long) in
+      rw same (written-accepted valid p written)
+
+  -- no accepted plan is lower than the height that `find` names
+  pub found-least : (h size : ℕ) → Finds book q make learn ranks room (Reach h size) ranks′ room′ → (plan : List ℕ) → Checks book q make learn plan Yes
+      → (p : Plan) × (plan ≡ encode p) × (h ≤ height p)
+  found-least h size (inl u) plan said = absurd (let e = u .answered in let z : _≡_ {A = ℕ} 0 1 = cc in omega arith)
+  found-least h size (inr (n, m, valid, fits, filled, (least, more))) plan said =
+      let w = accepted-height valid plan said h (inl least) in (w .0, w .2, w .3)
+
+  -- where `find` says "cannot", no plan is accepted
+  pub cannot-accepted : Finds book q make learn ranks room Cannot ranks′ room′ → (plan : List ℕ) → Checks book q make learn plan Yes → ⊥
+  cannot-accepted (inl u) plan said = let e = u .answered in let z : _≡_ {A = ℕ} 0 1 = cc in omega arith
+  cannot-accepted (inr (n, m, valid, fits, filled, (none, kept))) plan said =
+      let w = accepted-height valid plan said 255 (inr (refl, none)) in none (w .0) (w .1)

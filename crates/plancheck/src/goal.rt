@@ -1,0 +1,36 @@
+// Whether the goal is settled where the team knows so much.
+use ground::TABLE;
+use knowledge::Knowledge;
+ghost use mathlib.Core.Path.{_≡_};
+ghost use Prim.Native.Nat.{_^_, _≤_, _<_};
+ghost use Rattle.knowledge.specs.Number.{digitIn};
+ghost use Rattle.sides.specs.Over.{allSettled};
+ghost use Rattle.finder.specs.Question.{settled};
+
+// Whether each learn formula has one same value at all start valuations that fit.
+fn learnt(n: u8, learn: &[u8], state: Knowledge) -> bool
+    requires { ⌜ n ≤ 7 ⌝ }
+    ensures { λ r. ⌜ r ≡ allSettled n (digitIn (state .digits)) (now (learn .entry)) ⌝ }
+{
+    let count = learn.len() / TABLE;
+    let mut j = 0;
+    while j < count {
+        if !state.learn_settled(n, learn, TABLE * j) {
+            return false;
+        }
+        j += 1;
+    }
+    true
+}
+
+// Whether the make formula is true at all present valuations that fit, and all is learnt.
+pub fn is_settled(n: u8, make: &[u8], learn: &[u8], k: u32) -> bool
+    requires { ⌜ (n ≤ 7) × (k < 7 ^ 7) ⌝ }
+    ensures { λ r. ⌜ r ≡ settled n (now (make .entry)) (now (learn .entry)) k ⌝ }
+{
+    let state = Knowledge::from_number(k);
+    if !state.known_to_hold(n, make, 0) {
+        return false;
+    }
+    learnt(n, learn, state)
+}
