@@ -3,3 +3,4 @@ pub mod Packed
 pub mod Formula
 pub mod Book
 pub mod Find
+pub mod Check

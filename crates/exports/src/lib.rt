@@ -6,12 +6,14 @@ ghost use Prim.Native.Nat.{_<_, _^_};
 ghost use Rattle.exports.specs.Packed.{packed};
 ghost use Rattle.exports.specs.Formula.{FormulaRead};
 ghost use Rattle.exports.specs.Find.{asked, PlanFound};
+ghost use Rattle.exports.specs.Check.{PlanChecked};
 ghost use Rattle.exports.specs.Book.{BookRead, BookWritten};
 use book::ReadAnswer;
 use book::WriteAnswer;
 use finder::Answer as Found;
 use finder::Question;
 use formula::Answer;
+use plancheck::CheckAnswer;
 
 // The table of a formula. 0, or a refusal, which leaves the 16 bytes as they were.
 #[no_mangle]
@@ -78,6 +80,30 @@ pub extern "C" fn pj_find(
         Found::Reach { height, length } => (height as u64) * 65536 + length as u64,
         Found::Cannot => 0,
         Found::Refused(why) => refusal(why.number(), why.place() as u64),
+    }
+}
+
+// Whether the bytes are those of a plan that works: 0, or a refusal. Nothing is written.
+#[no_mangle]
+pub extern "C" fn pj_plan_check(
+    book: &[u8],
+    team: u8,
+    known: u8,
+    values: u8,
+    make: &[u8],
+    learn: &[u8],
+    plan: &[u8],
+) -> u64
+    ensures { λ r. ⌜ PlanChecked (now (book .entry)) (asked team known values) (now (make .entry)) (now (learn .entry)) (now (plan .entry)) r ⌝ }
+{
+    let question = Question {
+        team,
+        known,
+        values,
+    };
+    match plancheck::check(book, question, make, learn, plan) {
+        CheckAnswer::Yes => 0,
+        CheckAnswer::Refused(why) => refusal(why.number(), why.place() as u64),
     }
 }
 

@@ -20,9 +20,11 @@ u64 pj_book_read(const u8 *book, u64 len, u8 *rights, u64 rights_len);
 u64 pj_book_write(u64 n, u64 m, const u8 *rights, u64 len, u8 *book, u64 book_len);
 u64 pj_find(const u8 *book, u64 book_len, u8 team, u8 known, u8 values, const u8 *make, u64 make_len,
             const u8 *learn, u64 learn_len, u8 *ranks, u64 ranks_len, u8 *plan, u64 plan_len);
+u64 pj_plan_check(const u8 *book, u64 book_len, u8 team, u8 known, u8 values, const u8 *make, u64 make_len,
+                  const u8 *learn, u64 learn_len, const u8 *plan, u64 plan_len);
 
 enum { GUARD = 32, ROOMS_MOST = 8 };
-enum { FORMULA_READ = 1, BOOK_READ = 2, BOOK_WRITE = 3, FIND = 4 };
+enum { FORMULA_READ = 1, BOOK_READ = 2, BOOK_WRITE = 3, FIND = 4, PLAN_CHECK = 5 };
 
 static void fill(void *bytes, u64 size) {
     for (u64 done = 0; done < size;) {
@@ -47,6 +49,8 @@ static u64 call(u64 function, const u64 *number, u8 *const *room, const u64 *len
     case BOOK_WRITE: return pj_book_write(number[0], number[1], room[0], lent[0], room[1], lent[1]);
     case FIND: return pj_find(room[0], lent[0], (u8)number[0], (u8)number[1], (u8)number[2], room[1], lent[1],
                               room[2], lent[2], room[3], lent[3], room[4], lent[4]);
+    case PLAN_CHECK: return pj_plan_check(room[0], lent[0], (u8)number[0], (u8)number[1], (u8)number[2], room[1],
+                                          lent[1], room[2], lent[2], room[3], lent[3]);
     }
     _exit(2);
 }

@@ -40,3 +40,8 @@ pub fn find(
 ) -> u64 {
     route::find(book, masks, make, learn, ranks, plan)
 }
+
+/// Checks a plan's bytes. Yes is 0.
+pub fn plan_check(book: &mut Room, masks: [u8; 3], make: &mut Room, learn: &mut Room, plan: &mut Room) -> u64 {
+    route::plan_check(book, masks, make, learn, plan)
+}

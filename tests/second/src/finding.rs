@@ -57,7 +57,7 @@ fn ranks_of(n: usize) -> usize {
 }
 
 /// One case, in rooms that are long enough.
-fn compare(group: &mut Group, question: &Question) -> Result<Solution, Refusal> {
+pub fn compare(group: &mut Group, question: &Question) -> Result<Solution, Refusal> {
     let solution = finder::find(question);
     let (rank_room, plan_room) = match &solution {
         Ok(Solution { ranks, found: Found::Reach { plan, .. } }) => (ranks.len(), plan.len()),

@@ -6,6 +6,7 @@
 
 mod book;
 mod books;
+mod checking;
 mod damage;
 mod fast;
 mod ffi;
@@ -15,12 +16,16 @@ mod formula;
 mod formulas;
 mod grow;
 mod knowledge;
+mod plan;
+mod plans;
 mod question;
 mod questions;
 mod refusal;
 mod report;
 mod rng;
 mod room;
+mod run;
+mod secrets;
 mod sentences;
 mod tables;
 
@@ -43,6 +48,8 @@ const AREAS: &[Area] = &[
     Area { name: "reading books", functions: &["pj_book_read"], test: books::reading },
     Area { name: "writing books", functions: &["pj_book_write"], test: books::writing },
     Area { name: "finding", functions: &["pj_find"], test: finding::test },
+    Area { name: "checking plans", functions: &["pj_plan_check"], test: checking::test },
+    Area { name: "secrets", functions: &["pj_find"], test: secrets::test },
 ];
 
 fn main() -> ExitCode {

@@ -11,6 +11,7 @@ const FORMULA_READ: u64 = 1;
 const BOOK_READ: u64 = 2;
 const BOOK_WRITE: u64 = 3;
 const FIND: u64 = 4;
+const PLAN_CHECK: u64 = 5;
 
 pub fn formula_read(n: u64, text: &mut Room, table: &mut Room) -> u64 {
     call(FORMULA_READ, &[n], &mut [text, table])
@@ -33,6 +34,10 @@ pub fn find(
     plan: &mut Room,
 ) -> u64 {
     call(FIND, &masks.map(u64::from), &mut [book, make, learn, ranks, plan])
+}
+
+pub fn plan_check(book: &mut Room, masks: [u8; 3], make: &mut Room, learn: &mut Room, plan: &mut Room) -> u64 {
+    call(PLAN_CHECK, &masks.map(u64::from), &mut [book, make, learn, plan])
 }
 
 struct Host {

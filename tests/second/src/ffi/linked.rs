@@ -22,6 +22,19 @@ extern "C" {
         plan: *mut u8,
         plan_len: u64,
     ) -> u64;
+    fn pj_plan_check(
+        book: *const u8,
+        book_len: u64,
+        team: u8,
+        known: u8,
+        values: u8,
+        make: *const u8,
+        make_len: u64,
+        learn: *const u8,
+        learn_len: u64,
+        plan: *const u8,
+        plan_len: u64,
+    ) -> u64;
 }
 
 /// The pointer may be used over the whole room, guards too, so a stray store is found and is not undefined.
@@ -66,6 +79,30 @@ pub fn find(
             size(learn),
             start(ranks),
             size(ranks),
+            start(plan),
+            size(plan),
+        )
+    }
+}
+
+pub fn plan_check(
+    book: &mut Room,
+    [team, known, values]: [u8; 3],
+    make: &mut Room,
+    learn: &mut Room,
+    plan: &mut Room,
+) -> u64 {
+    unsafe {
+        pj_plan_check(
+            start(book),
+            size(book),
+            team,
+            known,
+            values,
+            start(make),
+            size(make),
+            start(learn),
+            size(learn),
             start(plan),
             size(plan),
         )
