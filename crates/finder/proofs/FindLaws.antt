@@ -45,9 +45,10 @@ use Rattle.finder.proofs.RowLaws.{question-clear}
 
 module _ {n : ℕ} {sets′ looks : List (List ℕ)} {ranks : List ℕ} where
   pub no-rank : {S : System} {k : ℕ} → Told n sets′ looks ranks S → k < 7 ^ n → getD ranks k 0 ≡ 255 → CannotFrom S k
-  no-rank {S} {k} t h e = elim (t .ranked k h)
-    [ inl l ↦ absurd (omega (arith, rank-small (t .law) k (getD ranks k 0) (t .few) l))
-    | inr c ↦ c .1 ]
+  no-rank {S} {k} t h e = elim (t .ranked k h) [
+    | inl l ↦ absurd (omega (arith, rank-small (t .law) k (getD ranks k 0) (t .few) l))
+    | inr c ↦ c .1
+  ]
 
   a-rank : {S : System} {k : ℕ} → Told n sets′ looks ranks S → k < 7 ^ n → getD ranks k 0 < 255 → Least (ReachIn S k) (getD ranks k 0)
   a-rank {S} {k} t h l = elim (t .ranked k h) [ inl x ↦ x | inr c ↦ absurd (omega (arith, c .0)) ]
@@ -84,9 +85,10 @@ start-below n known values few fits =
     (sum-lt (lit< tt) (firstAt known values) n (λ i h. first-lt (bit known i) (bit values i)))
   where
     past : (i : ℕ) → n ≤ i → i < 7 → firstAt known values i ≡ 0
-    past i l h = elim (decide (bit known i))
-      [ inl t ↦ absurd (omega (arith, fits .settings i t))
-      | inr t ↦ rw (T→false (bit known i) t) refl ]
+    past i l h = elim (decide (bit known i)) [
+      | inl t ↦ absurd (omega (arith, fits .settings i t))
+      | inr t ↦ rw (T→false (bit known i) t) refl
+    ]
 
 -- ---- the rank table
 

@@ -48,17 +48,31 @@ module _ {n : ℕ} {sets′ looks : List (List ℕ)} {ranks : List ℕ} where
     -- the states after the act chosen have lower ranks
     pub next-set : (i q : ℕ) (b : Bool) → Chosen (from .system) k (Set i q b) → Ranked n sets′ looks ranks (setTo k i b) × (getD ranks (setTo k i b) 0 < getD ranks k 0)
     next-set i q b c =
-        let l : getD ranks (setTo k i b) 0 < getD ranks k 0 = chosen-lower (from .told) (from .state) c .lower (setTo k i b) (after-set i q b) in
-        (record
-          { few = from .few; state = setTo-lt n k i b (from .state) (chosen-setting (from .told) c); size = from .size
-          ; finite = omega (arith, from .finite); system = from .system; told = from .told }, l)
+        let l : getD ranks (setTo k i b) 0 < getD ranks k 0 = chosen-lower (from .told) (from .state) c .lower (setTo k i b) (after-set i q b) in (
+          record {
+            few = from .few;
+            state = setTo-lt n k i b (from .state) (chosen-setting (from .told) c);
+            size = from .size;
+            finite = omega (arith, from .finite);
+            system = from .system;
+            told = from .told;
+          },
+          l,
+        )
 
     pub next-look : (i q : ℕ) (b : Bool) → Chosen (from .system) k (Look i q) → Ranked n sets′ looks ranks (lookAt k i b) × (getD ranks (lookAt k i b) 0 < getD ranks k 0)
     next-look i q b c =
-        let l : getD ranks (lookAt k i b) 0 < getD ranks k 0 = chosen-lower (from .told) (from .state) c .lower (lookAt k i b) (after-look i q b) in
-        (record
-          { few = from .few; state = lookAt-lt n k i b (from .state) (chosen-setting (from .told) c); size = from .size
-          ; finite = omega (arith, from .finite); system = from .system; told = from .told }, l)
+        let l : getD ranks (lookAt k i b) 0 < getD ranks k 0 = chosen-lower (from .told) (from .state) c .lower (lookAt k i b) (after-look i q b) in (
+          record {
+            few = from .few;
+            state = lookAt-lt n k i b (from .state) (chosen-setting (from .told) c);
+            size = from .size;
+            finite = omega (arith, from .finite);
+            system = from .system;
+            told = from .told;
+          },
+          l,
+        )
 
     pub step-setting : (a : Act) → Chosen (from .system) k a → settingOf a < 7
     step-setting a c = omega (arith, chosen-setting (from .told) c, from .few)
@@ -90,10 +104,11 @@ module _ {n : ℕ} {sets′ looks : List (List ℕ)} {ranks : List ℕ} {k : ℕ
       → ((S : System) → Told n sets′ looks ranks S → (p : Plan) × Written S y p × (s ≡ length (encode p)))
       → (S : System) → Told n sets′ looks ranks S → (p : Plan) × Written S k p × (1 + r + s ≡ length (encode p))
   look-plan {i} {q} c e d f g S t =
-      let a = f S t in let b = g S t in
-      (look-then i q (a .0) (b .0),
-      (c S t, subst (λ (z : ℕ). Written S z (a .0)) e (a .1), subst (λ (z : ℕ). Written S z (b .0)) d (b .1)),
-      omega (arith, a .2, b .2, length-append (encode (a .0)) (encode (b .0))))
+      let a = f S t in let b = g S t in (
+        look-then i q (a .0) (b .0),
+        (c S t, subst (λ (z : ℕ). Written S z (a .0)) e (a .1), subst (λ (z : ℕ). Written S z (b .0)) d (b .1)),
+        omega (arith, a .2, b .2, length-append (encode (a .0)) (encode (b .0))),
+      )
 
 -- ---- the bytes in the room
 
@@ -148,9 +163,10 @@ module _ {n : ℕ} {sets′ looks : List (List ℕ)} {ranks : List ℕ} {k : ℕ
         → ((S : System) → Told n sets′ looks ranks S → (p : Plan) × Written S y p × (last ≡ sets between r (encode p)) × (s ≡ r + length (encode p)))
         → (S : System) → Told n sets′ looks ranks S → (p : Plan) × Written S k p × (last ≡ sets room at (encode p)) × (s ≡ at + length (encode p))
     look-written {at = at} {byte = byte} {room = room} e d v f g S t =
-        let a = f S t in let b = g S t in
-        (look-then i q (a .0) (b .0),
-        (c S t, subst (λ (z : ℕ). Written S z (a .0)) e (a .1), subst (λ (z : ℕ). Written S z (b .0)) d (b .1)),
-        b .2 ∙ ap₂ (λ (l : List ℕ) (j : ℕ). sets l j (encode (b .0))) (a .2) (a .3) ∙ sym (sets-append (set room at byte) (at + 1) (encode (a .0)) (encode (b .0)))
-        ∙ sets-byte room at (byteOf (Look i q)) (encode (a .0) ++ encode (b .0)) v,
-        omega (arith, a .3, b .3, length-append (encode (a .0)) (encode (b .0))))
+        let a = f S t in let b = g S t in (
+          look-then i q (a .0) (b .0),
+          (c S t, subst (λ (z : ℕ). Written S z (a .0)) e (a .1), subst (λ (z : ℕ). Written S z (b .0)) d (b .1)),
+          b .2 ∙ ap₂ (λ (l : List ℕ) (j : ℕ). sets l j (encode (b .0))) (a .2) (a .3) ∙ sym (sets-append (set room at byte) (at + 1) (encode (a .0)) (encode (b .0)))
+              ∙ sets-byte room at (byteOf (Look i q)) (encode (a .0) ++ encode (b .0)) v,
+          omega (arith, a .3, b .3, length-append (encode (a .0)) (encode (b .0))),
+        )

@@ -36,26 +36,32 @@ low-bits k m v h f = subst (λ (x : ℕ). x < 2 ^ m) (sym same) (mod-lt v (pow-p
   where
     past : (i : ℕ) → m ≤ i → bit v i ≡ false
     past i l = elim (decide (bit v i)) [ inl t ↦ absurd (omega (arith, f i t)) | inr t ↦ T→false (bit v i) t ]
+
     at : (i : ℕ) → bit v i ≡ bit (v % 2 ^ m) i
-    at i = elim (lt-or-ge i m)
-      [ inl l ↦ sym (bit-mod m v i l)
-      | inr l ↦ past i l ∙ sym (bit-above (v % 2 ^ m) i (omega (arith, mod-lt v (pow-pos m), pow-mono l))) ]
+    at i = elim (lt-or-ge i m) [
+      | inl l ↦ sym (bit-mod m v i l)
+      | inr l ↦ past i l ∙ sym (bit-above (v % 2 ^ m) i (omega (arith, mod-lt v (pow-pos m), pow-mono l)))
+    ]
+
     same : v ≡ v % 2 ^ m
-    same = elim (lt-or-ge v (2 ^ m))
-      [ inl l ↦ sym (mod-eq-of-lt l)
-      | inr l ↦ same-bits k v (v % 2 ^ m) h (omega (arith, mod-lt v (pow-pos m))) (λ i q. at i) ]
+    same = elim (lt-or-ge v (2 ^ m)) [
+      | inl l ↦ sym (mod-eq-of-lt l)
+      | inr l ↦ same-bits k v (v % 2 ^ m) h (omega (arith, mod-lt v (pow-pos m))) (λ i q. at i)
+    ]
 
 -- and the other way
 pub bits-low : (m v : ℕ) → v < 2 ^ m → (q : ℕ) → T (bit v q) → q < m
-bits-low m v h q t = elim (lt-or-ge q m)
-  [ inl l ↦ l
-  | inr l ↦ both (bit v q) t (false→T (bit-above v q (omega (arith, pow-mono l)))) ]
+bits-low m v h q t = elim (lt-or-ge q m) [
+  | inl l ↦ l
+  | inr l ↦ both (bit v q) t (false→T (bit-above v q (omega (arith, pow-mono l))))
+]
 
 -- nothing is left above the shift exactly where the number is below 2 ^ m
 pub shifted-out : (m v : ℕ) → v / 2 ^ m ≡ 0 → v < 2 ^ m
-shifted-out m v e = elim (lt-or-ge v (2 ^ m))
-  [ inl l ↦ l
-  | inr l ↦ absurd (omega (arith, le-div-iff-mul-le (pow-pos m) .1 (subst (λ (x : ℕ). x ≤ v) (sym (one-mul (2 ^ m))) l))) ]
+shifted-out m v e = elim (lt-or-ge v (2 ^ m)) [
+  | inl l ↦ l
+  | inr l ↦ absurd (omega (arith, le-div-iff-mul-le (pow-pos m) .1 (subst (λ (x : ℕ). x ≤ v) (sym (one-mul (2 ^ m))) l)))
+]
 
 pub team-tells : (m team : ℕ) → team < 256 → (team ≡ 0 → ⊥) → Tells (eqb (team / 2 ^ m) 0) (TeamFits m team)
 team-tells m team h ne =
@@ -69,13 +75,14 @@ known-past n known values h ne f = ne (div-eq-of-lt (low-bits 8 n known h (f .se
 pub known-tells : (n known values : ℕ) → known < 256 → values < 256 → known / 2 ^ n ≡ 0 → Tells (eqb (bitOr known values) known) (KnownFits n known values)
 known-tells n known values hk hv z =
     tells-eqb (bitOr known values) known
-    (λ e. record
-      { settings = bits-low n known (shifted-out n known z)
-      ; valued = λ i t. subst T (sym (bit-or known values i) ∙ ap (λ (x : ℕ). bit x i) e) (or-right (bit known i) (bit values i) t) })
+    (λ e. record {
+      settings = bits-low n known (shifted-out n known z);
+      valued = λ i t. subst T (sym (bit-or known values i) ∙ ap (λ (x : ℕ). bit x i) e) (or-right (bit known i) (bit values i) t);
+    })
     (λ f. same-bits 8 (bitOr known values) known (or-lt 8 known values hk hv) hk
-      (λ i l. bit-or known values i ∙ T-iff (bit known i || bit values i) (bit known i)
-        (λ t. elim (or-out (bit known i) (bit values i) t) [ inl x ↦ x | inr x ↦ f .valued i x ])
-        (λ t. or-left (bit known i) (bit values i) t)))
+    (λ i l. bit-or known values i ∙ T-iff (bit known i || bit values i) (bit known i)
+    (λ t. elim (or-out (bit known i) (bit values i) t) [ inl x ↦ x | inr x ↦ f .valued i x ])
+    (λ t. or-left (bit known i) (bit values i) t)))
 
 -- ---- tables
 
@@ -94,9 +101,10 @@ LearnTo n learn j = (i : ℕ) → i < j → Within n (learnTable learn i)
 
 pub learn-more : (n : ℕ) (learn : List ℕ) (j : ℕ) → LearnTo n learn j → Within n (drop (16 * j) learn) → LearnTo n learn (j + 1)
 unfolding learnTable
-learn-more n learn j f w i l = elim (lt-or-ge i j)
-  [ inl m ↦ f i m
-  | inr m ↦ (let same : i ≡ j = omega arith in rw same (within-take n (drop (16 * j) learn) w)) ]
+learn-more n learn j f w i l = elim (lt-or-ge i j) [
+  | inl m ↦ f i m
+  | inr m ↦ (let same : i ≡ j = omega arith in rw same (within-take n (drop (16 * j) learn) w))
+]
 
 pub learn-bad : (n : ℕ) (learn : List ℕ) (j : ℕ) → j < length learn / 16 → (Within n (drop (16 * j) learn) → ⊥) → LearnWithin n learn → ⊥
 unfolding learnTable

@@ -38,19 +38,21 @@ book-most book x p f = read-place-most book [] x p (first-left (bookRows book) _
 
 question-most : (book : List ℕ) (team known values : ℕ) (make learn : List ℕ) (x p : ℕ) → First (questionRows book team known values make learn) x p → p ≤ 8
 unfolding questionRows
-question-most book team known values make learn x p f = elim (first-split (bookRows book) _ x p f)
-  [ inl g ↦ book-most book x p g
+question-most book team known values make learn x p f = elim (first-split (bookRows book) _ x p f) [
+  | inl g ↦ book-most book x p g
   | inr (c, inl g) ↦ zero-small (g .1)
   | inr (c, inr (a, inl g)) ↦ zero-small (g .1)
   | inr (c, inr (a, inr (b, inl g))) ↦ zero-small (g .1)
-  | inr (c, inr (a, inr (b, inr (d, g)))) ↦ absurd g ]
+  | inr (c, inr (a, inr (b, inr (d, g)))) ↦ absurd g
+]
 
 find-most : (book : List ℕ) (team known values : ℕ) (make learn ranks : List ℕ) (x p : ℕ) → First (findRows book team known values make learn ranks) x p → p ≤ 8
 unfolding findRows
-find-most book team known values make learn ranks x p f = elim (first-split (questionRows book team known values make learn) _ x p f)
-  [ inl g ↦ question-most book team known values make learn x p g
+find-most book team known values make learn ranks x p f = elim (first-split (questionRows book team known values make learn) _ x p f) [
+  | inl g ↦ question-most book team known values make learn x p g
   | inr (c, inl g) ↦ zero-small (g .1)
-  | inr (c, inr (a, g)) ↦ absurd g ]
+  | inr (c, inr (a, g)) ↦ absurd g
+]
 
 module _ (book : List ℕ) (q : Question) (make learn ranks plan ranks′ plan′ : List ℕ) where
   late : (r : Refusal) (S : System) (k : ℕ) → Answers S k plan (Refused r) plan′ → place r ≤ 8

@@ -91,9 +91,10 @@ pub lowest-more : (x q : ℕ) → NoneBelow x q → bit x q ≡ false → NoneBe
 lowest-more x q f e p l = elim (lt-or-ge p q) [ inl m ↦ f p m | inr m ↦ (let same : p ≡ q = omega arith in rw same e) ]
 
 pub lowest-last : (x q : ℕ) → x < 256 → (x ≡ 0 → ⊥) → 7 ≤ q → q ≤ 7 → NoneBelow x q → Least (λ q. T (bit x q)) 7
-lowest-last x q h ne l m f = elim (decide (bit x 7))
-  [ inl t ↦ record { here = t; none-below = λ p k u. both (bit x p) u (false→T (f p (omega arith))) }
-  | inr t ↦ absurd (some-bit x h ne (λ i k. elim (lt-or-ge i 7) [ inl j ↦ f i (omega arith) | inr j ↦ (let same : i ≡ 7 = omega arith in rw same (T→false (bit x 7) t)) ])) ]
+lowest-last x q h ne l m f = elim (decide (bit x 7)) [
+  | inl t ↦ record { here = t; none-below = λ p k u. both (bit x p) u (false→T (f p (omega arith))) }
+  | inr t ↦ absurd (some-bit x h ne (λ i k. elim (lt-or-ge i 7) [ inl j ↦ f i (omega arith) | inr j ↦ (let same : i ≡ 7 = omega arith in rw same (T→false (bit x 7) t)) ]))
+]
 
 -- ---- a step of each kind
 
@@ -116,9 +117,12 @@ module _ {n : ℕ} {sets looks : List (List ℕ)} {ranks : List ℕ} {S : System
 
   pub set-do : (b : Bool) (q : ℕ) → q < 8 → Least (λ q. T (bit (entry sets i (nowNumber n k)) q)) q → getD ranks (setTo k i b) 0 < getD ranks k 0
       → (p : ℕ) × (Set i q b ≡ Set i p b) × Lower S ranks k (Set i p b) × ((x : ℕ) → Lower S ranks k (Set i x b) → p ≤ x)
-  set-do b q h l r =
-      (q, refl, record { allowed = subst T (sym (told .sets k i q b hi h)) (l .here); lower = λ x. after-a-set (λ x. getD ranks x 0 < getD ranks k 0) r },
-      λ x m. elim (lt-or-ge x q) [ inl y ↦ absurd (l .none-below x y (set-bit x b (m .allowed))) | inr y ↦ y ])
+  set-do b q h l r = (
+    q,
+    refl,
+    record { allowed = subst T (sym (told .sets k i q b hi h)) (l .here); lower = λ x. after-a-set (λ x. getD ranks x 0 < getD ranks k 0) r },
+    λ x m. elim (lt-or-ge x q) [ inl y ↦ absurd (l .none-below x y (set-bit x b (m .allowed))) | inr y ↦ y ],
+  )
 
   pub look-seen : (digit 7 k i ≡ 0 → ⊥) → (q : ℕ) → Lower S ranks k (Look i q) → ⊥
   look-seen f q l = f (told .law .looks-at k i q (l .allowed))
@@ -132,9 +136,12 @@ module _ {n : ℕ} {sets looks : List (List ℕ)} {ranks : List ℕ} {S : System
   pub look-do : (q : ℕ) → q < 8 → digit 7 k i ≡ 0 → Least (λ q. T (bit (entry looks i (nowNumber n k)) q)) q
       → getD ranks (lookAt k i false) 0 < getD ranks k 0 → getD ranks (lookAt k i true) 0 < getD ranks k 0
       → (p : ℕ) × (Look i q ≡ Look i p) × Lower S ranks k (Look i p) × ((x : ℕ) → Lower S ranks k (Look i x) → p ≤ x)
-  look-do q h d l f t =
-      (q, refl, record { allowed = subst T (sym (told .looks k i q hi h d)) (l .here); lower = λ x. after-a-look (λ x. getD ranks x 0 < getD ranks k 0) f t },
-      λ x m. elim (lt-or-ge x q) [ inl y ↦ absurd (l .none-below x y (look-bit x (m .allowed))) | inr y ↦ y ])
+  look-do q h d l f t = (
+    q,
+    refl,
+    record { allowed = subst T (sym (told .looks k i q hi h d)) (l .here); lower = λ x. after-a-look (λ x. getD ranks x 0 < getD ranks k 0) f t },
+    λ x m. elim (lt-or-ge x q) [ inl y ↦ absurd (l .none-below x y (look-bit x (m .allowed))) | inr y ↦ y ],
+  )
 
 -- ---- the smallest byte, kind by kind and setting by setting
 
@@ -207,11 +214,13 @@ module _ {n : ℕ} {sets looks : List (List ℕ)} {ranks : List ℕ} {S : System
           let small : x < 21 = omega (arith, pair-small c (seven c m)) in
           let bc : byteOf c ≡ 1 + x * 8 + postOf c = ap byteOf (sym here) ∙ family-byte x (postOf c) small in
           let bp : byteOf (family p q) ≡ 1 + p * 8 + q = family-byte p q hp in
-          elim (lt-or-ge x p)
-          [ inl y ↦ absurd (f x y (postOf c) (subst (Lower S ranks k) (sym here) m))
-          | inr y ↦ elim (lt-or-ge p x)
-            [ inl z ↦ omega (arith, bc, bp, told .law .post-of k (family p q) (l .allowed), post-family p q)
-            | inr z ↦ (let same : x ≡ p = omega arith in omega (arith, bc, bp, least (postOf c) (subst (λ (y : ℕ). Lower S ranks k (family y (postOf c))) same (subst (Lower S ranks k) (sym here) m)))) ] ]
+          elim (lt-or-ge x p) [
+            | inl y ↦ absurd (f x y (postOf c) (subst (Lower S ranks k) (sym here) m))
+            | inr y ↦ elim (lt-or-ge p x) [
+              | inl z ↦ omega (arith, bc, bp, told .law .post-of k (family p q) (l .allowed), post-family p q)
+              | inr z ↦ (let same : x ≡ p = omega arith in omega (arith, bc, bp, least (postOf c) (subst (λ (y : ℕ). Lower S ranks k (family y (postOf c))) same (subst (Lower S ranks k) (sym here) m))))
+            ]
+          ]
 
 -- a pair whose setting the book has not
 pub pair-past : {n : ℕ} {sets looks : List (List ℕ)} {ranks : List ℕ} {S : System} (told : Told n sets looks ranks S) (k p : ℕ) → n ≤ p % 7

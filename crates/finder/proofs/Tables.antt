@@ -40,9 +40,10 @@ mask-some zero q t = both (bit 0 q) t (false→T (bit-of-zero q))
 mask-some (suc x) q t = omega arith
 
 mask-post : (x : ℕ) → x < 256 → 0 < x → (q : ℕ) × (q < 8) × T (bit x q)
-mask-post x h l = elim (all-or 8 (λ q. not (bit x q)))
-  [ inl none ↦ absurd (some-bit x h (λ e. omega arith) (λ q m. T→false (bit x q) (all-at 8 (λ q. not (bit x q)) none q m)))
-  | inr w ↦ (w .0, w .1, not-not (bit x (w .0)) (w .2)) ]
+mask-post x h l = elim (all-or 8 (λ q. not (bit x q))) [
+  | inl none ↦ absurd (some-bit x h (λ e. omega arith) (λ q m. T→false (bit x q) (all-at 8 (λ q. not (bit x q)) none q m)))
+  | inr w ↦ (w .0, w .1, not-not (bit x (w .0)) (w .2))
+]
   where
     not-not : (b : Bool) → T (not (not b)) → T b
     not-not true h = tt
@@ -75,7 +76,6 @@ module _ (n : ℕ) (make learn : List ℕ) {made learnt old marks : List ℕ} (h
   marks-ready few k h = elim (rank-either (settled n make learn k)) [ inl e ↦ inl (mark-is k h ∙ e) | inr e ↦ inr (mark-is k h ∙ e) ]
 
   module _ (team : ℕ) (book : List ℕ) {set look : List (List ℕ)} {ranks : List ℕ} (few : n ≤ 7) (byte : team < 256) (hs : PostTables n book team set-rule set) (hk : PostTables n book team look-rule look) (spread : Spread n set look marks ranks) where
-
     law : Lawful n (systemOf n book team make learn)
     unfolding systemOf
     law = team-lawful n book team (settled n make learn) byte

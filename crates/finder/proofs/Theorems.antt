@@ -160,7 +160,7 @@ module _ (book : List ℕ) (q : Question) (make learn ranks plan : List ℕ) (r 
   -- "reach": the plan in the room works, has the height named, and none that works is lower
   pub reach-works : (h size : ℕ) → Finds book q make learn ranks plan (Reach h size) r x
       → (n : ℕ) × (p : Plan) × Works (System-of book q make learn n) (Start-of q) p × (height p ≡ h)
-        × ((s : Plan) → Works (System-of book q make learn n) (Start-of q) s → h ≤ height s) × (x ≡ encode p ++ drop size plan)
+      × ((s : Plan) → Works (System-of book q make learn n) (Start-of q) s → h ≤ height s) × (x ≡ encode p ++ drop size plan)
   reach-works h size (inl u) = let e : Reach h size ≡ Refused (u .why) = u .answered in let z : _≡_ {A = ℕ} 0 1 = cc in absurd (omega arith)
   reach-works h size (inr (n, m, v, l, f, a)) =
       let S = System-of book q make learn n in
@@ -206,7 +206,7 @@ module _ (book : List ℕ) (q : Question) (make learn ranks plan : List ℕ) (r 
   -- both agreeing with what the team knew, that give the formula different values, and on which the plan does the same acts and sees the same readings
   pub cannot-secret : Finds book q make learn ranks plan Cannot r x
       → (n : ℕ) × (m : ℕ) × ValidQuestion book q make learn n m
-        × (NoMaking n make → learnCount learn ≡ 1 → (p : Plan) → Permitted (System-of book q make learn n) (Start-of q) p → Twins n (learnTable learn 0) (Start-of q) p)
+      × (NoMaking n make → learnCount learn ≡ 1 → (p : Plan) → Permitted (System-of book q make learn n) (Start-of q) p → Twins n (learnTable learn 0) (Start-of q) p)
   cannot-secret (inl u) = let e : Cannot ≡ Refused (u .why) = u .answered in let z : _≡_ {A = ℕ} 0 1 = cc in absurd (omega arith)
   cannot-secret (inr (n, m, v, l, f, a)) =
       (n, m, v, λ one single p w. secret n (learnTable learn 0) (lawful v) (enough n one single) (Start-of q) (a .0) p w)

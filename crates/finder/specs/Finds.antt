@@ -65,5 +65,5 @@ abbrev pub Finds : List ℕ → Question → List ℕ → List ℕ → List ℕ 
 Finds book q make learn ranks plan answer ranks′ plan′ =
     Unmet book q make learn ranks plan answer ranks′ plan′
     ⊎ ((n : ℕ) × (m : ℕ) × ValidQuestion book q make learn n m × (7 ^ n ≤ length ranks)
-      × RanksFilled n (systemOf n book (q .team) make learn) ranks ranks′
-      × Answers (systemOf n book (q .team) make learn) (startNumber (q .known) (q .values)) plan answer plan′)
+    × RanksFilled n (systemOf n book (q .team) make learn) ranks ranks′
+    × Answers (systemOf n book (q .team) make learn) (startNumber (q .known) (q .values)) plan answer plan′)

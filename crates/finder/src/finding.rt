@@ -97,7 +97,17 @@ pub fn find(
             let team = question.team;
             let known = question.known;
             let values = question.values;
-            search(book, team, known, values, make, learn, settings, ranks, plan)
+            search(
+                book,
+                team,
+                known,
+                values,
+                make,
+                learn,
+                settings,
+                ranks,
+                plan,
+            )
         }
     }
 }

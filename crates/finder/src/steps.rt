@@ -49,7 +49,9 @@ pub fn look_at(k: u32, setting: u8, value: bool) -> u32
     requires { ⌜ (k < 7 ^ 7) × (setting < 7) ⌝ }
     ensures { λ r. ⌜ r ≡ lookAt k setting value ⌝ }
 {
-    Knowledge::from_number(k).after_look(setting, value).number()
+    Knowledge::from_number(k)
+        .after_look(setting, value)
+        .number()
 }
 
 // Setting i to the value, by the lowest post that may, where that leads to a lower rank.
@@ -143,13 +145,7 @@ fn step_of(
 }
 
 // The step that the plan written takes at the state k.
-pub fn choose(
-    n: u8,
-    set: &[[u8; 2187]; 7],
-    look: &[[u8; 2187]; 7],
-    ranks: &[u8],
-    k: u32,
-) -> Step
+pub fn choose(n: u8, set: &[[u8; 2187]; 7], look: &[[u8; 2187]; 7], ranks: &[u8], k: u32) -> Step
     requires { ⌜ (n ≤ 7) × (k < 7 ^ n) × (7 ^ n ≤ length (now ranks)) ⌝ }
     ensures { λ r. ⌜ ((S : System) → Told n (now (set .entry)) (now (look .entry)) (now (ranks .entry)) S → Chooses S (now (ranks .entry)) k r) ⌝ }
 {

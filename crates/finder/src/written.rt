@@ -15,13 +15,7 @@ ghost use Rattle.plan.specs.Bytes.{encode};
 ghost use Rattle.finder.specs.Told.{Told, Ranked, Room};
 
 // The bytes of the plan written from k.
-pub fn length(
-    n: u8,
-    set: &[[u8; 2187]; 7],
-    look: &[[u8; 2187]; 7],
-    ranks: &[u8],
-    k: u32,
-) -> usize
+pub fn length(n: u8, set: &[[u8; 2187]; 7], look: &[[u8; 2187]; 7], ranks: &[u8], k: u32) -> usize
     requires { ⌜ Ranked n (now set) (now look) (now ranks) k ⌝ }
     ensures { λ r. ⌜ (r ≤ 32640) × ((S : System) → Told n (now (set .entry)) (now (look .entry)) (now (ranks .entry)) S → (p : Plan) × Written S k p × (r ≡ length (encode p))) ⌝ }
 {
@@ -69,7 +63,15 @@ pub fn write(
                     value,
                 } => write(n, set, look, ranks, set_to(k, setting, value), room, at + 1),
                 Act::Look { setting, post: _ } => {
-                    let next = write(n, set, look, ranks, look_at(k, setting, false), room, at + 1);
+                    let next = write(
+                        n,
+                        set,
+                        look,
+                        ranks,
+                        look_at(k, setting, false),
+                        room,
+                        at + 1,
+                    );
                     write(n, set, look, ranks, look_at(k, setting, true), room, next)
                 }
             }
