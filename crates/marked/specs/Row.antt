@@ -1,17 +1,54 @@
 -- A row of the table of marked examples: what is asked and what the answer is. `Holds` is what a row says: that the answer is one that the public
 -- function's contract allows, and that the contract allows no other.
 use mathlib.Core.Path.{_≡_}
-use mathlib.Core.List.{List, [], _∷_}
-use Prim.Native.Nat.{ℕ}
+use mathlib.Core.List.{List, [], _∷_, _++_}
+use Prim.Native.Nat.{ℕ, _^_, _≤_}
 use Prim.Native.String.{String}
-use lib.ListN.{getD, drop, replicate}
+use lib.ListN.{length, getD, drop, replicate}
 use Rattle.ground.specs.Text.{bytes}
 use Rattle.book.specs.Block.{check}
+use Rattle.book.specs.Written.{bookOf}
 use Rattle.book.specs.declared.sums.Sums.{Sums}
+use Rattle.finder.specs.Finds.{Finds}
+use Rattle.finder.specs.declared.question.Question.{Question}
+use Rattle.finder.specs.declared.finding.Answer as F
+use Rattle.finder.specs.declared.finding.Answer.the-variants.{Reach, Cannot}
+use Rattle.plancheck.specs.Checks.{Checks}
+use Rattle.plancheck.specs.Refusals as P
+use Rattle.plancheck.specs.declared.answer.Refusal as N
+use Rattle.plancheck.specs.declared.answer.CheckAnswer.{CheckAnswer}
+use Rattle.plancheck.specs.declared.answer.CheckAnswer.the-variants.{Refused as No}
 use Rattle.formula.specs.Read.{Reads, number, place}
 use Rattle.formula.specs.declared.Refusal.{Refusal}
 use Rattle.formula.specs.declared.Answer.{Answer}
 use Rattle.formula.specs.declared.Answer.the-variants.{Accepted, Refused}
+
+-- a table of which only byte 0 is not 0: any table over up to three settings
+abbrev pub first : ℕ → List ℕ
+first b = b ∷ replicate 15 0
+
+-- such tables one after the other
+abbrev pub tables : List ℕ → List ℕ
+tables [] = []
+tables (b ∷ bs) = first b ++ tables bs
+
+-- a question, with byte 0 of each table: of the rules, setting by setting, look and set for post 1, look and set for post 2, up to post 8; of the
+-- make formula; and of each learn formula
+pub record Case : Type 0 where
+  pub n : ℕ
+  pub m : ℕ
+  pub rules : List ℕ
+  pub asked : Question
+  pub make : ℕ
+  pub learn : List ℕ
+
+-- the written book of a question's rules
+abbrev pub bookFor : Case → List ℕ
+bookFor c = bookOf (c .n) (c .m) (tables (c .rules))
+
+-- `find` allows this result
+abbrev pub Found : Case → List ℕ → List ℕ → F.Answer → List ℕ → List ℕ → Type 0
+Found c = Finds (bookFor c) (c .asked) (first (c .make)) (tables (c .learn))
 
 pub data Row : Type 0 where
   -- a formula over n settings, and byte 0 of its table
@@ -20,6 +57,12 @@ pub data Row : Type 0 where
   refuses : (n : ℕ) (text : String) (number place : ℕ) → Row
   -- the bytes of a block that its check is over, and the two numbers of `book::check_of`
   sums : (bytes : List ℕ) (s t : ℕ) → Row
+  -- a question, the least height and the bytes of the plan written
+  reaches : (c : Case) (height : ℕ) (plan : List ℕ) → Row
+  -- a question that no plan answers
+  cannot : (c : Case) → Row
+  -- a question, a plan for it, and the number and the place of the plan check's refusal
+  faults : (c : Case) (plan : List ℕ) (number place : ℕ) → Row
 
 -- `formula::read` gives this answer with this table, and no other
 pub record Only (n : ℕ) (s : List ℕ) (answer : Answer) (table : List ℕ) : Type 0 where
@@ -30,6 +73,17 @@ abbrev pub Holds : Row → Type 0
 Holds (reads n s byte) = (t : List ℕ) × Only n (bytes s) Accepted t × (getD t 0 0 ≡ byte)
 Holds (refuses n s x p) = (r : Refusal) × Only n (bytes s) (Refused r) (replicate 16 0) × (number r ≡ x) × (place r ≡ p)
 Holds (sums block s t) = (r : Sums) → r ≡ check (drop 0 block) → (r .s ≡ s) × (r .t ≡ t)
+-- whatever the rooms held: with 7^n bytes for the ranks and room for the plan, `find` answers with this height and these bytes
+Holds (reaches c h bytes) =
+    (ranks room : List ℕ) → 7 ^ (c .n) ≤ length ranks → length bytes ≤ length room
+    → (answer : F.Answer) (ranks′ room′ : List ℕ) → Found c ranks room answer ranks′ room′
+    → (answer ≡ Reach h (length bytes)) × (room′ ≡ bytes ++ drop (length bytes) room)
+Holds (cannot c) =
+    (ranks room : List ℕ) → 7 ^ (c .n) ≤ length ranks
+    → (answer : F.Answer) (ranks′ room′ : List ℕ) → Found c ranks room answer ranks′ room′ → answer ≡ Cannot
+Holds (faults c plan x p) =
+    (answer : CheckAnswer) → Checks (bookFor c) (c .asked) (first (c .make)) (tables (c .learn)) plan answer
+    → (r : N.Refusal) × (answer ≡ No r) × (P.number r ≡ x) × (P.place r ≡ p)
 
 -- every row of a table
 abbrev pub All : List Row → Type 0

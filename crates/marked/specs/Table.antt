@@ -1,7 +1,54 @@
 -- Paper 01, "Marked examples and near misses", as one table. It grows with the crates; the theorem is `marked` of proofs/Marked.
-use mathlib.Core.List.{List, [], _∷_}
+use mathlib.Core.List.{List, [], _∷_, _++_}
+use Prim.Native.Nat.{ℕ}
 use lib.ListN.{replicate}
-use Rattle.marked.specs.Row.{Row, reads, refuses, sums}
+use Rattle.finder.specs.declared.question.Question.{Question}
+use Rattle.marked.specs.Row.{Row, Case, reads, refuses, sums, reaches, cannot, faults}
+
+-- the rules of one setting: look and set for post 1, and for post 2
+abbrev pub posts : ℕ → ℕ → ℕ → ℕ → List ℕ
+posts look1 set1 look2 set2 = look1 ∷ set1 ∷ look2 ∷ set2 ∷ replicate 12 0
+
+-- a team, by its mask, that knows nothing
+abbrev pub knowing-nothing : ℕ → Question
+knowing-nothing team = record { team = team; known = 0; values = 0 }
+
+-- P6 "the sheet above": `write a 2 ~c`, `write b 1 a`, `read c 2 1`, `write c 2 c`, `make b`, by the team with this mask, with these learn formulas
+abbrev pub sheet : ℕ → List ℕ → Case
+sheet team learn = record {
+  n = 3;
+  m = 2;
+  rules = posts 0 0 0 15 ++ (posts 0 170 0 0 ++ posts 0 0 255 240);
+  asked = knowing-nothing team;
+  make = 204;
+  learn = learn;
+}
+
+abbrev pub p6 : Case
+p6 = sheet 3 []
+
+-- "the same with team 1"
+abbrev pub p7 : Case
+p7 = sheet 1 []
+
+-- "P6 with `ask a`", "with `ask c` in its place"
+abbrev pub p8a : Case
+p8a = sheet 3 (170 ∷ [])
+
+abbrev pub p8c : Case
+p8c = sheet 3 (240 ∷ [])
+
+-- "n = 1, look and set rules `1`, make `~a`, learn `a`"
+abbrev pub p9 : Case
+p9 = record { n = 1; m = 1; rules = posts 3 3 0 0; asked = knowing-nothing 1; make = 1; learn = 2 ∷ [] }
+
+-- "n = 2, set rule of a for post 1 `b|~b`, make `a`"
+abbrev pub p11 : Case
+p11 = record { n = 2; m = 1; rules = posts 0 15 0 0 ++ posts 0 0 0 0; asked = knowing-nothing 1; make = 10; learn = [] }
+
+-- "n = 2, known `~a`, learn `a&b`"
+abbrev pub p12 : Case
+p12 = record { n = 2; m = 1; rules = posts 0 0 0 0 ++ posts 0 0 0 0; asked = record { team = 1; known = 1; values = 0 }; make = 15; learn = 8 ∷ [] }
 
 abbrev pub examples : List Row
 examples =
@@ -15,6 +62,21 @@ examples =
     ∷ refuses 1 "a)" 4 1
     -- P5 `c`, n = 2: 3 at 0
     ∷ refuses 2 "c" 3 0
+    -- P6 the sheet: bytes 130, 58, 65, 0, 18, 58, 65, 0
+    ∷ reaches p6 4 (130 ∷ 58 ∷ 65 ∷ 0 ∷ 18 ∷ 58 ∷ 65 ∷ 0 ∷ [])
+    -- P7 the same with team 1: cannot
+    ∷ cannot p7
+    -- P8 P6 with `ask a`: cannot; with `ask c` in its place: reach 4
+    ∷ cannot p8a
+    ∷ reaches p8c 4 (130 ∷ 58 ∷ 65 ∷ 0 ∷ 18 ∷ 58 ∷ 65 ∷ 0 ∷ [])
+    -- P9: reach 2, bytes 113, 0, 1, 0
+    ∷ reaches p9 2 (113 ∷ 0 ∷ 1 ∷ 0 ∷ [])
+    -- P10 for P9 the plan 1, 0: 19 at 1
+    ∷ faults p9 (1 ∷ 0 ∷ []) 19 1
+    -- P11: reach 1, bytes 57, 0
+    ∷ reaches p11 1 (57 ∷ 0 ∷ [])
+    -- P12: reach 0, byte 0
+    ∷ reaches p12 0 (0 ∷ [])
     -- P13 check of 508 zero bytes: 1 and 508; of 508 bytes 255: 64005 and 3830
     ∷ sums (replicate 508 0) 1 508
     ∷ sums (replicate 508 255) 64005 3830
