@@ -2,6 +2,7 @@
 // crates/marked/stdout. That the marked examples are so is proved in proofs/Marked.
 mod books;
 mod formulas;
+mod questions;
 mod say;
 
 fn main() {
@@ -9,4 +10,7 @@ fn main() {
     formulas::lengths();
     books::marked();
     books::single_bytes();
+    questions::plan_rooms();
+    questions::rank_rooms();
+    questions::greatest();
 }
