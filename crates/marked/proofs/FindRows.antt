@@ -3,14 +3,15 @@ use mathlib.Core.Path.{_≡_, refl, sym, ap, ap₂, _∙_, subst}
 use mathlib.Core.Logic.{_⊎_, inl, inr}
 use mathlib.Core.List.{List, [], _∷_, _++_}
 use mathlib.Core.Bool.{Bool, true, false, not, _&&_, _||_}
-use Prim.Native.Nat.{ℕ, _+_, _*_, _/_, _%_, _^_, _≤_, _<_}
+use Prim.Native.Nat.{ℕ, zero, suc, _+_, _*_, _/_, _%_, _^_, _≤_, _<_}
 use native.Mathlib.Omega.{arith}
 use lib.Dec.{T, eqb, ltb, leb, eqb→eq, ltb→lt, leb→le, lt→ltb, lit<, lit≤}
-use lib.ListN.{length, getD, take, drop, replicate}
+use lib.ListN.{length, getD, set, drop, length-set}
+use lib.Seq.{getD-set-same, getD-set-other}
 use Rattle.ground.specs.Digits.{digit, put, bit}
 use Rattle.ground.specs.Search.{Least, all}
 use Rattle.ground.specs.Table.{truth, Within}
-use Rattle.ground.proofs.Bools.{and-left, and-right, or-out, T→false, both}
+use Rattle.ground.proofs.Bools.{and-left, and-right, or-out, T→false, lt-or-ge}
 use Rattle.ground.proofs.Search.{all-at, least-unique}
 use Rattle.book.specs.Block.{Zeros, inOrder}
 use Rattle.book.specs.Sound.{Tables, tablesOf}
@@ -30,6 +31,7 @@ use Rattle.knowledge.specs.Acts.{byteOf, offered, permitted, setTo, lookAt}
 use Rattle.plan.specs.Plans.{System, Lawful, Plan, stop, set-then, look-then}
 use Rattle.plan.specs.Ranks.{Reach as ReachIn, Cannot as CannotFrom, IsRank, Written}
 use Rattle.plan.specs.Bytes.{encode}
+use Rattle.plan.proofs.Ranks.{has-rank}
 use Rattle.plan.proofs.Written.{written-works, written-unique}
 use Rattle.plan.proofs.Team.{team-lawful}
 use Rattle.plan.proofs.States.{elem}
@@ -38,7 +40,7 @@ use Rattle.plan.proofs.Trap.{trap, trapped}
 use Rattle.sides.specs.Over.{learnTable, allSettled}
 use Rattle.finder.specs.Question.{settled, systemOf, startNumber}
 use Rattle.finder.specs.Rows.{number, place, TeamFits, KnownFits, GoalFits, findRows, questionRows}
-use Rattle.finder.specs.Finds.{ValidQuestion, Answers, Finds}
+use Rattle.finder.specs.Finds.{ValidQuestion, RanksFilled, Answers, Finds}
 use Rattle.finder.specs.declared.question.Question.{Question}
 use Rattle.finder.specs.declared.question.Refusal.the-variants.{Book, Team, Known, Goal, Ranks, PlanRoom}
 use Rattle.finder.specs.declared.finding.Answer.{Answer}
@@ -190,15 +192,50 @@ module _ {n : ℕ} {S : System} (law : Lawful n S) (few : n ≤ 7) (k : ℕ) (ro
       let z : m .0 ≡ p = written-unique law few (m .0) p k (m .1) w in
       absurd (omega (arith, m .2, ap (λ (x : Plan). length (encode x)) z))
 
-  one-cannot : CannotFrom S k → (a : Answer) → Answers S k room a room′ → a ≡ Cannot
+  one-cannot : CannotFrom S k → (a : Answer) → Answers S k room a room′ → (a ≡ Cannot) × (room′ ≡ room)
   one-cannot none (Reach j size) (m, (s, t, e, f, g)) = absurd (none s (written-works S s k t))
-  one-cannot none Cannot m = refl
+  one-cannot none Cannot m = (refl, m .1)
   one-cannot none (Refused (Book r)) m = absurd m
   one-cannot none (Refused Team) m = absurd m
   one-cannot none (Refused Known) m = absurd m
   one-cannot none (Refused Goal) m = absurd m
   one-cannot none (Refused Ranks) m = absurd m
   one-cannot none (Refused PlanRoom) (m, s) = absurd (none (m .0) (written-works S (m .0) k (m .1)))
+
+-- a rank table with all ranks in it
+unfoldable fill : (ℕ → ℕ) → ℕ → List ℕ → List ℕ
+fill f zero l = l
+fill f (suc i) l = set (fill f i l) i (f i)
+
+fill-length : (f : ℕ → ℕ) (i : ℕ) (l : List ℕ) → length (fill f i l) ≡ length l
+unfolding fill
+fill-length f zero l = refl
+fill-length f (suc i) l = length-set (fill f i l) i (f i) ∙ fill-length f i l
+
+fill-later : (f : ℕ → ℕ) (i : ℕ) (l : List ℕ) (j : ℕ) → i ≤ j → getD (fill f i l) j 0 ≡ getD l j 0
+unfolding fill
+fill-later f zero l j h = refl
+fill-later f (suc i) l j h = getD-set-other (fill f i l) i j (f i) 0 (λ e. omega arith) ∙ fill-later f i l j (omega arith)
+
+fill-at : (f : ℕ → ℕ) (i : ℕ) (l : List ℕ) → i ≤ length l → (j : ℕ) → j < i → getD (fill f i l) j 0 ≡ f j
+unfolding fill
+fill-at f zero l b j h = absurd (omega arith)
+fill-at f (suc i) l b j h = elim (lt-or-ge j i) [
+  | inl x ↦ getD-set-other (fill f i l) i j (f i) 0 (λ e. omega arith) ∙ fill-at f i l (omega arith) j x
+  | inr x ↦ (let e : j ≡ i = omega arith in
+      rw e (getD-set-same (fill f i l) i (f i) 0 (omega (arith, fill-length f i l))))
+]
+
+all-ranks : {n : ℕ} {S : System} → Lawful n S → (old : List ℕ) → 7 ^ n ≤ length old → (new : List ℕ) × RanksFilled n S old new
+all-ranks {n} {S} law old l =
+    let f : ℕ → ℕ = λ k. has-rank law k .0 in (
+      fill f (7 ^ n) old,
+      record {
+        size = fill-length f (7 ^ n) old;
+        ranks = λ k h. subst (IsRank S k) (sym (fill-at f (7 ^ n) old l k h)) (has-rank law k .1);
+        later = λ j h. fill-later f (7 ^ n) old j h;
+      },
+    )
 
 -- the rank that is computed is the least height, where a plan is written
 least-from : (S : System) (k h : ℕ) (p : Plan) → IsRank S k h → Written S k p → Least (ReachIn S k) h
@@ -221,14 +258,23 @@ record Shown (c : Case) (h : ℕ) (bytes : List ℕ) : Type 0 where
   coded : encode plan ≡ bytes
 
 row-reaches : (c : Case) (h : ℕ) (bytes : List ℕ) → Shown c h bytes → Holds (reaches c h bytes)
-row-reaches c h bytes s ranks room l big a ranks′ room′ f =
+row-reaches c h bytes s ranks room l big =
     let lawful = law c (s .byte) in
     let t = entry (s .states) (s .table) in
+    let v = valid c (s .well) in
     let w = sample-written (s .states) t lawful (s .well .few-settings) (s .ranks) (s .plan) (startFor c) (s .there) (s .written) in
     let r = subst (IsRank (systemFor c) (startFor c)) (s .height) (sample-rank (s .states) t lawful (s .well .few-settings) (s .ranks) (startFor c) (s .there)) in
-    let z = one-reach lawful (s .well .few-settings) (startFor c) room room′ h (s .plan) (least-from (systemFor c) (startFor c) h (s .plan) r w) w
-    (subst (λ (x : List ℕ). length x ≤ length room) (sym (s .coded)) big) a (answers c (valid c (s .well)) ranks room l a ranks′ room′ f) in
-    subst (λ (x : List ℕ). (a ≡ Reach h (length x)) × (room′ ≡ x ++ drop (length x) room)) (s .coded) z
+    let least = least-from (systemFor c) (startFor c) h (s .plan) r w in
+    let fits = subst (λ (x : List ℕ). length x ≤ length room) (sym (s .coded)) big in
+    let filled = all-ranks lawful ranks l in (
+      (
+        filled .0,
+        inr (c .n, c .m, v, l, filled .1, (least, (s .plan, w, ap length (sym (s .coded)), big, ap (λ (x : List ℕ). x ++ drop (length bytes) room) (sym (s .coded))))),
+      ),
+      λ a ranks′ room′ f.
+          subst (λ (x : List ℕ). (a ≡ Reach h (length x)) × (room′ ≡ x ++ drop (length x) room)) (s .coded)
+          (one-reach lawful (s .well .few-settings) (startFor c) room room′ h (s .plan) least w fits a (answers c v ranks room l a ranks′ room′ f)),
+    )
 
 -- a trap of states
 record Caught (c : Case) : Type 0 where
@@ -239,10 +285,14 @@ record Caught (c : Case) : Type 0 where
   closed : T (trap (c .n) (systemFor c) states)
 
 row-cannot : (c : Case) → Caught c → Holds (cannot c)
-row-cannot c s ranks room l a ranks′ room′ f =
+row-cannot c s ranks room l =
     let lawful = law c (s .byte) in
-    one-cannot lawful (s .well .few-settings) (startFor c) room room′ (trapped lawful (s .states) (s .closed) (startFor c) (s .there)) a
-    (answers c (valid c (s .well)) ranks room l a ranks′ room′ f)
+    let v = valid c (s .well) in
+    let none = trapped lawful (s .states) (s .closed) (startFor c) (s .there) in
+    let filled = all-ranks lawful ranks l in (
+      (filled .0, inr (c .n, c .m, v, l, filled .1, (none, refl))),
+      λ a ranks′ room′ f. one-cannot lawful (s .well .few-settings) (startFor c) room room′ none a (answers c v ranks room l a ranks′ room′ f),
+    )
 
 -- ---- the rows
 
@@ -396,12 +446,14 @@ p9-row = row-reaches p9 2 (113 ∷ 0 ∷ 1 ∷ 0 ∷ []) (record {
 
 pub p10-row : Holds (faults p9 (1 ∷ 0 ∷ []) 19 1)
 unfolding rule rulePlace tablePlace bookOf headBlock settingBlocks settingBlock sealed bytes16 inOrder tablesOf
-p10-row answer h = (
-  NotSettled 1,
-  checks-one (bookFor p9) (p9 .asked) not-a is-a (1 ∷ 0 ∷ []) answer (No (NotSettled 1)) h (p10 {book = bookFor p9} {m = 1} (valid p9 p9-well) refl),
-  refl,
-  refl,
-)
+p10-row =
+    let yes = p10 {book = bookFor p9} {m = 1} (valid p9 p9-well) refl in (
+      NotSettled 1,
+      refl,
+      refl,
+      yes,
+      λ answer h. checks-one (bookFor p9) (p9 .asked) not-a is-a (1 ∷ 0 ∷ []) answer (No (NotSettled 1)) h yes,
+    )
 
 p11-well : Well p11
 unfolding rights-fit setting-fits post-fits right-fits within zeros table tablePlace tablesOf truth bit digit all learnTable

@@ -73,17 +73,20 @@ abbrev pub Holds : Row → Type 0
 Holds (reads n s byte) = (t : List ℕ) × Only n (bytes s) Accepted t × (getD t 0 0 ≡ byte)
 Holds (refuses n s x p) = (r : Refusal) × Only n (bytes s) (Refused r) (replicate 16 0) × (number r ≡ x) × (place r ≡ p)
 Holds (sums block s t) = (r : Sums) → r ≡ check (drop 0 block) → (r .s ≡ s) × (r .t ≡ t)
--- whatever the rooms held: with 7^n bytes for the ranks and room for the plan, `find` answers with this height and these bytes
+-- whatever the rooms held: with 7^n bytes for the ranks and room for the plan, `find` answers with this height and these bytes, and not otherwise
 Holds (reaches c h bytes) =
-    (ranks room : List ℕ) → 7 ^ (c .n) ≤ length ranks → length bytes ≤ length room
-    → (answer : F.Answer) (ranks′ room′ : List ℕ) → Found c ranks room answer ranks′ room′
-    → (answer ≡ Reach h (length bytes)) × (room′ ≡ bytes ++ drop (length bytes) room)
+    (ranks room : List ℕ) → 7 ^ c .n ≤ length ranks → length bytes ≤ length room
+    → ((ranks′ : List ℕ) × Found c ranks room (Reach h (length bytes)) ranks′ (bytes ++ drop (length bytes) room))
+    × ((answer : F.Answer) (ranks′ room′ : List ℕ) → Found c ranks room answer ranks′ room′
+    → (answer ≡ Reach h (length bytes)) × (room′ ≡ bytes ++ drop (length bytes) room))
 Holds (cannot c) =
-    (ranks room : List ℕ) → 7 ^ (c .n) ≤ length ranks
-    → (answer : F.Answer) (ranks′ room′ : List ℕ) → Found c ranks room answer ranks′ room′ → answer ≡ Cannot
+    (ranks room : List ℕ) → 7 ^ c .n ≤ length ranks
+    → ((ranks′ : List ℕ) × Found c ranks room Cannot ranks′ room)
+    × ((answer : F.Answer) (ranks′ room′ : List ℕ) → Found c ranks room answer ranks′ room′ → (answer ≡ Cannot) × (room′ ≡ room))
 Holds (faults c plan x p) =
-    (answer : CheckAnswer) → Checks (bookFor c) (c .asked) (first (c .make)) (tables (c .learn)) plan answer
-    → (r : N.Refusal) × (answer ≡ No r) × (P.number r ≡ x) × (P.place r ≡ p)
+    (r : N.Refusal) × (P.number r ≡ x) × (P.place r ≡ p)
+    × Checks (bookFor c) (c .asked) (first (c .make)) (tables (c .learn)) plan (No r)
+    × ((answer : CheckAnswer) → Checks (bookFor c) (c .asked) (first (c .make)) (tables (c .learn)) plan answer → answer ≡ No r)
 
 -- every row of a table
 abbrev pub All : List Row → Type 0
