@@ -1,0 +1,67 @@
+//! The questions that are timed: seven settings, eight posts.
+
+use crate::book;
+use crate::rng::Rng;
+
+const N: usize = 7;
+const M: usize = 8;
+
+pub struct Asked {
+    pub book: Vec<u8>,
+    pub make: [u8; 16],
+}
+
+/// Where setting i is true.
+fn letter(i: usize) -> u128 {
+    (0..128).filter(|v| v >> i & 1 == 1).fold(0, |bits, v| bits | 1 << v)
+}
+
+fn all_true(settings: std::ops::Range<usize>) -> u128 {
+    settings.fold(u128::MAX, |bits, i| bits & letter(i))
+}
+
+/// Where some settings, each of them drawn with this chance, have drawn values.
+fn conjunction(rng: &mut Rng, percent: u32) -> u128 {
+    let mut bits = u128::MAX;
+    for i in 0..N {
+        if rng.chance(percent) {
+            bits &= if rng.chance(50) { letter(i) } else { !letter(i) };
+        }
+    }
+    bits
+}
+
+/// A book of these rules, for a setting and a post, to look or else to set.
+fn book_of(mut rule: impl FnMut(usize, usize, bool) -> u128) -> Vec<u8> {
+    let mut rights = Vec::with_capacity(N * 256);
+    for setting in 0..N {
+        for post in 0..M {
+            for look in [true, false] {
+                rights.extend(rule(setting, post, look).to_le_bytes());
+            }
+        }
+    }
+    book::write(N as u64, M as u64, &rights, usize::MAX).unwrap_or_else(|_| panic!("rights of a sound book"))
+}
+
+/// Most rules are closed or ask for the values of many settings; the goal is a few values.
+pub fn random(rng: &mut Rng) -> Asked {
+    let book = book_of(|_, _, look| match rng.below(10) {
+        _ if rng.chance(85) => 0,
+        0..=2 if look => u128::MAX,
+        _ => conjunction(rng, 60),
+    });
+    Asked { book, make: conjunction(rng, 50).to_le_bytes() }
+}
+
+/// The book of the greatest rank, 254: setting j may be looked at where all settings before it are true; it may be set
+/// where the settings before j − 1 are true, j − 1 is false, and not all from j on are true. Post j has the rules of j.
+pub fn hard() -> Asked {
+    let book = book_of(|j, post, look| match (post == j, look, j) {
+        (false, _, _) => 0,
+        (true, true, _) => all_true(0..j),
+        (true, false, 0) => !all_true(0..N),
+        (true, false, _) => all_true(0..j - 1) & !letter(j - 1) & !all_true(j..N),
+    });
+    Asked { book, make: all_true(0..N).to_le_bytes() }
+}

@@ -1,0 +1,95 @@
+//! The proved finder beside tests/second's plain one of the same design, in one run: seven settings, eight posts, the
+//! whole team, nothing known. Answers, ranks and plans have to be the same. Before each call, outside the time taken,
+//! the rank table and the plan room are filled with 170, so both are in memory and neither holds a rank.
+
+mod asked;
+#[path = "../../tests/second/src/book.rs"]
+#[allow(dead_code)]
+mod book;
+#[path = "../../tests/second/src/fast.rs"]
+mod fast;
+#[cfg(linked)]
+mod proved;
+#[path = "../../tests/second/src/refusal.rs"]
+#[allow(dead_code)]
+mod refusal;
+#[path = "../../tests/second/src/rng.rs"]
+#[allow(dead_code)]
+mod rng;
+
+use std::time::{Duration, Instant};
+
+use asked::Asked;
+use rng::Rng;
+
+const STATES: usize = 823_543;
+const PLAN: usize = 32_640;
+const BOOKS: usize = 20;
+const TURNS: usize = 7;
+
+type Finder = fn(&Asked, &mut [u8], &mut [u8]) -> u64;
+
+/// What a finder answered and left in its rooms, and how long it took.
+struct Found {
+    word: u64,
+    ranks: Vec<u8>,
+    plan: Vec<u8>,
+    time: Duration,
+}
+
+fn plain(asked: &Asked, ranks: &mut [u8], plan: &mut [u8]) -> u64 {
+    fast::find(&asked.book, u8::MAX, 0, 0, &asked.make, &[], ranks, plan)
+}
+
+fn timed(finder: Finder, asked: &Asked) -> Found {
+    let mut ranks = vec![170; STATES];
+    let mut plan = vec![170; PLAN];
+    let begun = Instant::now();
+    let word = finder(asked, &mut ranks, &mut plan);
+    Found { word, time: begun.elapsed(), ranks, plan }
+}
+
+/// The least of some turns for each finder, the finders taking turns.
+fn least(finders: &[Finder], asked: &Asked) -> Vec<Duration> {
+    let mut times = vec![Duration::MAX; finders.len()];
+    for _ in 0..TURNS {
+        let found: Vec<Found> = finders.iter().map(|&finder| timed(finder, asked)).collect();
+        for (time, one) in times.iter_mut().zip(&found) {
+            *time = one.time.min(*time);
+            let same = one.word == found[0].word && one.ranks == found[0].ranks && one.plan == found[0].plan;
+            assert!(same, "the finders differ");
+        }
+    }
+    times
+}
+
+/// A line for some questions: the sum of the least times of each finder, and the ratio.
+fn line(name: &str, finders: &[Finder], questions: &[Asked]) {
+    let mut sums = vec![Duration::ZERO; finders.len()];
+    for asked in questions {
+        for (sum, time) in sums.iter_mut().zip(least(finders, asked)) {
+            *sum += time;
+        }
+    }
+    let milliseconds = |time: &Duration| time.as_secs_f64() * 1e3 / questions.len() as f64;
+    let plain = milliseconds(&sums[0]);
+    match sums.get(1).map(milliseconds) {
+        Some(proved) => println!("{name}: plain {plain:.2} ms, proved {proved:.2} ms, ratio {:.2}", proved / plain),
+        None => println!("{name}: plain {plain:.2} ms"),
+    }
+}
+
+fn main() {
+    #[cfg(linked)]
+    let finders: &[Finder] = &[plain, proved::find];
+    #[cfg(not(linked))]
+    let finders: &[Finder] = &[plain];
+    if finders.len() == 1 {
+        println!("the proved library is for x86-64 and this is another processor: the plain finder alone");
+    }
+    println!("n = 7, m = 8; a question's mean of the least of {TURNS} turns");
+    let mut rng = Rng::named(1, "bench");
+    let random: Vec<Asked> = (0..BOOKS).map(|_| asked::random(&mut rng)).collect();
+    line(&format!("{BOOKS} random books"), finders, &random);
+    line("the book of rank 254", finders, &[asked::hard()]);
+}

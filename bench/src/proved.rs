@@ -1,0 +1,43 @@
+//! The proved finder, through the C interface. Nothing checks this declaration against the library's source.
+
+use crate::asked::Asked;
+
+extern "C" {
+    fn pj_find(
+        book: *const u8,
+        book_len: u64,
+        team: u8,
+        known: u8,
+        values: u8,
+        make: *const u8,
+        make_len: u64,
+        learn: *const u8,
+        learn_len: u64,
+        ranks: *mut u8,
+        ranks_len: u64,
+        plan: *mut u8,
+        plan_len: u64,
+    ) -> u64;
+}
+
+pub fn find(asked: &Asked, ranks: &mut [u8], plan: &mut [u8]) -> u64 {
+    let Asked { book, make } = asked;
+    let learn: [u8; 0] = [];
+    unsafe {
+        pj_find(
+            book.as_ptr(),
+            book.len() as u64,
+            u8::MAX,
+            0,
+            0,
+            make.as_ptr(),
+            make.len() as u64,
+            learn.as_ptr(),
+            0,
+            ranks.as_mut_ptr(),
+            ranks.len() as u64,
+            plan.as_mut_ptr(),
+            plan.len() as u64,
+        )
+    }
+}
