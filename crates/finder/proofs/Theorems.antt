@@ -4,7 +4,7 @@ use mathlib.Core.Path.{_≡_, refl, sym, ap, ap₂, _∙_, subst}
 use mathlib.Core.Logic.{_⊎_, inl, inr}
 use mathlib.Core.List.{List, [], _∷_, _++_}
 use mathlib.Core.Bool.{Bool, true, false, _&&_, cond}
-use Prim.Native.Nat.{ℕ, zero, suc, _+_, _^_, _≤_, _<_}
+use Prim.Native.Nat.{ℕ, zero, suc, _+_, _-_, _^_, _≤_, _<_}
 use native.Mathlib.Nat.{two-pow-succ}
 use lib.Pow.{pow-mono}
 use native.Mathlib.Omega.{arith}
@@ -29,7 +29,7 @@ use Rattle.plan.specs.Plans.{System, Lawful, Plan, Permitted, Works, height}
 use Rattle.plan.specs.Ranks.{Reach as ReachIn, Cannot as CannotFrom, IsRank, Written}
 use Rattle.plan.specs.Bytes.{encode}
 use Rattle.plan.specs.Secret.{Twins}
-use Rattle.plan.proofs.Ranks.{rank-unique, rank-least, has-rank, rank-reach}
+use Rattle.plan.proofs.Ranks.{rank-unique, rank-least, rank-most, has-rank, rank-reach}
 use Rattle.plan.proofs.Written.{written-works, written-height, written-unique}
 use Rattle.plan.proofs.Accepted.{written-most}
 use Rattle.plan.proofs.Team.{team-lawful}
@@ -38,10 +38,12 @@ use Rattle.sides.specs.Over.{learnCount, learnTable, allSettled}
 use Rattle.finder.specs.Question.{settled, systemOf, startNumber}
 use Rattle.finder.specs.Rows.{number, place, TeamFits, questionRows, findRows}
 use Rattle.finder.proofs.QuestionLaws.{low-bits}
-use Rattle.finder.specs.Finds.{ValidQuestion, RanksFilled, Answers, Unmet, Finds}
+use Rattle.finder.specs.Finds.{ValidQuestion, Asks, RanksFilled, Answers, Unmet, Finds}
 use Rattle.finder.specs.declared.question.Question.{Question}
 use Rattle.finder.specs.declared.question.Refusal.{Refusal}
 use Rattle.finder.specs.declared.question.Refusal.the-variants.{Book, Team, Known, Goal, Ranks, PlanRoom}
+use Rattle.finder.specs.declared.question.Asked.{Asked}
+use Rattle.finder.specs.declared.question.Asked.the-variants.{Valid, Not}
 use Rattle.finder.specs.declared.finding.Answer.{Answer}
 use Rattle.finder.specs.declared.finding.Answer.the-variants.{Reach, Cannot, Refused}
 use Rattle.finder.proofs.RowLaws.{question-clear}
@@ -147,6 +149,21 @@ module _ (book : List ℕ) (q : Question) (make learn ranks plan : List ℕ) whe
       let z = answers-unique (lawful v) (few v) (startNumber (q .known) (q .values)) plan a b x y g answered in
       (z .0, ranks-unique f filled, z .1)
 
+-- and of `ask`
+module _ (book : List ℕ) (q : Question) (make learn : List ℕ) where
+  not-both : {n m : ℕ} (r : Refusal) → ValidQuestion book q make learn n m → First (questionRows book (q .team) (q .known) (q .values) make learn) (number r) (place r) → ⊥
+  not-both r v f =
+      first-clear (questionRows book (q .team) (q .known) (q .values) make learn) (number r) (place r) f
+      (question-clear book (q .team) (q .known) (q .values) make learn (v .sound) (v .team) (v .known) (v .goal))
+
+  pub ask-unique : (a b : Asked) → Asks book q make learn a → Asks book q make learn b → a ≡ b
+  ask-unique (Valid n m) (Valid k o) v w = let e = sound-one (v .sound) (w .sound) in ap₂ Valid (e .0) (e .1)
+  ask-unique (Valid n m) (Not r) v f = absurd (not-both r v f)
+  ask-unique (Not r) (Valid n m) f v = absurd (not-both r v f)
+  ask-unique (Not r) (Not s) f g =
+      let e = first-unique (questionRows book (q .team) (q .known) (q .values) make learn) (number r) (number s) (place r) (place s) f g in
+      ap Not (refusal-same r s (e .0) (e .1))
+
 -- ---- demand 2: "reach" exactly when a working plan exists, the least height, and such a plan
 
 -- the question's system and its start
@@ -157,20 +174,24 @@ abbrev pub Start-of : Question → ℕ
 Start-of q = startNumber (q .known) (q .values)
 
 module _ (book : List ℕ) (q : Question) (make learn ranks plan : List ℕ) (r x : List ℕ) where
-  -- "reach": the plan in the room works, has the height named, and none that works is lower
+  -- "reach": the question is valid over the book's n settings, the plan in the room works, has the height named and the length named, and none that works
+  -- is lower
   pub reach-works : (h size : ℕ) → Finds book q make learn ranks plan (Reach h size) r x
-      → (n : ℕ) × (p : Plan) × Works (System-of book q make learn n) (Start-of q) p × (height p ≡ h)
-      × ((s : Plan) → Works (System-of book q make learn n) (Start-of q) s → h ≤ height s) × (x ≡ encode p ++ drop size plan)
+      → (n : ℕ) × (m : ℕ) × ValidQuestion book q make learn n m
+      × ((p : Plan) × Works (System-of book q make learn n) (Start-of q) p × (height p ≡ h)
+      × ((s : Plan) → Works (System-of book q make learn n) (Start-of q) s → h ≤ height s)
+      × (size ≡ length (encode p)) × (x ≡ encode p ++ drop size plan))
   reach-works h size (inl u) = let e : Reach h size ≡ Refused (u .why) = u .answered in let z : _≡_ {A = ℕ} 0 1 = cc in absurd (omega arith)
   reach-works h size (inr (n, m, v, l, f, a)) =
       let S = System-of book q make learn n in
       let p = a .1 in
-      (n, p .0, written-works S (p .0) (Start-of q) (p .1), written-height S (p .0) (Start-of q) h (p .1) (inl (a .0)), (λ s w. rank-least S (Start-of q) (inl (a .0)) s w), p .4)
+      (n, m, v, (p .0, written-works S (p .0) (Start-of q) (p .1), written-height S (p .0) (Start-of q) h (p .1) (inl (a .0)), (λ s w. rank-least S (Start-of q) (inl (a .0)) s w), p .2, p .4))
 
-  -- "cannot": no plan works
-  pub cannot-none : Finds book q make learn ranks plan Cannot r x → (n : ℕ) × ((p : Plan) → Works (System-of book q make learn n) (Start-of q) p → ⊥)
+  -- "cannot": the question is valid over the book's n settings, and no plan works
+  pub cannot-none : Finds book q make learn ranks plan Cannot r x
+      → (n : ℕ) × (m : ℕ) × ValidQuestion book q make learn n m × ((p : Plan) → Works (System-of book q make learn n) (Start-of q) p → ⊥)
   cannot-none (inl u) = let e : Cannot ≡ Refused (u .why) = u .answered in let z : _≡_ {A = ℕ} 0 1 = cc in absurd (omega arith)
-  cannot-none (inr (n, m, v, l, f, a)) = (n, a .0)
+  cannot-none (inr (n, m, v, l, f, a)) = (n, m, v, a .0)
 
   -- and a valid question whose plan works is answered "reach", where the rooms are long enough: 32,640 bytes always suffice for the plan
   pub works-reach : {n m : ℕ} (a : Answer) → ValidQuestion book q make learn n m → 7 ^ n ≤ length ranks → 32640 ≤ length plan
@@ -187,6 +208,34 @@ module _ (book : List ℕ) (q : Question) (make learn ranks plan : List ℕ) (r 
       let s = z .1 in
       let rank = has-rank (lawful d) (Start-of q) in
       absurd (omega (arith, s .2, written-most (lawful d) (few d) (Start-of q) (s .0) (rank .0) (s .1) (rank .1) (rank-reach (lawful d) (Start-of q) (rank .0) (few d) (rank .1) .1 (s .0, written-works S (s .0) (Start-of q) (s .1)))))
+
+  -- and one for which none works is answered "cannot", whatever the plan room
+  pub none-cannot : {n m : ℕ} (a : Answer) → ValidQuestion book q make learn n m → 7 ^ n ≤ length ranks
+      → ((p : Plan) → Works (System-of book q make learn n) (Start-of q) p → ⊥) → Finds book q make learn ranks plan a r x → a ≡ Cannot
+  none-cannot a v l none (inl u) =
+      absurd (first-clear (findRows book (q .team) (q .known) (q .values) make learn ranks) (number (u .why)) (place (u .why)) (u .first) (find-clear v ranks l))
+  none-cannot {n} (Reach h size) v l none (inr (k, o, d, e, f, g)) =
+      let same : k ≡ n = sound-one (d .sound) (v .sound) .0 in
+      let p : Plan = g .1 .0 in
+      let works : Works (System-of book q make learn k) (Start-of q) p = written-works (System-of book q make learn k) p (Start-of q) (g .1 .1) in
+      absurd (none p (subst (λ (j : ℕ). Works (System-of book q make learn j) (Start-of q) p) same works))
+  none-cannot Cannot v l none (inr (k, o, d, e, f, g)) = refl
+  none-cannot {n} (Refused y) v l none (inr (k, o, d, e, f, g)) =
+      let same : k ≡ n = sound-one (d .sound) (v .sound) .0 in
+      let z = late (System-of book q make learn k) (Start-of q) plan x y g in
+      let p : Plan = z .1 .0 in
+      let works : Works (System-of book q make learn k) (Start-of q) p = written-works (System-of book q make learn k) p (Start-of q) (z .1 .1) in
+      absurd (none p (subst (λ (j : ℕ). Works (System-of book q make learn j) (Start-of q) p) same works))
+
+  -- "A rank other than 255 is at most 2^(n+1) − 2.", of the bytes that are left in the rank table
+  pub filled-most : {n m : ℕ} (a : Answer) → ValidQuestion book q make learn n m → 7 ^ n ≤ length ranks → Finds book q make learn ranks plan a r x
+      → (k : ℕ) → k < 7 ^ n → (getD r k 0 ≡ 255 → ⊥) → getD r k 0 ≤ 2 ^ suc n - 2
+  filled-most a v l (inl u) k h ne =
+      absurd (first-clear (findRows book (q .team) (q .known) (q .values) make learn ranks) (number (u .why)) (place (u .why)) (u .first) (find-clear v ranks l))
+  filled-most {n} a v l (inr (j, o, d, e, f, g)) k h ne =
+      let same : j ≡ n = sound-one (d .sound) (v .sound) .0 in
+      let filled = subst (λ (i : ℕ). RanksFilled i (System-of book q make learn i) ranks r) same f in
+      rank-most (lawful v) k (getD r k 0) (filled .ranks k h) ne
 
 -- ---- demand 3: what "cannot" means for a secret
 
