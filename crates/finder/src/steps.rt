@@ -36,7 +36,7 @@ fn lowest(posts: u8) -> u8
     7
 }
 
-// The knowledge number after a set, of one with at most seven digits.
+// The knowledge number after a set. For this crate alone: k has at most seven digits.
 pub fn set_to(k: u32, setting: u8, value: bool) -> u32
     requires { ⌜ (k < 7 ^ 7) × (setting < 7) ⌝ }
     ensures { λ r. ⌜ r ≡ setTo k setting value ⌝ }
@@ -44,7 +44,7 @@ pub fn set_to(k: u32, setting: u8, value: bool) -> u32
     Knowledge::from_number(k).after_set(setting, value).number()
 }
 
-// The knowledge number after a look that saw the value.
+// The knowledge number after a look that saw the value. For this crate alone, as above.
 pub fn look_at(k: u32, setting: u8, value: bool) -> u32
     requires { ⌜ (k < 7 ^ 7) × (setting < 7) ⌝ }
     ensures { λ r. ⌜ r ≡ lookAt k setting value ⌝ }
@@ -144,7 +144,8 @@ fn step_of(
     look_step(n, set, look, ranks, k, side, i)
 }
 
-// The step that the plan written takes at the state k.
+// The step that the plan written takes at the state k. For this crate alone: k is a state of n settings,
+// and the rank table holds them all.
 pub fn choose(n: u8, set: &[[u8; 2187]; 7], look: &[[u8; 2187]; 7], ranks: &[u8], k: u32) -> Step
     requires { ⌜ (n ≤ 7) × (k < 7 ^ n) × (7 ^ n ≤ length (now ranks)) ⌝ }
     ensures { λ r. ⌜ ((S : System) → Told n (now (set .entry)) (now (look .entry)) (now (ranks .entry)) S → Chooses S (now (ranks .entry)) k r) ⌝ }

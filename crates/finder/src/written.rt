@@ -14,7 +14,7 @@ ghost use Rattle.plan.specs.Ranks.{Written};
 ghost use Rattle.plan.specs.Bytes.{encode};
 ghost use Rattle.finder.specs.Told.{Told, Ranked, Room};
 
-// The bytes of the plan written from k.
+// How many bytes the plan written from k has. For this crate alone: k has a rank below 255.
 pub fn length(n: u8, set: &[[u8; 2187]; 7], look: &[[u8; 2187]; 7], ranks: &[u8], k: u32) -> usize
     requires { ⌜ Ranked n (now set) (now look) (now ranks) k ⌝ }
     ensures { λ r. ⌜ (r ≤ 32640) × ((S : System) → Told n (now (set .entry)) (now (look .entry)) (now (ranks .entry)) S → (p : Plan) × Written S k p × (r ≡ length (encode p))) ⌝ }
@@ -36,7 +36,8 @@ pub fn length(n: u8, set: &[[u8; 2187]; 7], look: &[[u8; 2187]; 7], ranks: &[u8]
     }
 }
 
-// Writes the plan from k into the room at `at`, and gives the place after it.
+// Writes the plan from k into the room at `at`, and gives the place after it. For this crate alone: k has
+// a rank below 255, and the plan fits.
 pub fn write(
     n: u8,
     set: &[[u8; 2187]; 7],

@@ -13,13 +13,13 @@ fn show(name: &[u8], block: &[u8]) {
     say(b"\n");
 }
 
-pub fn marked() {
+pub(crate) fn marked() {
     show(b"P13 508 zero bytes:", &[0u8; 508]);
     show(b"P13 508 bytes 255:", &[255u8; 508]);
 }
 
 // Byte 0 = 1 and the rest zero; byte 507 = 1 alone.
-pub fn single_bytes() {
+pub(crate) fn single_bytes() {
     let mut first = [0u8; 508];
     first[0] = 1;
     show(b"byte 0 = 1:", &first);

@@ -24,7 +24,7 @@ fn show(name: &[u8], n: usize, text: &[u8]) {
     say(b"\n");
 }
 
-pub fn marked() {
+pub(crate) fn marked() {
     show(b"P1", 3, b"a|b&~c");
     show(b"P2", 2, b"~a&b");
     show(b"P3", 1, b"a&");
@@ -33,7 +33,7 @@ pub fn marked() {
 }
 
 // A row of `~` and a letter, of 255 bytes and of 256.
-pub fn lengths() {
+pub(crate) fn lengths() {
     let mut longest = [b'~'; 255];
     longest[254] = b'a';
     show(b"255 bytes", 1, &longest);

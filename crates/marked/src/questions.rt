@@ -100,7 +100,7 @@ fn show_sixth(name: &[u8], read_c: &[u8], plan: &mut [u8]) {
     show(name, answer, plan);
 }
 
-pub fn plan_rooms() {
+pub(crate) fn plan_rooms() {
     show_sixth(b"P6, plan room 8:", b"1", &mut [0u8; 8]);
     show_sixth(b"P6, plan room 7:", b"1", &mut [0u8; 7]);
     show_sixth(b"P6 without its read line:", b"0", &mut [0u8; 8]);
@@ -123,7 +123,7 @@ fn show_eleventh(name: &[u8], ranks: &mut [u8]) {
     show(name, answer, &plan);
 }
 
-pub fn rank_rooms() {
+pub(crate) fn rank_rooms() {
     show_eleventh(b"n = 2, rank room 48:", &mut [0u8; 48]);
     show_eleventh(b"n = 2, rank room 49:", &mut [0u8; 49]);
 }
@@ -142,7 +142,7 @@ fn climbing(book: &mut [u8]) {
 }
 
 // The greatest rank there is at n = 3, 2^4 - 2.
-pub fn greatest() {
+pub(crate) fn greatest() {
     let mut book = [0u8; 2048];
     climbing(&mut book);
     let make = formula::read(3, b"a&b&c").table;

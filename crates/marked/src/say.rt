@@ -1,8 +1,8 @@
 // What the examples print, to standard output.
-pub fn say(text: &[u8]) {
+pub(crate) fn say(text: &[u8]) {
     io::write_all(1, text);
 }
 
-pub fn say_number(x: u64) {
+pub(crate) fn say_number(x: u64) {
     io::print_decimal(1, x);
 }

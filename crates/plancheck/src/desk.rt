@@ -103,7 +103,7 @@ impl Desk {
         }
     }
 
-    // After a byte that came to this.
+    // After a byte that came to this. For this crate alone: there is room for what waits.
     pub fn after(self, reading: Reading) -> Self
         requires { ⌜ (length (self .waiting) ≡ 7) × (self .count ≤ 7) × HasRoom (self .count) reading ⌝ }
         ensures { λ r. ⌜ r ≡ afterDesk self reading ⌝ }

@@ -23,7 +23,8 @@ fn learnt(n: u8, learn: &[u8], state: Knowledge) -> bool
     true
 }
 
-// Whether the make formula is true at all present valuations that fit, and all is learnt.
+// Whether the make formula is true at all present valuations that fit, and all is learnt. For this crate
+// alone: k has at most seven digits.
 pub fn is_settled(n: u8, make: &[u8], learn: &[u8], k: u32) -> bool
     requires { ⌜ (n ≤ 7) × (k < 7 ^ 7) ⌝ }
     ensures { λ r. ⌜ r ≡ settled n (now (make .entry)) (now (learn .entry)) k ⌝ }
