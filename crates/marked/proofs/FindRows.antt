@@ -119,6 +119,53 @@ record Well (c : Case) : Type 0 where
   learn-most : length (tables (c .learn)) / 16 ≤ 4
   learn-within : T (all (length (tables (c .learn)) / 16) (λ j. within (c .n) (learnTable (tables (c .learn)) j)))
 
+-- all of it is decided: the tests, in the order of the fields
+every : List Bool → Bool
+every [] = true
+every (b ∷ bs) = b && every bs
+
+pick : (bs : List Bool) (i : ℕ) → T (every bs) → T (getD bs i true)
+unfolding every
+pick [] i h = tt
+pick (b ∷ bs) zero h = and-left b (every bs) h
+pick (b ∷ bs) (suc i) h = pick bs i (and-right b (every bs) h)
+
+abbrev tests : Case → List Bool
+tests c =
+    leb 1 (c .n)
+    ∷ leb (c .n) 7
+    ∷ leb 1 (c .m)
+    ∷ leb (c .m) 8
+    ∷ eqb (length (tables (c .rules))) (256 * c .n)
+    ∷ rights-fit (c .n) (c .m) (tables (c .rules))
+    ∷ ltb 0 (c .asked .team)
+    ∷ ltb (c .asked .team) (2 ^ c .m)
+    ∷ ltb (c .asked .known) (2 ^ c .n)
+    ∷ eqb (c .asked .values) 0
+    ∷ within (c .n) (first (c .make))
+    ∷ eqb (length (tables (c .learn)) % 16) 0
+    ∷ leb (length (tables (c .learn)) / 16) 4
+    ∷ all (length (tables (c .learn)) / 16) (λ j. within (c .n) (learnTable (tables (c .learn)) j))
+    ∷ []
+
+tested : (c : Case) → T (every (tests c)) → Well c
+tested c h = record {
+  some-settings = leb→le 1 (c .n) (pick (tests c) 0 h);
+  few-settings = leb→le (c .n) 7 (pick (tests c) 1 h);
+  some-posts = leb→le 1 (c .m) (pick (tests c) 2 h);
+  few-posts = leb→le (c .m) 8 (pick (tests c) 3 h);
+  size = eqb→eq (length (tables (c .rules))) (256 * c .n) (pick (tests c) 4 h);
+  rights = pick (tests c) 5 h;
+  someone = ltb→lt 0 (c .asked .team) (pick (tests c) 6 h);
+  team = ltb→lt (c .asked .team) (2 ^ c .m) (pick (tests c) 7 h);
+  known-few = ltb→lt (c .asked .known) (2 ^ c .n) (pick (tests c) 8 h);
+  all-false = eqb→eq (c .asked .values) 0 (pick (tests c) 9 h);
+  make-within = pick (tests c) 10 h;
+  learn-bytes = eqb→eq (length (tables (c .learn)) % 16) 0 (pick (tests c) 11 h);
+  learn-most = leb→le (length (tables (c .learn)) / 16) 4 (pick (tests c) 12 h);
+  learn-within = pick (tests c) 13 h;
+}
+
 abbrev Valid : Case → Type 0
 Valid c = ValidQuestion (bookFor c) (c .asked) (first (c .make)) (tables (c .learn)) (c .n) (c .m)
 
@@ -297,23 +344,8 @@ row-cannot c s ranks room l =
 -- ---- the rows
 
 p6-well : Well p6
-unfolding rights-fit setting-fits post-fits right-fits within zeros table tablePlace tablesOf truth bit digit all learnTable
-p6-well = record {
-  some-settings = lit≤ tt;
-  few-settings = lit≤ tt;
-  some-posts = lit≤ tt;
-  few-posts = lit≤ tt;
-  size = refl;
-  rights = tt;
-  someone = lit< tt;
-  team = lit< tt;
-  known-few = lit< tt;
-  all-false = refl;
-  make-within = tt;
-  learn-bytes = refl;
-  learn-most = lit≤ tt;
-  learn-within = tt;
-}
+unfolding every rights-fit setting-fits post-fits right-fits within zeros table tablePlace tablesOf truth bit digit all learnTable
+p6-well = tested p6 tt
 
 pub p6-row : Holds (reaches p6 4 (130 ∷ 58 ∷ 65 ∷ 0 ∷ 18 ∷ 58 ∷ 65 ∷ 0 ∷ []))
 unfolding startNumber sumOf firstAt firstDigit elem entry ranked writes systemOf settled allSettled learnTable offered permitted known learnSettled always fits agrees startOf nowOf afterSet afterLook setTo lookAt digit put bit truth all rule rulePlace tablePlace byteOf bookOf headBlock settingBlocks settingBlock sealed bytes16 inOrder tablesOf
@@ -331,69 +363,24 @@ p6-row = row-reaches p6 4 (130 ∷ 58 ∷ 65 ∷ 0 ∷ 18 ∷ 58 ∷ 65 ∷ 0 �
 })
 
 p7-well : Well p7
-unfolding rights-fit setting-fits post-fits right-fits within zeros table tablePlace tablesOf truth bit digit all learnTable
-p7-well = record {
-  some-settings = lit≤ tt;
-  few-settings = lit≤ tt;
-  some-posts = lit≤ tt;
-  few-posts = lit≤ tt;
-  size = refl;
-  rights = tt;
-  someone = lit< tt;
-  team = lit< tt;
-  known-few = lit< tt;
-  all-false = refl;
-  make-within = tt;
-  learn-bytes = refl;
-  learn-most = lit≤ tt;
-  learn-within = tt;
-}
+unfolding every rights-fit setting-fits post-fits right-fits within zeros table tablePlace tablesOf truth bit digit all learnTable
+p7-well = tested p7 tt
 
 pub p7-row : Holds (cannot p7)
 unfolding startNumber sumOf firstAt firstDigit elem trap systemOf settled allSettled learnTable offered permitted known learnSettled always fits agrees startOf nowOf afterSet afterLook setTo lookAt digit put bit truth all rule rulePlace tablePlace byteOf bookOf headBlock settingBlocks settingBlock sealed bytes16 inOrder tablesOf
 p7-row = row-cannot p7 (record { well = p7-well; byte = lit< tt; states = 0 ∷ []; there = tt; closed = tt })
 
 p8a-well : Well p8a
-unfolding rights-fit setting-fits post-fits right-fits within zeros table tablePlace tablesOf truth bit digit all learnTable
-p8a-well = record {
-  some-settings = lit≤ tt;
-  few-settings = lit≤ tt;
-  some-posts = lit≤ tt;
-  few-posts = lit≤ tt;
-  size = refl;
-  rights = tt;
-  someone = lit< tt;
-  team = lit< tt;
-  known-few = lit< tt;
-  all-false = refl;
-  make-within = tt;
-  learn-bytes = refl;
-  learn-most = lit≤ tt;
-  learn-within = tt;
-}
+unfolding every rights-fit setting-fits post-fits right-fits within zeros table tablePlace tablesOf truth bit digit all learnTable
+p8a-well = tested p8a tt
 
 pub p8a-row : Holds (cannot p8a)
 unfolding startNumber sumOf firstAt firstDigit elem trap systemOf settled allSettled learnTable offered permitted known learnSettled always fits agrees startOf nowOf afterSet afterLook setTo lookAt digit put bit truth all rule rulePlace tablePlace byteOf bookOf headBlock settingBlocks settingBlock sealed bytes16 inOrder tablesOf
 p8a-row = row-cannot p8a (record { well = p8a-well; byte = lit< tt; states = 0 ∷ 147 ∷ 148 ∷ 149 ∷ 156 ∷ 163 ∷ 155 ∷ 162 ∷ []; there = tt; closed = tt })
 
 p8c-well : Well p8c
-unfolding rights-fit setting-fits post-fits right-fits within zeros table tablePlace tablesOf truth bit digit all learnTable
-p8c-well = record {
-  some-settings = lit≤ tt;
-  few-settings = lit≤ tt;
-  some-posts = lit≤ tt;
-  few-posts = lit≤ tt;
-  size = refl;
-  rights = tt;
-  someone = lit< tt;
-  team = lit< tt;
-  known-few = lit< tt;
-  all-false = refl;
-  make-within = tt;
-  learn-bytes = refl;
-  learn-most = lit≤ tt;
-  learn-within = tt;
-}
+unfolding every rights-fit setting-fits post-fits right-fits within zeros table tablePlace tablesOf truth bit digit all learnTable
+p8c-well = tested p8c tt
 
 pub p8c-row : Holds (reaches p8c 4 (130 ∷ 58 ∷ 65 ∷ 0 ∷ 18 ∷ 58 ∷ 65 ∷ 0 ∷ []))
 unfolding startNumber sumOf firstAt firstDigit elem entry ranked writes systemOf settled allSettled learnTable offered permitted known learnSettled always fits agrees startOf nowOf afterSet afterLook setTo lookAt digit put bit truth all rule rulePlace tablePlace byteOf bookOf headBlock settingBlocks settingBlock sealed bytes16 inOrder tablesOf
@@ -411,23 +398,8 @@ p8c-row = row-reaches p8c 4 (130 ∷ 58 ∷ 65 ∷ 0 ∷ 18 ∷ 58 ∷ 65 ∷ 0 
 })
 
 p9-well : Well p9
-unfolding rights-fit setting-fits post-fits right-fits within zeros table tablePlace tablesOf truth bit digit all learnTable
-p9-well = record {
-  some-settings = lit≤ tt;
-  few-settings = lit≤ tt;
-  some-posts = lit≤ tt;
-  few-posts = lit≤ tt;
-  size = refl;
-  rights = tt;
-  someone = lit< tt;
-  team = lit< tt;
-  known-few = lit< tt;
-  all-false = refl;
-  make-within = tt;
-  learn-bytes = refl;
-  learn-most = lit≤ tt;
-  learn-within = tt;
-}
+unfolding every rights-fit setting-fits post-fits right-fits within zeros table tablePlace tablesOf truth bit digit all learnTable
+p9-well = tested p9 tt
 
 pub p9-row : Holds (reaches p9 2 (113 ∷ 0 ∷ 1 ∷ 0 ∷ []))
 unfolding startNumber sumOf firstAt firstDigit elem entry ranked writes systemOf settled allSettled learnTable offered permitted known learnSettled always fits agrees startOf nowOf afterSet afterLook setTo lookAt digit put bit truth all rule rulePlace tablePlace byteOf bookOf headBlock settingBlocks settingBlock sealed bytes16 inOrder tablesOf
@@ -456,23 +428,8 @@ p10-row =
     )
 
 p11-well : Well p11
-unfolding rights-fit setting-fits post-fits right-fits within zeros table tablePlace tablesOf truth bit digit all learnTable
-p11-well = record {
-  some-settings = lit≤ tt;
-  few-settings = lit≤ tt;
-  some-posts = lit≤ tt;
-  few-posts = lit≤ tt;
-  size = refl;
-  rights = tt;
-  someone = lit< tt;
-  team = lit< tt;
-  known-few = lit< tt;
-  all-false = refl;
-  make-within = tt;
-  learn-bytes = refl;
-  learn-most = lit≤ tt;
-  learn-within = tt;
-}
+unfolding every rights-fit setting-fits post-fits right-fits within zeros table tablePlace tablesOf truth bit digit all learnTable
+p11-well = tested p11 tt
 
 pub p11-row : Holds (reaches p11 1 (57 ∷ 0 ∷ []))
 unfolding startNumber sumOf firstAt firstDigit elem entry ranked writes systemOf settled allSettled learnTable offered permitted known learnSettled always fits agrees startOf nowOf afterSet afterLook setTo lookAt digit put bit truth all rule rulePlace tablePlace byteOf bookOf headBlock settingBlocks settingBlock sealed bytes16 inOrder tablesOf
@@ -490,23 +447,8 @@ p11-row = row-reaches p11 1 (57 ∷ 0 ∷ []) (record {
 })
 
 p12-well : Well p12
-unfolding rights-fit setting-fits post-fits right-fits within zeros table tablePlace tablesOf truth bit digit all learnTable
-p12-well = record {
-  some-settings = lit≤ tt;
-  few-settings = lit≤ tt;
-  some-posts = lit≤ tt;
-  few-posts = lit≤ tt;
-  size = refl;
-  rights = tt;
-  someone = lit< tt;
-  team = lit< tt;
-  known-few = lit< tt;
-  all-false = refl;
-  make-within = tt;
-  learn-bytes = refl;
-  learn-most = lit≤ tt;
-  learn-within = tt;
-}
+unfolding every rights-fit setting-fits post-fits right-fits within zeros table tablePlace tablesOf truth bit digit all learnTable
+p12-well = tested p12 tt
 
 pub p12-row : Holds (reaches p12 0 (0 ∷ []))
 unfolding startNumber sumOf firstAt firstDigit elem entry ranked writes systemOf settled allSettled learnTable offered permitted known learnSettled always fits agrees startOf nowOf afterSet afterLook setTo lookAt digit put bit truth all rule rulePlace tablePlace byteOf bookOf headBlock settingBlocks settingBlock sealed bytes16 inOrder tablesOf
