@@ -1,0 +1,117 @@
+-- Lines and words, and the form of each line of a sheet. "Lines count from 1 and end in byte 10"; "Words are split by one space; F is all that
+-- follows the space before it"; "Sheet numbers are one digit".
+use mathlib.Core.Bool.{Bool, true, false, not, _&&_, _||_, cond}
+use mathlib.Core.List.{List, [], _∷_, _++_}
+use Prim.Native.Nat.{ℕ, suc, _+_, _-_, _<_}
+use lib.Dec.{eqb, leb, ltb}
+use lib.ListN.{length, getD, drop}
+use Rattle.ground.specs.Text.{byte, bytes}
+use Rattle.book.specs.declared.rule.Right.{Right}
+use Rattle.sheet.specs.Sheet.{Rule, Known}
+
+-- a byte in front of the first of some pieces
+unfoldable pub onto : ℕ → List (List ℕ) → List (List ℕ)
+onto c [] = (c ∷ []) ∷ []
+onto c (piece ∷ pieces) = (c ∷ piece) ∷ pieces
+
+-- the pieces of s between the bytes `mark`; there is at least one, and the last is what follows the last mark
+unfoldable pub split : ℕ → List ℕ → List (List ℕ)
+split mark [] = [] ∷ []
+split mark (c ∷ s) = cond (eqb c mark) ([] ∷ split mark s) (onto c (split mark s))
+
+-- byte 10, and the space
+abbrev pub newline : ℕ
+newline = 10
+
+abbrev pub space : ℕ
+space = byte " "
+
+-- the line begins with the text w
+unfoldable pub begins : List ℕ → List ℕ → Bool
+begins [] line = true
+begins (c ∷ w) [] = false
+begins (c ∷ w) (d ∷ line) = eqb c d && begins w line
+
+-- c is one of the `count` signs from `first` on
+unfoldable pub among : ℕ → ℕ → ℕ → Bool
+among first count c = leb first c && ltb c (first + count)
+
+-- "P a setting letter, G a post digit", of n settings and m posts: "a letter or digit past the size outside F [is] 22"
+unfoldable pub isSetting : ℕ → ℕ → Bool
+isSetting n c = among (byte "a") n c
+
+unfoldable pub isPost : ℕ → ℕ → Bool
+isPost m c = among (byte "1") m c
+
+-- `size N M`: "N outside 1 to 7, M outside 1 to 8 [..] are 22"
+unfoldable pub isSize : List ℕ → Bool
+isSize line = begins (bytes "size ") line && eqb (length line) 8 && among (byte "1") 7 (getD line 5 0) && eqb (getD line 6 0) space && among (byte "1") 8 (getD line 7 0)
+
+-- the number that a digit stands for
+unfoldable pub digitAt : List ℕ → ℕ → ℕ
+digitAt line i = getD line i 0 - byte "0"
+
+-- `read P G F` and `write P G F`, where w is the first word and the space after it
+unfoldable pub isRule : List ℕ → ℕ → ℕ → List ℕ → Bool
+isRule w n m line =
+    begins w line && isSetting n (getD line (length w) 0) && eqb (getD line (length w + 1) 0) space && isPost m (getD line (length w + 2) 0) && eqb (getD line (length w + 3) 0) space
+
+unfoldable pub ruleOf : List ℕ → Right → List ℕ → Rule
+ruleOf w right line = record {
+  right = right;
+  setting = getD line (length w) 0 - byte "a";
+  post = getD line (length w + 2) 0 - byte "1";
+  text = drop (length w + 4) line;
+}
+
+-- a word with or without `~` in front
+unfoldable pub isFalse : List ℕ → Bool
+isFalse word = eqb (getD word 0 0) (byte "~")
+
+unfoldable pub bare : List ℕ → List ℕ
+bare word = cond (isFalse word) (drop 1 word) word
+
+-- a word that is one of the `count` signs from `first` on; where `signed`, `~` may stand before it
+unfoldable pub isName : Bool → ℕ → ℕ → List ℕ → Bool
+isName signed first count word = (signed || not (isFalse word)) && eqb (length (bare word)) 1 && among first count (getD (bare word) 0 0)
+
+unfoldable pub allNames : Bool → ℕ → ℕ → List (List ℕ) → Bool
+allNames signed first count [] = true
+allNames signed first count (word ∷ words) = isName signed first count word && allNames signed first count words
+
+-- what a word names, as an index
+unfoldable pub indexOf : ℕ → List ℕ → ℕ
+indexOf first word = getD (bare word) 0 0 - first
+
+unfoldable pub indexes : ℕ → List (List ℕ) → List ℕ
+indexes first [] = []
+indexes first (word ∷ words) = indexOf first word ∷ indexes first words
+
+-- `team G ..` (one or more): the words after the first
+unfoldable pub postWords : List ℕ → List (List ℕ)
+postWords line = split space (drop 5 line)
+
+unfoldable pub isTeam : ℕ → List ℕ → Bool
+isTeam m line = begins (bytes "team ") line && allNames false (byte "1") m (postWords line)
+
+unfoldable pub teamOf : List ℕ → List ℕ
+teamOf line = indexes (byte "1") (postWords line)
+
+-- "`known` with settings, `~` before a false one, or alone": the words after the first
+unfoldable pub settingWords : List ℕ → List (List ℕ)
+settingWords line = cond (eqb (length line) 5) [] (split space (drop 6 line))
+
+unfoldable pub isKnown : ℕ → List ℕ → Bool
+isKnown n line = begins (bytes "known") line && (eqb (length line) 5 || eqb (getD line 5 0) space) && allNames true (byte "a") n (settingWords line)
+
+unfoldable pub knownBy : List (List ℕ) → List Known
+knownBy [] = []
+knownBy (word ∷ words) = record { setting = indexOf (byte "a") word; value = not (isFalse word) } ∷ knownBy words
+
+unfoldable pub knownOf : List ℕ → List Known
+knownOf line = knownBy (settingWords line)
+
+-- 23: something is named that is named already
+unfoldable pub twice : (ℕ → Bool) → List ℕ → Bool
+twice named [] = false
+twice named (x ∷ xs) = named x || twice (λ i. named i || eqb x i) xs
