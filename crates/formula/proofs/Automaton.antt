@@ -119,3 +119,17 @@ stopped [] (has zero) i p a v = absurd (never v)
 stopped [] (has (suc d)) i p a v = inr (ends-at v, tt)
 stopped [] dead i p a v = absurd a
 stopped (c ∷ s) st i p a v = after-stopped st (step st c) i c p s a refl (λ y b w. stopped s y (suc i) p b w) (sym (verdict-cons st i c s) ∙ v)
+
+-- a text that is whole ends where a sentence may
+after-whole : (x : State) (i : ℕ) (s : List ℕ) → ((y : State) (j : ℕ) → verdict y j s ≡ whole → run y s ≡ has 0) → after x i s ≡ whole → run x s ≡ has 0
+after-whole (wants d) i s f v = f (wants d) (suc i) v
+after-whole (has d) i s f v = f (has d) (suc i) v
+after-whole dead i s f v = absurd (never (sym v))
+
+pub whole-run : (s : List ℕ) (st : State) (i : ℕ) → verdict st i s ≡ whole → run st s ≡ has 0
+unfolding verdict
+whole-run [] (wants d) i v = absurd (never (sym v))
+whole-run [] (has zero) i v = refl
+whole-run [] (has (suc d)) i v = absurd (never (sym v))
+whole-run [] dead i v = absurd (never (sym v))
+whole-run (c ∷ s) st i v = after-whole (step st c) i s (λ y j w. whole-run s y j w) (sym (verdict-cons st i c s) ∙ v)

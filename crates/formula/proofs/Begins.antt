@@ -11,8 +11,8 @@ use lib.ListN.{length, take}
 use Rattle.ground.proofs.Bools.{decide, T→true, T→false, or-out, and-left, and-right}
 use Rattle.formula.specs.Grammar.{Kind, sum, product, unit, Sentence, letter, nought, one, negated, bracketed, one-unit, unit-and, one-product, product-or, text, Begins, IsSentence}
 use Rattle.formula.specs.Read.{isLetter}
-use Rattle.formula.specs.Automaton.{State, wants, has, dead, isAtom, close, step}
-use Rattle.formula.proofs.Automaton.{run, run-append, run-dead, run-text, alive}
+use Rattle.formula.specs.Automaton.{State, wants, has, dead, isAtom, close, step, whole, verdict}
+use Rattle.formula.proofs.Automaton.{run, run-append, run-dead, run-text, alive, whole-run}
 
 -- ---- a sum goes on with `&` or `|` and a unit
 
@@ -149,9 +149,17 @@ finish-state (wants d) p a w = begins-less p (text nought) (finish d (p ++ text 
 finish-state (has d) p a h = finish d p h
 finish-state dead p a m = absurd a
 
-pub alive-begins : (s : List ℕ) → T (alive (run (wants 0) s)) → Begins s
+-- before any byte a unit is due
+starts : Means (wants 0) []
 unfolding text
-alive-begins s a = finish-state (run (wants 0) s) s a (run-means s (wants 0) [] (λ u. (one-product (one-unit u), refl)))
+starts u = (one-product (one-unit u), refl)
+
+-- a whole text is a sentence
+pub whole-sentence : (s : List ℕ) → verdict (wants 0) 0 s ≡ whole → IsSentence s
+whole-sentence s v = let h = subst (λ (st : State). Means st s) (whole-run s (wants 0) 0 v) (run-means s (wants 0) [] starts) in record { sentence = h .0; written = h .1 }
+
+pub alive-begins : (s : List ℕ) → T (alive (run (wants 0) s)) → Begins s
+alive-begins s a = finish-state (run (wants 0) s) s a (run-means s (wants 0) [] starts)
 
 -- no sentence begins with a text that leaves it dead
 pub dead-begins : (s : List ℕ) → run (wants 0) s ≡ dead → Begins s → ⊥

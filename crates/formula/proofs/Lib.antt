@@ -10,3 +10,4 @@ pub mod Meaning
 pub mod Unique
 pub mod Small
 pub mod Computed
+pub mod Numbered

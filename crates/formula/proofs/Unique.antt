@@ -24,7 +24,7 @@ breaks-unique (at-end f) (at-byte {i = j} m) = absurd (f j (m .here))
 breaks-unique (at-end f) (at-end g) = refl
 
 -- no byte is both stray and a letter
-not-both : (n c : ℕ) → T (isStray c) → T (isPast n c) → ⊥
+pub not-both : (n c : ℕ) → T (isStray c) → T (isPast n c) → ⊥
 unfolding isStray isPast
 not-both n c h k = both (isLetter c || isSign c) (or-left (isLetter c) (isSign c) (and-left (isLetter c) (leb (97 + n) c) k)) h
 

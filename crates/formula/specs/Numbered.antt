@@ -5,8 +5,15 @@ use mathlib.Core.List.{List, [], _∷_}
 use Prim.Native.Nat.{ℕ}
 use lib.Dec.{leb}
 use lib.ListN.{length}
-use Rattle.formula.specs.Read.{isStray, isPast}
+use Rattle.formula.specs.Read.{number, isStray, isPast}
 use Rattle.formula.specs.Automaton.{wants, verdict, whole, breaks}
+use Rattle.formula.specs.declared.Answer.{Answer}
+use Rattle.formula.specs.declared.Answer.the-variants.{Accepted, Refused}
+
+-- the number in an answer, 0 where the text is taken
+abbrev pub numberIn : Answer → ℕ
+numberIn Accepted = 0
+numberIn (Refused r) = number r
 
 -- 4, where the text is no sentence
 unfoldable pub sentenceNumber : List ℕ → ℕ

@@ -10,6 +10,7 @@ mod valuation;
 
 pub use act::Act;
 pub use act::Named;
+pub use bits::bit_of;
 pub use digit::now_side;
 pub use digit::start_side;
 pub use state::Knowledge;

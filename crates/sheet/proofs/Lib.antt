@@ -1,1 +1,3 @@
 -- The laws of sheets.
+pub mod Pieces
+pub mod NameLaws

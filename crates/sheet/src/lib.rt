@@ -1,4 +1,7 @@
-// The sheet program's answer, all in memory: a text sheet to what is printed. A sheet that is not
-// whole is answered by the first of its faults, with the number and the line.
+// The sheet program's answer, all in memory.
 mod desk;
+mod lines;
+mod names;
+mod reading;
+mod rules;
 mod words;
