@@ -1,0 +1,3 @@
+-- What others cite (Theorems), and the laws that this crate's own proofs use.
+mod Decimals
+mod Writing
