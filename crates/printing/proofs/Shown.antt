@@ -1,0 +1,78 @@
+-- Where a plan's bytes begin, the act that the first of them names tells the plan's form and where its parts begin: by the cases of
+-- the plan, since an act and its byte name one another.
+use mathlib.Core.Path.{_≡_, refl, sym, ap, _∙_}
+use mathlib.Core.Bool.{Bool}
+use mathlib.Core.List.{List, _∷_, _++_, append-assoc}
+use Prim.Native.Nat.{ℕ, suc, _+_, _<_}
+use native.Mathlib.Numerals.{add-one}
+use native.Mathlib.Omega.{arith}
+use lib.ListN.{length, getD, drop, length-drop}
+use lib.Seq.{drop-cons, drop-drop, drop-append-seam}
+use Rattle.knowledge.specs.Acts.{actOf}
+use Rattle.knowledge.specs.declared.act.Act.the-variants.{Set, Look}
+use Rattle.knowledge.specs.declared.act.Named.{Named}
+use Rattle.knowledge.specs.declared.act.Named.the-variants.{One, Nothing}
+use Rattle.knowledge.proofs.Acts.{act-of-byte}
+use Rattle.plan.specs.Plans.{Plan, stop, set-then, look-then}
+use Rattle.plan.specs.Bytes.{encode}
+use Rattle.printing.specs.Inner.{Shows}
+
+namedBy : Plan → Named
+namedBy stop = Nothing
+namedBy (set-then i q b p) = One (Set i q b)
+namedBy (look-then i q p r) = One (Look i q)
+
+drop-first : (plan : List ℕ) (at : ℕ) {c : ℕ} {rest : List ℕ} → drop at plan ≡ c ∷ rest → (at < length plan) × (getD plan at 0 ≡ c) × (drop (at + 1) plan ≡ rest)
+drop-first plan at e =
+    let h : at < length plan = omega (arith, length-drop at plan, ap length e) in
+    let d = sym (drop-cons plan at 0 h) ∙ e in
+    (h, cc, rw add-one (cc))
+
+module _ {plan : List ℕ} {at : ℕ} where
+  -- the first byte is there, and names what the plan begins with
+  shown-first : (p : Plan) → Shows plan at p → (at < length plan) × (actOf (getD plan at 0) ≡ namedBy p)
+  unfolding actOf namedBy
+  shown-first stop s = let f = drop-first plan at (s .there) in (f .0, ap actOf (f .1))
+  shown-first (set-then i q b p) s =
+      let f = drop-first plan at (s .there) in (f .0, ap actOf (f .1) ∙ act-of-byte (Set i q b) (s .lettered .0) (s .lettered .1))
+  shown-first (look-then i q p r) s =
+      let f = drop-first plan at (s .there) in (f .0, ap actOf (f .1) ∙ act-of-byte (Look i q) (s .lettered .0) (s .lettered .1))
+
+  pub shown-here : {p : Plan} → Shows plan at p → at < length plan
+  shown-here {p} s = shown-first p s .0
+
+  shown-named : (p : Plan) {named : Named} → Shows plan at p → actOf (getD plan at 0) ≡ named → namedBy p ≡ named
+  shown-named p s e = sym (shown-first p s .1) ∙ e
+
+  pub stop-here : (p : Plan) → Shows plan at p → actOf (getD plan at 0) ≡ Nothing → p ≡ stop
+  unfolding namedBy
+  stop-here stop s e = refl
+  stop-here (set-then i q b p) s e = let d = shown-named (set-then i q b p) s e in let z : _≡_ {A = ℕ} 0 1 = cc in absurd (omega arith)
+  stop-here (look-then i q p r) s e = let d = shown-named (look-then i q p r) s e in let z : _≡_ {A = ℕ} 0 1 = cc in absurd (omega arith)
+
+  pub set-here : {i q : ℕ} {b : Bool} (p : Plan) → Shows plan at p → actOf (getD plan at 0) ≡ One (Set i q b) → (t : Plan) × (p ≡ set-then i q b t) × Shows plan (at + 1) t
+  unfolding namedBy
+  set-here stop s e = let d = shown-named stop s e in let z : _≡_ {A = ℕ} 0 1 = cc in absurd (omega arith)
+  set-here (set-then i q b p) s e =
+      let d = shown-named (set-then i q b p) s e in
+      (p, cc, record { rest = s .rest; there = drop-first plan at (s .there) .2; lettered = s .lettered .2 })
+  set-here (look-then i q p r) s e = let d = shown-named (look-then i q p r) s e in let z : _≡_ {A = ℕ} 0 1 = cc in absurd (omega arith)
+
+  pub look-here : {i q : ℕ} (p : Plan) → Shows plan at p → actOf (getD plan at 0) ≡ One (Look i q)
+      → (t : Plan) × (u : Plan) × (p ≡ look-then i q t u) × Shows plan (at + 1) t × Shows plan (at + 1 + length (encode t)) u
+  unfolding namedBy
+  look-here stop s e = let d = shown-named stop s e in let z : _≡_ {A = ℕ} 0 1 = cc in absurd (omega arith)
+  look-here (set-then i q b p) s e = let d = shown-named (set-then i q b p) s e in let z : _≡_ {A = ℕ} 0 1 = cc in absurd (omega arith)
+  look-here (look-then i q p r) s e =
+      let d = shown-named (look-then i q p r) s e in
+      let both = drop-first plan at (s .there) .2 ∙ append-assoc (encode p) (encode r) (s .rest) in (
+        p,
+        r,
+        cc,
+        record { rest = encode r ++ s .rest; there = both; lettered = s .lettered .2 },
+        record {
+          rest = s .rest;
+          there = sym (drop-drop (length (encode p)) (at + 1) plan) ∙ ap (drop (length (encode p))) both ∙ drop-append-seam (encode p) (encode r ++ s .rest);
+          lettered = s .lettered .3;
+        },
+      )
