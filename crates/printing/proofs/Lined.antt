@@ -22,6 +22,10 @@ use Rattle.printing.proofs.Writing.{ends-left, ends-right, wrote-then}
 pub numbered-length : (depth : ℕ) (text : List ℕ) → length (numbered depth text) ≡ length (decimal depth) + length text + 2
 numbered-length depth text = simp length-append (omega arith)
 
+-- the line of an act that was told apart
+pub wrote-act : (depth : ℕ) {a c : Act} {to next : ℕ} {old new : List ℕ} → a ≡ c → Wrote old to (numbered depth (actText a)) new next → Wrote old to (numbered depth (actText c)) new next
+wrote-act depth {to = to} {next = next} {old = old} {new = new} e w = subst (λ (x : Act). Wrote old to (numbered depth (actText x)) new next) e w
+
 module _ {plan : List ℕ} {at depth to : ℕ} where
   module _ (named : actOf (getD plan at 0) ≡ Nothing) where
     pub stop-ends : Readable plan at depth to → Ends to (numbered depth (bytes "stop"))

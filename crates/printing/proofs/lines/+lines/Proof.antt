@@ -7,8 +7,9 @@ use native.Mathlib.Omega.{arith}
 use lib.ListN.{length}
 use Rattle.knowledge.specs.declared.act.Named.the-variants.{One}
 use Rattle.knowledge.proofs.Acts.{byte-of-act}
+use Rattle.printing.proofs.Writing.{wrote-length}
 use Rattle.printing.proofs.Shown.{shown-here}
-use Rattle.printing.proofs.Lined.{stop-ends, stop-lined, act-ends, set-next, set-lined, false-next, true-next, look-lined}
+use Rattle.printing.proofs.Lined.{wrote-act, stop-ends, stop-lined, act-ends, set-next, set-lined, false-next, true-next, look-lined}
 use borrow.Fn.Kinds.{In}
 use borrow.Fn.PlainCycle.{Measures, is, falls, and}
 use Rattle.printing.proofs.lines.lines.Reads as lines
@@ -55,7 +56,7 @@ enum-known-act : (t : ℕ) → lines-lts.Need-enum-known-act (claims t) (lines-a
 enum-known-act t c = c .match .keys2
 
 act-line-requires : (t : ℕ) → lines-lts.Need-act-line-requires (claims t) (lines-at t) lines.Post
-act-line-requires t c κs = ?
+act-line-requires t c κs = let b = byte-of-act _ _ (sym (c .before .before .before .before .of-byte .ensures) ∙ c .before .before .act .given .1) in (b .1, b .2, act-ends _ (sym (c .before .before .before .before .of-byte .ensures) ∙ c .before .before .act .given .1) (c .before .before .before .before .before .before .before .before .pre .1))
 
 enum-told-2 : (t : ℕ) → lines-lts.Need-enum-told-2 (claims t) (lines-at t) lines.Post
 enum-told-2 t c = c .match2 .keys1
@@ -64,10 +65,10 @@ add-lines : (t : ℕ) → lines-lts.Need-add-lines (claims t) (lines-at t) lines
 add-lines t c = omega (arith, shown-here (c .before .before .before .before .before .before .before .before .before .before .before .before .before .pre .1 .shown))
 
 add-lines-2 : (t : ℕ) → lines-lts.Need-add-lines-2 (claims t) (lines-at t) lines.Post
-add-lines-2 t c = ?
+add-lines-2 t c = omega (arith, set-next (sym (c .before .before .before .before .before .before .before .before .before .of-byte .ensures) ∙ c .before .before .before .before .before .before .before .act .given .1 ∙ ap One (c .enum-told2 .given .1)) (wrote-act (c .before .before .before .before .before .before .before .before .before .before .before .before .before .args .depth) (c .enum-told2 .given .1) (c .before .before .before .before .act-line .ensures)) (c .before .before .before .before .before .before .before .before .before .before .before .before .before .pre .1) .deep)
 
 lines-requires : (t : ℕ) → lines-lts.Need-lines-requires (claims t) (lines-at t) lines.Post
-lines-requires t c κs = ?
+lines-requires t c κs = (omega (arith, c .before .before .before .before .before .before .before .before .before .before .before .before .before .before .pre .0, shown-here (c .before .before .before .before .before .before .before .before .before .before .before .before .before .before .pre .1 .shown)), set-next (sym (c .before .before .before .before .before .before .before .before .before .before .of-byte .ensures) ∙ c .before .before .before .before .before .before .before .before .act .given .1 ∙ ap One (c .before .enum-told2 .given .1)) (wrote-act (c .before .before .before .before .before .before .before .before .before .before .before .before .before .before .args .depth) (c .before .enum-told2 .given .1) (c .before .before .before .before .before .act-line .ensures)) (c .before .before .before .before .before .before .before .before .before .before .before .before .before .before .pre .1))
 
 enum-told-3 : (t : ℕ) → lines-lts.Need-enum-told-3 (claims t) (lines-at t) lines.Post
 enum-told-3 t c = c .match2 .keys2
@@ -76,34 +77,34 @@ add-lines-3 : (t : ℕ) → lines-lts.Need-add-lines-3 (claims t) (lines-at t) l
 add-lines-3 t c = omega (arith, shown-here (c .before .before .before .before .before .before .before .before .before .before .before .before .before .pre .1 .shown))
 
 add-lines-4 : (t : ℕ) → lines-lts.Need-add-lines-4 (claims t) (lines-at t) lines.Post
-add-lines-4 t c = ?
+add-lines-4 t c = omega (arith, false-next (sym (c .before .before .before .before .before .before .before .before .before .of-byte .ensures) ∙ c .before .before .before .before .before .before .before .act .given .1 ∙ ap One (c .enum-told3 .given .1)) (wrote-act (c .before .before .before .before .before .before .before .before .before .before .before .before .before .args .depth) (c .enum-told3 .given .1) (c .before .before .before .before .act-line .ensures)) (c .before .before .before .before .before .before .before .before .before .before .before .before .before .pre .1) .deep)
 
 lines-requires-2 : (t : ℕ) → lines-lts.Need-lines-requires-2 (claims t) (lines-at t) lines.Post
-lines-requires-2 t c κs = ?
+lines-requires-2 t c κs = (omega (arith, c .before .before .before .before .before .before .before .before .before .before .before .before .before .before .pre .0, shown-here (c .before .before .before .before .before .before .before .before .before .before .before .before .before .before .pre .1 .shown)), false-next (sym (c .before .before .before .before .before .before .before .before .before .before .of-byte .ensures) ∙ c .before .before .before .before .before .before .before .before .act .given .1 ∙ ap One (c .before .enum-told3 .given .1)) (wrote-act (c .before .before .before .before .before .before .before .before .before .before .before .before .before .before .args .depth) (c .before .enum-told3 .given .1) (c .before .before .before .before .before .act-line .ensures)) (c .before .before .before .before .before .before .before .before .before .before .before .before .before .before .pre .1))
 
 add-lines-5 : (t : ℕ) → lines-lts.Need-add-lines-5 (claims t) (lines-at t) lines.Post
-add-lines-5 t c = ?
+add-lines-5 t c = omega (arith, false-next (sym (c .before .before .before .before .before .before .before .before .before .before .before .before .before .of-byte .ensures) ∙ c .before .before .before .before .before .before .before .before .before .before .before .act .given .1 ∙ ap One (c .before .before .before .before .enum-told3 .given .1)) (wrote-act (c .before .before .before .before .before .before .before .before .before .before .before .before .before .before .before .before .before .args .depth) (c .before .before .before .before .enum-told3 .given .1) (c .before .before .before .before .before .before .before .before .act-line .ensures)) (c .before .before .before .before .before .before .before .before .before .before .before .before .before .before .before .before .before .pre .1) .deep)
 
 lines-requires-3 : (t : ℕ) → lines-lts.Need-lines-requires-3 (claims t) (lines-at t) lines.Post
-lines-requires-3 t c κs = ?
+lines-requires-3 t c κs = let x = true-next (sym (c .before .before .before .before .before .before .before .before .before .before .before .before .before .before .of-byte .ensures) ∙ c .before .before .before .before .before .before .before .before .before .before .before .before .act .given .1 ∙ ap One (c .before .before .before .before .before .enum-told3 .given .1)) (wrote-act (c .before .before .before .before .before .before .before .before .before .before .before .before .before .before .before .before .before .before .args .depth) (c .before .before .before .before .before .enum-told3 .given .1) (c .before .before .before .before .before .before .before .before .before .act-line .ensures)) (c .before .before .before .lines2 .ensures) (c .before .before .before .before .before .before .before .before .before .before .before .before .before .before .before .before .before .before .pre .1) in (omega (arith, c .before .before .before .before .before .before .before .before .before .before .before .before .before .before .before .before .before .before .pre .0, x .1, shown-here (c .before .before .before .before .before .before .before .before .before .before .before .before .before .before .before .before .before .before .pre .1 .shown)), x .0)
 
 same-length : (t : ℕ) → lines-lts.Need-same-length (claims t) (lines-at t) lines.Post
-same-length t c = ?
+same-length t c = wrote-length (c .before .before .line .ensures)
 
 returns : (t : ℕ) → lines-lts.Need-returns (claims t) (lines-at t) lines.Post
-returns t c = ?
+returns t c = stop-lined (sym (c .before .before .before .before .before .before .before .of-byte .ensures) ∙ c .before .before .before .before .before .enum-told .given .1) (c .before .before .line .ensures)
 
 same-length-2 : (t : ℕ) → lines-lts.Need-same-length-2 (claims t) (lines-at t) lines.Post
-same-length-2 t c = ?
+same-length-2 t c = search needs
 
 returns-2 : (t : ℕ) → lines-lts.Need-returns-2 (claims t) (lines-at t) lines.Post
-returns-2 t c = ?
+returns-2 t c = set-lined (sym (c .before .before .before .before .before .before .before .before .before .before .before .before .before .of-byte .ensures) ∙ c .before .before .before .before .before .before .before .before .before .before .before .act .given .1 ∙ ap One (c .before .before .before .before .enum-told2 .given .1)) (wrote-act (c .before .before .before .before .before .before .before .before .before .before .before .before .before .before .before .before .before .args .depth) (c .before .before .before .before .enum-told2 .given .1) (c .before .before .before .before .before .before .before .before .act-line .ensures)) (c .before .before .lines .ensures)
 
 same-length-3 : (t : ℕ) → lines-lts.Need-same-length-3 (claims t) (lines-at t) lines.Post
-same-length-3 t c = ?
+same-length-3 t c = search needs
 
 returns-3 : (t : ℕ) → lines-lts.Need-returns-3 (claims t) (lines-at t) lines.Post
-returns-3 t c = ?
+returns-3 t c = look-lined (sym (c .before .before .before .before .before .before .before .before .before .before .before .before .before .before .before .before .before .of-byte .ensures) ∙ c .before .before .before .before .before .before .before .before .before .before .before .before .before .before .before .act .given .1 ∙ ap One (c .before .before .before .before .before .before .before .before .enum-told3 .given .1)) (wrote-act (c .before .before .before .before .before .before .before .before .before .before .before .before .before .before .before .before .before .before .before .before .before .args .depth) (c .before .before .before .before .before .before .before .before .enum-told3 .given .1) (c .before .before .before .before .before .before .before .before .before .before .before .before .act-line .ensures)) (c .before .before .before .before .before .before .lines2 .ensures) (c .before .before .lines3 .ensures)
 
 pub +lines-spec : {M : Type 1} → statement M
 +lines-spec = close μ-lines λ t. lines-lts.spec (claims t)
