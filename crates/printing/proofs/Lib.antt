@@ -3,3 +3,4 @@ mod Decimals
 mod Writing
 mod Shown
 mod Lined
+mod Lengths
