@@ -29,11 +29,11 @@ plan-length k depth (look-then i q p r) h =
     let digits = decimal-length k depth (omega arith) in
     let this = numbered-length depth (actText (Look i q)) in
     rw (mul-suc, length-append (encode p) (encode r), mul-add) (
-      omega (
-        arith,
-        length-append (numbered depth (actText (Look i q)) ++ planText (depth + 1) p) (planText (depth + 1) r),
-        length-append (numbered depth (actText (Look i q))) (planText (depth + 1) p),
-      )
+    omega (
+      arith,
+      length-append (numbered depth (actText (Look i q)) ++ planText (depth + 1) p) (planText (depth + 1) r),
+      length-append (numbered depth (actText (Look i q))) (planText (depth + 1) p),
+    )
     )
 
 height-length : (p : Plan) → height p < length (encode p)

@@ -1,4 +1,6 @@
--- What others cite (Theorems), and the laws that this crate's own proofs use.
+-- What others cite: `decimal` is decimal, and what settles the contracts. Then the laws that this crate's own proofs use.
+pub mod Numerals
+pub mod Theorems
 mod Decimals
 mod Writing
 mod Shown

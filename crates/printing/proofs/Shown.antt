@@ -17,7 +17,7 @@ use Rattle.plan.specs.Plans.{Plan, stop, set-then, look-then}
 use Rattle.plan.specs.Bytes.{encode}
 use Rattle.printing.specs.Inner.{Shows}
 
-namedBy : Plan → Named
+abbrev pub namedBy : Plan → Named
 namedBy stop = Nothing
 namedBy (set-then i q b p) = One (Set i q b)
 namedBy (look-then i q p r) = One (Look i q)
@@ -29,9 +29,27 @@ drop-first plan at e =
     (h, cc, rw add-one (cc))
 
 module _ {plan : List ℕ} {at : ℕ} where
+  -- where a plan's parts begin
+  pub set-after : {i q : ℕ} {b : Bool} {p : Plan} → Shows plan at (set-then i q b p) → Shows plan (at + 1) p
+  set-after s = record { rest = s .rest; there = drop-first plan at (s .there) .2; lettered = s .lettered .2 }
+
+  module _ {i q : ℕ} {p r : Plan} (s : Shows plan at (look-then i q p r)) where
+    both : drop (at + 1) plan ≡ encode p ++ (encode r ++ s .rest)
+    both = drop-first plan at (s .there) .2 ∙ append-assoc (encode p) (encode r) (s .rest)
+
+    pub false-after : Shows plan (at + 1) p
+    false-after = record { rest = encode r ++ s .rest; there = both; lettered = s .lettered .2 }
+
+    pub true-after : Shows plan (at + 1 + length (encode p)) r
+    true-after = record {
+      rest = s .rest;
+      there = sym (drop-drop (length (encode p)) (at + 1) plan) ∙ ap (drop (length (encode p))) both ∙ drop-append-seam (encode p) (encode r ++ s .rest);
+      lettered = s .lettered .3;
+    }
+
   -- the first byte is there, and names what the plan begins with
-  shown-first : (p : Plan) → Shows plan at p → (at < length plan) × (actOf (getD plan at 0) ≡ namedBy p)
-  unfolding actOf namedBy
+  pub shown-first : (p : Plan) → Shows plan at p → (at < length plan) × (actOf (getD plan at 0) ≡ namedBy p)
+  unfolding actOf
   shown-first stop s = let f = drop-first plan at (s .there) in (f .0, ap actOf (f .1))
   shown-first (set-then i q b p) s =
       let f = drop-first plan at (s .there) in (f .0, ap actOf (f .1) ∙ act-of-byte (Set i q b) (s .lettered .0) (s .lettered .1))
@@ -45,34 +63,21 @@ module _ {plan : List ℕ} {at : ℕ} where
   shown-named p s e = sym (shown-first p s .1) ∙ e
 
   pub stop-here : (p : Plan) → Shows plan at p → actOf (getD plan at 0) ≡ Nothing → p ≡ stop
-  unfolding namedBy
   stop-here stop s e = refl
   stop-here (set-then i q b p) s e = let d = shown-named (set-then i q b p) s e in let z : _≡_ {A = ℕ} 0 1 = cc in absurd (omega arith)
   stop-here (look-then i q p r) s e = let d = shown-named (look-then i q p r) s e in let z : _≡_ {A = ℕ} 0 1 = cc in absurd (omega arith)
 
   pub set-here : {i q : ℕ} {b : Bool} (p : Plan) → Shows plan at p → actOf (getD plan at 0) ≡ One (Set i q b) → (t : Plan) × (p ≡ set-then i q b t) × Shows plan (at + 1) t
-  unfolding namedBy
   set-here stop s e = let d = shown-named stop s e in let z : _≡_ {A = ℕ} 0 1 = cc in absurd (omega arith)
   set-here (set-then i q b p) s e =
       let d = shown-named (set-then i q b p) s e in
-      (p, cc, record { rest = s .rest; there = drop-first plan at (s .there) .2; lettered = s .lettered .2 })
+      (p, cc, set-after s)
   set-here (look-then i q p r) s e = let d = shown-named (look-then i q p r) s e in let z : _≡_ {A = ℕ} 0 1 = cc in absurd (omega arith)
 
   pub look-here : {i q : ℕ} (p : Plan) → Shows plan at p → actOf (getD plan at 0) ≡ One (Look i q)
       → (t : Plan) × (u : Plan) × (p ≡ look-then i q t u) × Shows plan (at + 1) t × Shows plan (at + 1 + length (encode t)) u
-  unfolding namedBy
   look-here stop s e = let d = shown-named stop s e in let z : _≡_ {A = ℕ} 0 1 = cc in absurd (omega arith)
   look-here (set-then i q b p) s e = let d = shown-named (set-then i q b p) s e in let z : _≡_ {A = ℕ} 0 1 = cc in absurd (omega arith)
   look-here (look-then i q p r) s e =
       let d = shown-named (look-then i q p r) s e in
-      let both = drop-first plan at (s .there) .2 ∙ append-assoc (encode p) (encode r) (s .rest) in (
-        p,
-        r,
-        cc,
-        record { rest = encode r ++ s .rest; there = both; lettered = s .lettered .2 },
-        record {
-          rest = s .rest;
-          there = sym (drop-drop (length (encode p)) (at + 1) plan) ∙ ap (drop (length (encode p))) both ∙ drop-append-seam (encode p) (encode r ++ s .rest);
-          lettered = s .lettered .3;
-        },
-      )
+      (p, r, cc, false-after s, true-after s)
