@@ -1,7 +1,7 @@
 -- How long an answer is: a plan's lines have at most a fixed number of bytes for each of its bytes, by induction on the plan.
 use mathlib.Core.Path.{_≡_, sym, ap, _∙_}
 use mathlib.Core.List.{List, [], _++_, append-nil}
-use Prim.Native.Nat.{ℕ, suc, max, _+_, _*_, _^_, _≤_, _<_}
+use Prim.Native.Nat.{ℕ, suc, _+_, _*_, _^_, _≤_, _<_}
 use native.Mathlib.Nat.{mul-suc, mul-add, le-max-left, le-max-right}
 use native.Mathlib.Omega.{arith}
 use lib.ListN.{length, length-append}
@@ -9,7 +9,6 @@ use Rattle.ground.specs.Text.{bytes}
 use Rattle.knowledge.specs.declared.act.Act.the-variants.{Set, Look}
 use Rattle.plan.specs.Plans.{Plan, stop, set-then, look-then, height}
 use Rattle.plan.specs.Bytes.{encode}
-use Rattle.printing.specs.Decimal.{decimal}
 use Rattle.printing.specs.Printed.{actText, numbered, planText, Lettered}
 use Rattle.printing.specs.Inner.{Shows, Readable}
 use Rattle.printing.proofs.Decimals.{decimal-length}

@@ -1,9 +1,9 @@
 -- Where a plan's bytes begin, the act that the first of them names tells the plan's form and where its parts begin: by the cases of
 -- the plan, since an act and its byte name one another.
-use mathlib.Core.Path.{_≡_, refl, sym, ap, _∙_}
+use mathlib.Core.Path.{_≡_, refl, sym, ap, _∙_, subst}
 use mathlib.Core.Bool.{Bool}
 use mathlib.Core.List.{List, _∷_, _++_, append-assoc}
-use Prim.Native.Nat.{ℕ, suc, _+_, _<_}
+use Prim.Native.Nat.{ℕ, _+_, _<_}
 use native.Mathlib.Numerals.{add-one}
 use native.Mathlib.Omega.{arith}
 use lib.ListN.{length, getD, drop, length-drop}
@@ -22,6 +22,13 @@ namedBy stop = Nothing
 namedBy (set-then i q b p) = One (Set i q b)
 namedBy (look-then i q p r) = One (Look i q)
 
+-- the plan's form, by what its first byte names, and where its parts begin
+abbrev pub Parts : List ℕ → ℕ → Plan → Named → Type 0
+Parts plan at p Nothing = p ≡ stop
+Parts plan at p (One (Set i q b)) = (t : Plan) × (p ≡ set-then i q b t) × Shows plan (at + 1) t
+Parts plan at p (One (Look i q)) =
+    (t : Plan) × (u : Plan) × (p ≡ look-then i q t u) × Shows plan (at + 1) t × Shows plan (at + 1 + length (encode t)) u
+
 drop-first : (plan : List ℕ) (at : ℕ) {c : ℕ} {rest : List ℕ} → drop at plan ≡ c ∷ rest → (at < length plan) × (getD plan at 0 ≡ c) × (drop (at + 1) plan ≡ rest)
 drop-first plan at e =
     let h : at < length plan = omega (arith, length-drop at plan, ap length e) in
@@ -29,7 +36,6 @@ drop-first plan at e =
     (h, cc, rw add-one (cc))
 
 module _ {plan : List ℕ} {at : ℕ} where
-  -- where a plan's parts begin
   pub set-after : {i q : ℕ} {b : Bool} {p : Plan} → Shows plan at (set-then i q b p) → Shows plan (at + 1) p
   set-after s = record { rest = s .rest; there = drop-first plan at (s .there) .2; lettered = s .lettered .2 }
 
@@ -59,25 +65,10 @@ module _ {plan : List ℕ} {at : ℕ} where
   pub shown-here : {p : Plan} → Shows plan at p → at < length plan
   shown-here {p} s = shown-first p s .0
 
-  shown-named : (p : Plan) {named : Named} → Shows plan at p → actOf (getD plan at 0) ≡ named → namedBy p ≡ named
-  shown-named p s e = sym (shown-first p s .1) ∙ e
+  own : (p : Plan) → Shows plan at p → Parts plan at p (namedBy p)
+  own stop s = refl
+  own (set-then i q b p) s = (p, refl, set-after s)
+  own (look-then i q p r) s = (p, r, refl, false-after s, true-after s)
 
-  pub stop-here : (p : Plan) → Shows plan at p → actOf (getD plan at 0) ≡ Nothing → p ≡ stop
-  stop-here stop s e = refl
-  stop-here (set-then i q b p) s e = let d = shown-named (set-then i q b p) s e in let z : _≡_ {A = ℕ} 0 1 = cc in absurd (omega arith)
-  stop-here (look-then i q p r) s e = let d = shown-named (look-then i q p r) s e in let z : _≡_ {A = ℕ} 0 1 = cc in absurd (omega arith)
-
-  pub set-here : {i q : ℕ} {b : Bool} (p : Plan) → Shows plan at p → actOf (getD plan at 0) ≡ One (Set i q b) → (t : Plan) × (p ≡ set-then i q b t) × Shows plan (at + 1) t
-  set-here stop s e = let d = shown-named stop s e in let z : _≡_ {A = ℕ} 0 1 = cc in absurd (omega arith)
-  set-here (set-then i q b p) s e =
-      let d = shown-named (set-then i q b p) s e in
-      (p, cc, set-after s)
-  set-here (look-then i q p r) s e = let d = shown-named (look-then i q p r) s e in let z : _≡_ {A = ℕ} 0 1 = cc in absurd (omega arith)
-
-  pub look-here : {i q : ℕ} (p : Plan) → Shows plan at p → actOf (getD plan at 0) ≡ One (Look i q)
-      → (t : Plan) × (u : Plan) × (p ≡ look-then i q t u) × Shows plan (at + 1) t × Shows plan (at + 1 + length (encode t)) u
-  look-here stop s e = let d = shown-named stop s e in let z : _≡_ {A = ℕ} 0 1 = cc in absurd (omega arith)
-  look-here (set-then i q b p) s e = let d = shown-named (set-then i q b p) s e in let z : _≡_ {A = ℕ} 0 1 = cc in absurd (omega arith)
-  look-here (look-then i q p r) s e =
-      let d = shown-named (look-then i q p r) s e in
-      (p, r, cc, false-after s, true-after s)
+  pub parts : (p : Plan) {named : Named} → Shows plan at p → actOf (getD plan at 0) ≡ named → Parts plan at p named
+  parts p s e = subst (Parts plan at p) (sym (shown-first p s .1) ∙ e) (own p s)

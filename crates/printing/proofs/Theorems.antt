@@ -12,10 +12,10 @@ use Rattle.knowledge.specs.Acts.{byteOf}
 use Rattle.plan.specs.Plans.{Plan, stop, set-then, look-then, height}
 use Rattle.plan.specs.Bytes.{encode}
 use Rattle.printing.specs.Decimal.{decimal}
-use Rattle.printing.specs.Printed.{line, refusedText, planText, reachText, Lettered, fitted, Prints}
+use Rattle.printing.specs.Printed.{refusedText, planText, reachText, Lettered, fitted, Prints}
 use Rattle.printing.specs.Inner.{Shows}
 use Rattle.printing.proofs.Decimals.{decimal-length}
-use Rattle.printing.proofs.Shown.{set-after, false-after, true-after, shown-first, stop-here, set-here, look-here}
+use Rattle.printing.proofs.Shown.{set-after, false-after, true-after, shown-first, parts}
 use Rattle.printing.proofs.Lengths.{plan-length, whole-shown}
 
 -- ---- any two results that a contract allows coincide
@@ -34,12 +34,12 @@ reach-unique h x a b = prints-unique (a (x .0) (x .1) (x .2)) (b (x .0) (x .1) (
 
 module _ {plan : List ℕ} where
   shown-one : {at : ℕ} (p r : Plan) → Shows plan at p → Shows plan at r → p ≡ r
-  shown-one stop r s t = sym (stop-here r t (shown-first stop s .1))
+  shown-one stop r s t = sym (parts r t (shown-first stop s .1))
   shown-one (set-then i q b p) r s t =
-      let x = set-here r t (shown-first (set-then i q b p) s .1) in
+      let x = parts r t (shown-first (set-then i q b p) s .1) in
       ap (set-then i q b) (shown-one p (x .0) (set-after s) (x .2)) ∙ sym (x .1)
   shown-one {at} (look-then i q p u) r s t =
-      let x = look-here r t (shown-first (look-then i q p u) s .1) in
+      let x = parts r t (shown-first (look-then i q p u) s .1) in
       let e = shown-one p (x .0) (false-after s) (x .3) in
       let d = shown-one u (x .1) (true-after s) (subst (λ (y : Plan). Shows plan (at + 1 + length (encode y)) (x .1)) (sym e) (x .4)) in
       ap₂ (look-then i q) e d ∙ sym (x .2)

@@ -14,6 +14,7 @@ pub struct Next {
     pub to: usize,
 }
 
+// V of a set act.
 fn value_digit(value: bool) -> u8
     ensures { λ r. ⌜ r ≡ valueDigit value ⌝ }
 {
@@ -34,6 +35,7 @@ fn line(depth: u64, text: &[u8], out: &mut [u8], to: usize) -> usize
     room::put(b'\n', out, to)
 }
 
+// The line of an act; its setting has a letter and its post a digit.
 fn act_line(depth: u64, act: Act, out: &mut [u8], to: usize) -> usize
     requires { ⌜ (settingOf act < 7) × (postOf act < 8) × Ends to (numbered depth (actText act)) ⌝ }
     ensures { λ r. ⌜ Wrote (now (out .entry)) to (numbered depth (actText act)) (now (out .exit)) r ⌝ }

@@ -1,6 +1,5 @@
 // Text into the lent room from a place on. A place past the room is counted and not written, so each
 // function here gives the place after its text, whatever the room's length.
-ghost use mathlib.Core.Path.{_≡_};
 ghost use mathlib.Core.List.{[], _∷_};
 ghost use Rattle.printing.specs.Decimal.{decimal};
 ghost use Rattle.printing.specs.Inner.{Ends, Wrote};

@@ -1,7 +1,7 @@
 -- `lines` meets its contract: what the plan's first byte names tells its form, and each part of it begins further on, so that fewer bytes
 -- are left, which is the measure.
 use borrow.Author.Needs.{needs}
-use mathlib.Core.Path.{_≡_, sym, ap, _∙_, subst}
+use mathlib.Core.Path.{sym, ap, _∙_}
 use Prim.Native.Nat.{ℕ, _-_, _<_}
 use native.Mathlib.Omega.{arith}
 use lib.ListN.{length}
