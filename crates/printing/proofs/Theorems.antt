@@ -8,8 +8,9 @@ use native.Mathlib.Omega.{arith}
 use lib.ListN.{length, take, drop, length-append, length-take, length-drop, drop-of-length-le}
 use lib.Seq.{take-all, take-append-seam}
 use Rattle.ground.specs.Text.{bytes}
-use Rattle.knowledge.specs.Acts.{byteOf}
-use Rattle.plan.specs.Plans.{Plan, stop, set-then, look-then, height}
+use Rattle.knowledge.specs.Acts.{byteOf, setTo, lookAt}
+use Rattle.knowledge.specs.declared.act.Act.the-variants.{Set, Look}
+use Rattle.plan.specs.Plans.{System, Lawful, Plan, stop, set-then, look-then, Permitted, height}
 use Rattle.plan.specs.Bytes.{encode}
 use Rattle.printing.specs.Decimal.{decimal}
 use Rattle.printing.specs.Printed.{refusedText, planText, reachText, Lettered, fitted, Prints}
@@ -46,6 +47,18 @@ module _ {plan : List ℕ} where
 
 pub encode-one : (p r : Plan) → Lettered p → Lettered r → encode p ≡ encode r → p ≡ r
 encode-one p r a b e = shown-one p r (whole-shown p refl a) (whole-shown r e b)
+
+-- every permitted plan can be printed: what `reach` requires holds of the plan that a finder writes
+pub permitted-lettered : {n : ℕ} {S : System} (law : Lawful n S) → n ≤ 7 → (p : Plan) (k : ℕ) → Permitted S k p → Lettered p
+permitted-lettered law few stop k w = tt
+permitted-lettered law few (set-then i q b p) k w =
+    (omega (arith, law .setting-of k (Set i q b) (w .0)), law .post-of k (Set i q b) (w .0), permitted-lettered law few p (setTo k i b) (w .1))
+permitted-lettered law few (look-then i q p r) k w = (
+  omega (arith, law .setting-of k (Look i q) (w .0)),
+  law .post-of k (Look i q) (w .0),
+  permitted-lettered law few p (lookAt k i false) (w .1),
+  permitted-lettered law few r (lookAt k i true) (w .2),
+)
 
 -- ---- what a caller makes of a printed room
 
