@@ -1,0 +1,56 @@
+-- Text written piece by piece is written whole, and from the front of a room it is what `fitted` says: by induction on the text.
+use mathlib.Core.Path.{_≡_, refl, sym, ap, ap₂, _∙_}
+use mathlib.Core.List.{List, [], _∷_, _++_}
+use Prim.Native.Nat.{ℕ, suc, _+_, _≤_, _<_}
+use native.Mathlib.Nat.{zero-add}
+use native.Mathlib.Numerals.{add-one}
+use native.Mathlib.Omega.{arith}
+use lib.ListN.{length, getD, take, set, length-append}
+use lib.Seq.{sets, length-sets, take-nil, take-all, take-suc}
+use Rattle.book.proofs.Lists.{sets-append}
+use Rattle.printing.specs.Printed.{fitted, Prints}
+use Rattle.printing.specs.Inner.{Ends, Wrote}
+
+-- one text and then another
+pub wrote-then : {a b c s t : List ℕ} {i j k : ℕ} → Wrote a i s b j → Wrote b j t c k → Wrote a i (s ++ t) c k
+wrote-then {a} {s = s} {t = t} {i = i} w v = record {
+  room = v .room ∙ ap₂ (λ (l : List ℕ) (n : ℕ). sets l n t) (w .room) (w .next-place) ∙ sym (sets-append a i s t);
+  next-place = omega (arith, w .next-place, v .next-place, length-append s t);
+}
+
+-- the two parts of a text end where it does
+pub ends-left : (s t : List ℕ) {to : ℕ} → Ends to (s ++ t) → Ends to s
+ends-left s t e = record { below = omega (arith, e .below, length-append s t) }
+
+pub ends-right : {a b s t : List ℕ} {to at : ℕ} → Wrote a to s b at → Ends to (s ++ t) → Ends at t
+ends-right {s = s} {t = t} w e = record { below = omega (arith, e .below, w .next-place, length-append s t) }
+
+-- a room keeps its length
+pub wrote-length : {a b s : List ℕ} {i j : ℕ} → Wrote a i s b j → length b ≡ length a
+wrote-length {a} {s = s} {i = i} w = ap length (w .room) ∙ length-sets a i s
+
+-- one turn of the loop over a text, and its end
+module _ {old new : List ℕ} {to at : ℕ} (text : List ℕ) (i : ℕ) (so-far : Wrote old to (take i text) new at) where
+  pub wrote-more : {last : List ℕ} {next : ℕ} → i < length text → Wrote new at (getD text i 0 ∷ []) last next → Wrote old to (take (i + 1) text) last next
+  wrote-more {last} {next} h w = rw (add-one, take-suc text i 0 h) (wrote-then so-far w)
+
+  pub wrote-all : length text ≤ i → Wrote old to text new at
+  wrote-all h = rw (take-all i text h) at so-far
+
+-- ---- a room from its front
+
+sets-nil : (i : ℕ) (vs : List ℕ) → sets [] i vs ≡ []
+sets-nil i [] = refl
+sets-nil i (v ∷ vs) = sets-nil (suc i) vs
+
+sets-behind : (x : ℕ) (l : List ℕ) (i : ℕ) (vs : List ℕ) → sets (x ∷ l) (suc i) vs ≡ x ∷ sets l i vs
+sets-behind x l i [] = refl
+sets-behind x l i (v ∷ vs) = sets-behind x (set l i v) (suc i) vs
+
+sets-fitted : (old text : List ℕ) → sets old 0 text ≡ fitted old text
+sets-fitted old [] = rw (take-nil (length old))
+sets-fitted [] (v ∷ vs) = sets-nil 1 vs
+sets-fitted (x ∷ old) (v ∷ vs) = sets-behind v old 0 vs ∙ ap (λ (l : List ℕ). v ∷ l) (sets-fitted old vs)
+
+pub prints : {old text new : List ℕ} {r : ℕ} → Wrote old 0 text new r → Prints old text r new
+prints {old} {text} w = record { count = w .next-place ∙ zero-add (length text); room = w .room ∙ sets-fitted old text }

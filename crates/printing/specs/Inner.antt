@@ -1,0 +1,40 @@
+-- What the inner functions promise one another. Inside: no public contract cites it.
+use mathlib.Core.Path.{_≡_}
+use mathlib.Core.List.{List, _++_}
+use Prim.Native.Nat.{ℕ, _+_, _^_, _<_}
+use lib.ListN.{length, drop}
+use lib.Seq.{sets}
+use Rattle.plan.specs.Plans.{Plan}
+use Rattle.plan.specs.Bytes.{encode}
+use Rattle.printing.specs.Printed.{planText, Lettered}
+use Rattle.printing.specs.declared.lines.Next.{Next}
+
+-- the place after the text is a number of the machine
+pub record Ends (to : ℕ) (text : List ℕ) : Type 0 where
+  pub below : to + length text < 2 ^ 64
+
+-- the text was written from a place on, as far as the room goes, and next is the place after it
+pub record Wrote (old : List ℕ) (to : ℕ) (text new : List ℕ) (next : ℕ) : Type 0 where
+  pub room : new ≡ sets old to text
+  pub next-place : next ≡ to + length text
+
+-- the bytes of a plan that can be printed begin at this place
+pub record Shows (plan : List ℕ) (at : ℕ) (p : Plan) : Type 0 where
+  pub rest : List ℕ
+  pub there : drop at plan ≡ encode p ++ rest
+  pub lettered : Lettered p
+
+-- such a plan is there, and neither its depths nor its lines run past the numbers of the machine
+pub record Readable (plan : List ℕ) (at depth to : ℕ) : Type 0 where
+  pub tree : Plan
+  pub shown : Shows plan at tree
+  pub deep : depth + length (encode tree) < 2 ^ 64
+  pub ends : Ends to (planText depth tree)
+
+-- whatever plan is there, its lines were written
+pub record Lined (plan : List ℕ) (at depth : ℕ) (old : List ℕ) (to : ℕ) (r : Next) (new : List ℕ) (p : Plan) : Type 0 where
+  pub wrote : Wrote old to (planText depth p) new (r .to)
+  pub read : r .at ≡ at + length (encode p)
+
+abbrev pub Lines : List ℕ → ℕ → ℕ → List ℕ → ℕ → Next → List ℕ → Type 0
+Lines plan at depth old to r new = (p : Plan) → Shows plan at p → Lined plan at depth old to r new p
