@@ -27,6 +27,8 @@ mod room;
 mod run;
 mod secrets;
 mod sentences;
+mod sheet;
+mod sheets;
 mod tables;
 
 use std::process::ExitCode;
@@ -50,6 +52,7 @@ const AREAS: &[Area] = &[
     Area { name: "finding", functions: &["pj_find"], test: finding::test },
     Area { name: "checking plans", functions: &["pj_plan_check"], test: checking::test },
     Area { name: "secrets", functions: &["pj_find"], test: secrets::test },
+    Area { name: "sheets", functions: &["pj_sheet"], test: sheets::test },
 ];
 
 fn main() -> ExitCode {
