@@ -36,7 +36,9 @@ use std::process::ExitCode;
 use report::{Group, Report, Subject};
 
 const USAGE: &str = "usage: second [--seed S] [--more K] [--only PART]\n\
-    K times as many random cases; only areas with PART in their name";
+    K times as many random cases; only areas with PART in their name\n\
+    or: second --answer FILE\n\
+    this program's own answer to a sheet";
 
 /// A part of the library: the functions that its cases call.
 struct Area {
@@ -66,6 +68,7 @@ fn main() -> ExitCode {
         match (word.as_str(), number, value) {
             ("--seed", Some(number), _) => seed = number,
             ("--more", Some(number), _) if number > 0 => more = number as usize,
+            ("--answer", _, Some(sheet)) => return own_answer(&sheet),
             ("--only", _, Some(part)) if AREAS.iter().any(|area| area.name.contains(&part)) => only = part,
             _ => {
                 eprintln!("{USAGE}");
@@ -83,6 +86,20 @@ fn main() -> ExitCode {
         ExitCode::SUCCESS
     } else {
         ExitCode::FAILURE
+    }
+}
+
+/// The library is not asked.
+fn own_answer(sheet: &str) -> ExitCode {
+    match std::fs::read(sheet) {
+        Ok(bytes) => {
+            print!("{}", sheet::answer(&bytes));
+            ExitCode::SUCCESS
+        }
+        Err(error) => {
+            eprintln!("{sheet}: {error}");
+            ExitCode::from(2)
+        }
     }
 }
 

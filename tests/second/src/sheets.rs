@@ -5,6 +5,7 @@ use std::path::Path;
 
 use crate::damage::{deleted, inserted, replaced, swapped};
 use crate::ffi;
+use crate::formula::LENGTH_MOST;
 use crate::grow::{sentence, SHAPES};
 use crate::refusal::Refusal;
 use crate::report::{shown, Group, Subject};
@@ -29,6 +30,7 @@ pub fn test(subject: &mut Subject) {
     for (n, count) in [(1, 300), (2, 500), (3, 300), (4, 60), (5, 15)] {
         subject.group(&format!("random sheets, n = {n}"), |group| random(group, n, count));
     }
+    subject.group("the longest sheets that are answered", longest_sheets);
     subject.group("the longest answers", longest_answers);
     subject.group("every room up to the answer's length and past it", rooms);
     subject.group("odd lines at every place of a sheet", odd_lines);
@@ -43,18 +45,21 @@ pub fn test(subject: &mut Subject) {
     subject.group("empty sheets, empty lines, and lengths around 32,768", lengths);
     subject.group("random bytes and random lines", rubbish);
     for number in [1, 2, 3, 4] {
-        subject.must_reach(number, 2..=TEAM_LINE - 1);
-        subject.must_reach(number, MAKE_LINE..=LINES_MOST);
+        subject.must_reach(number, 2..=LINES_MOST);
     }
     subject.must_reach(22, 1..=LINES_MOST + 1);
-    subject.must_reach(23, 3..=KNOWN_LINE);
+    subject.must_reach(23, 2..=KNOWN_LINE);
     subject.must_reach(24, 0..=0);
     subject.must_reach(25, 1..=1);
 }
 
+/// One case: the library and this program on the same sheet, in a room that is long enough or, now and then, not.
 fn compare(group: &mut Group, sheet: &[u8]) {
     let printed = answer(sheet);
-    let room = printed.len() + group.rng.one_of(&[0, 1, 50]);
+    let room = match group.rng.below(4) {
+        0 => group.rng.below(printed.len()),
+        _ => printed.len() + group.rng.one_of(&[0, 1, 50]),
+    };
     expect(group, sheet, room, &printed);
 }
 
@@ -212,6 +217,22 @@ fn by_hand(group: &mut Group) {
         (P6[..P6.len() - 1].to_string(), "refused 22 8\n"),
         ([P6, "\n"].concat(), "refused 22 9\n"),
         ([P6, "ask c"].concat(), "refused 22 9\n"),
+        ([P6, "ask ~"].concat(), "refused 22 9\n"),
+        ([P6, "team 1\n"].concat(), "refused 22 9\n"),
+        ([P6, "ask c\n\nask c\n"].concat(), "refused 22 10\n"),
+        ([P6, "ask c\nknown\n"].concat(), "refused 22 10\n"),
+        ("size 2 2\nread a 1 1\nread a 1 1".to_string(), "refused 22 3\n"),
+        ("size 2 2\nread a 1 (\nread a 1 1".to_string(), "refused 4 2\n"),
+        ("size 2 2\nteam 1 2\nread a 1 1\nknown\nmake a\n".to_string(), "refused 22 3\n"),
+        ("size 2 2\nknown\nteam 1\nmake a\n".to_string(), "refused 22 2\n"),
+        ("size 2 2\nteam 1\nteam 2\nknown\nmake a\n".to_string(), "refused 22 3\n"),
+        ("team 1\nsize 2 2\n".to_string(), "refused 22 1\n"),
+        ("size 2\n".to_string(), "refused 22 1\n"),
+        ("size 2 2 2\n".to_string(), "refused 22 1\n"),
+        ("size 2 2\nsize 2 2\n".to_string(), "refused 22 2\n"),
+        ("size 2 2\nsize 6 2\n".to_string(), "refused 22 2\n"),
+        ("size 6 2\nsize 6 2\n".to_string(), "refused 25 1\n"),
+        ("size 6 2 \n".to_string(), "refused 22 1\n"),
         ([P6, "make b\n"].concat(), "refused 22 9\n"),
         ([P6, "ask ~\nask c"].concat(), "refused 4 9\n"),
         ([P6, "ask a\nask a\nask a\nask a\nask (\n"].concat(), "refused 22 13\n"),
@@ -226,6 +247,25 @@ fn by_hand(group: &mut Group) {
         ("read a 1 B\n", "refused 2 2\n"),
         ("read a 1 c\n", "refused 3 2\n"),
         ("read a 1 b&\n", "refused 4 2\n"),
+        ("read a 1 \tb\n", "refused 2 2\n"),
+        ("read a 1 \0\n", "refused 2 2\n"),
+        ("read a 1 \u{e9}\n", "refused 2 2\n"),
+        ("read a 1 b c\n", "refused 2 2\n"),
+        ("read a 1 c d\n", "refused 3 2\n"),
+        ("read a 1 (b(\nread a 1 1\n", "refused 4 2\n"),
+        ("read \u{e9} 1 1\n", "refused 22 2\n"),
+        ("read a 1\0 1\n", "refused 22 2\n"),
+        ("read a 1\t1\n", "refused 22 2\n"),
+        ("read a  1\n", "refused 22 2\n"),
+        ("\n", "refused 22 2\n"),
+        ("read a 1 1\n\nread b 1 1\n", "refused 22 3\n"),
+        ("known\n", "refused 22 2\n"),
+        ("ask a\n", "refused 22 2\n"),
+        ("write b 2 a\nread b 2 a\nwrite a 2 1\nwrite a 1 b\n", "cannot\n"),
+        ("write a 1 1\nwrite a 1 0\n", "refused 23 3\n"),
+        ("write a 2 1\nread a 2 1\nwrite a 2 \n", "refused 23 4\n"),
+        ("write a 2 1\nwrite a 2\n", "refused 22 3\n"),
+        ("write a 3 (\n", "refused 22 2\n"),
         ("read c 1 1\n", "refused 22 2\n"),
         ("read a 3 1\n", "refused 22 2\n"),
         ("read a 0 1\n", "refused 22 2\n"),
@@ -251,6 +291,10 @@ fn by_hand(group: &mut Group) {
         ("team 1", "team 12", "refused 22 2\n"),
         ("team 1", "team ~1", "refused 22 2\n"),
         ("team 1", "team 3", "refused 22 2\n"),
+        ("team 1", "team 1  2", "refused 22 2\n"),
+        ("team 1", "team\t1", "refused 22 2\n"),
+        ("team 1", "team 1 2 3", "refused 22 2\n"),
+        ("team 1", "team 1\r", "refused 22 2\n"),
         ("team 1\n", "", "refused 22 2\n"),
         ("known", "known ", "refused 22 3\n"),
         ("known", "known ~", "refused 22 3\n"),
@@ -265,6 +309,11 @@ fn by_hand(group: &mut Group) {
         ("known", "knowna", "refused 22 3\n"),
         ("known", "known a", "reach 0\n0 stop\n"),
         ("known", "known ~b a", "reach 0\n0 stop\n"),
+        ("known", "known ~a b ~a", "refused 23 3\n"),
+        ("known", "known a  b", "refused 22 3\n"),
+        ("known", "known a ", "refused 22 3\n"),
+        ("known", "known a\nknown a", "refused 22 4\n"),
+        ("known", "known a a ~", "refused 22 3\n"),
         ("known\n", "", "refused 22 3\n"),
         ("make a", "make", "refused 22 4\n"),
         ("make a", "make ", "refused 1 4\n"),
@@ -272,6 +321,9 @@ fn by_hand(group: &mut Group) {
         ("make a", "make ~", "refused 4 4\n"),
         ("make a", "make g", "refused 3 4\n"),
         ("make a", "make h", "refused 2 4\n"),
+        ("make a", "make\ta", "refused 22 4\n"),
+        ("make a", "make a\r", "refused 2 4\n"),
+        ("make a", " make a", "refused 22 4\n"),
         ("make a", "ask a", "refused 22 4\n"),
         ("make a\n", "", "refused 22 4\n"),
         ("make a\n", "make a\nask\n", "refused 22 5\n"),
@@ -312,6 +364,45 @@ fn random(group: &mut Group, n: usize, count: usize) {
     }
 }
 
+/// Every line that a sheet can have, each formula of 255 bytes: 22,592 bytes for five settings and eight posts.
+fn longest_sheet(rng: &mut Rng, n: usize, m: usize) -> Vec<u8> {
+    let mut lines = any_sheet_of(rng, n, m, 100);
+    lines.truncate(1 + 2 * n * m);
+    for line in &mut lines[1..] {
+        let before = line.splitn(4, |&byte| byte == b' ').take(3).collect::<Vec<_>>().join(&b' ');
+        *line = [&before[..], b" ", &long_formula(rng, n)].concat();
+    }
+    let posts = (1..=m).map(|post| format!(" {post}")).collect::<String>();
+    let settings = (0..n).map(|i| format!(" ~{}", (b'a' + i as u8) as char)).collect::<String>();
+    lines.push(format!("team{posts}").into_bytes());
+    lines.push(format!("known{settings}").into_bytes());
+    lines.push([b"make ", &long_formula(rng, n)[..]].concat());
+    for _ in 0..4 {
+        lines.push([b"ask ", &long_formula(rng, n)[..]].concat());
+    }
+    joined(&lines)
+}
+
+fn long_formula(rng: &mut Rng, n: usize) -> Vec<u8> {
+    let shape = rng.one_of(SHAPES);
+    sentence(rng, shape, n, LENGTH_MOST)
+}
+
+fn longest_sheets(group: &mut Group) {
+    for n in 1..=5 {
+        for _ in group.times(2) {
+            let sheet = longest_sheet(&mut group.rng, n, 8);
+            let answered = read(&sheet).is_ok();
+            group.case(answered && (n < 5 || sheet.len() == 22_592), || format!("n {n}, {} bytes", sheet.len()));
+            compare(group, &sheet);
+            for end in (0..sheet.len()).filter(|&place| sheet[place] == b'\n') {
+                compare(group, &inserted(&sheet, end, b'~'));
+                compare(group, &deleted(&sheet, end));
+            }
+        }
+    }
+}
+
 /// The book of greatest rank (questions.rs) as a sheet: 2, 6, 14, 30 and 62 acts.
 fn climb(n: usize) -> String {
     let letters: Vec<String> = (0..n).map(|i| ((b'a' + i as u8) as char).to_string()).collect();
@@ -341,7 +432,7 @@ fn longest_answers(group: &mut Group) {
 
 fn rooms(group: &mut Group) {
     let random: Vec<Lines> = (0..4).map(|_| any_sheet(&mut group.rng, 2)).collect();
-    let sheets = [P6.to_string(), P6.replace("team 1 2", "team 1"), "size 6 6\n".to_string(), climb(2)];
+    let sheets = [P6.to_string(), P6.replace("team 1 2", "team 1"), "size 6 6\n".to_string(), climb(2), climb(3)];
     for sheet in sheets.into_iter().map(String::into_bytes).chain(random.iter().map(|lines| joined(lines))) {
         let printed = answer(&sheet);
         for room in 0..=printed.len() + 3 {
@@ -541,15 +632,35 @@ fn every_line(group: &mut Group) {
             continue;
         };
         expect_at(group, line, before.clone(), 22);
-        let too_long = [&[b'~'; 255][..], b"a"].concat();
-        let faults: &[(&[u8], u32)] =
-            &[(b"", 1), (b" 1", 2), (b"1 ", 2), (b"a|f", 3), (b"(a", 4), (b"a)", 4), (&too_long, 1)];
+        let long = |end: &[u8]| [&[b'~'; LENGTH_MOST - 1][..], end].concat();
+        let faults: &[(&[u8], u32)] = &[
+            (b"", 1),
+            (&long(b"~a"), 1),
+            (b" 1", 2),
+            (b"1 ", 2),
+            (&long(b"\t"), 2),
+            (b"a|f", 3),
+            (&long(b"g"), 3),
+            (b"(a", 4),
+            (b"a)", 4),
+            (&long(b"&"), 4),
+            (&long(b"~"), 4),
+        ];
         for &(formula, number) in faults {
             expect_at(group, line, [&before[..], b" ", formula].concat(), number);
         }
         if line > 1 && before != b"make" && before != b"ask" {
             let earlier = group.rng.between(1, line - 1);
             expect_at(group, line, lines[earlier].clone(), 23);
+        }
+    }
+    for fewer in 1..=2 {
+        for (formula, number) in [("", 1), ("a b", 2), ("f", 3), ("~", 4)] {
+            let mut lines = lines[fewer..MAKE_LINE as usize].to_vec();
+            lines[0] = b"size 5 8".to_vec();
+            *lines.last_mut().unwrap() = format!("make {formula}").into_bytes();
+            let refused = Refusal { number, place: lines.len() as u32 };
+            expect(group, &joined(&lines), 20, &format!("{refused}\n"));
         }
     }
     expect_at(group, TEAM_LINE as usize - 1, b"team 1 8 1".to_vec(), 23);
