@@ -699,6 +699,11 @@ fn formula_lengths(group: &mut Group) {
 
 /// No sheet that is answered comes near the limit, so what is cut to these lengths is refused, at some line or for 24.
 fn lengths(group: &mut Group) {
+    let mut padded = P6.as_bytes().to_vec();
+    for (length, printed) in [(SHEET_MOST, "refused 22 9\n"), (SHEET_MOST + 1, "refused 24 0\n")] {
+        padded.resize(length, b'\n');
+        expect(group, &padded, 20, printed);
+    }
     compare(group, b"");
     for length in (1..=40).chain([1_000, SHEET_MOST - 1, SHEET_MOST, SHEET_MOST + 1, SHEET_MOST + 2]) {
         for byte in [b'\n', b' ', b'a', 0, 255] {
