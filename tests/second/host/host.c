@@ -22,9 +22,10 @@ u64 pj_find(const u8 *book, u64 book_len, u8 team, u8 known, u8 values, const u8
             const u8 *learn, u64 learn_len, u8 *ranks, u64 ranks_len, u8 *plan, u64 plan_len);
 u64 pj_plan_check(const u8 *book, u64 book_len, u8 team, u8 known, u8 values, const u8 *make, u64 make_len,
                   const u8 *learn, u64 learn_len, const u8 *plan, u64 plan_len);
+u64 pj_sheet(const u8 *sheet, u64 len, u8 *out, u64 out_len);
 
 enum { GUARD = 32, ROOMS_MOST = 8 };
-enum { FORMULA_READ = 1, BOOK_READ = 2, BOOK_WRITE = 3, FIND = 4, PLAN_CHECK = 5 };
+enum { FORMULA_READ = 1, BOOK_READ = 2, BOOK_WRITE = 3, FIND = 4, PLAN_CHECK = 5, SHEET = 6 };
 
 static void fill(void *bytes, u64 size) {
     for (u64 done = 0; done < size;) {
@@ -51,6 +52,7 @@ static u64 call(u64 function, const u64 *number, u8 *const *room, const u64 *len
                               room[2], lent[2], room[3], lent[3], room[4], lent[4]);
     case PLAN_CHECK: return pj_plan_check(room[0], lent[0], (u8)number[0], (u8)number[1], (u8)number[2], room[1],
                                           lent[1], room[2], lent[2], room[3], lent[3]);
+    case SHEET: return pj_sheet(room[0], lent[0], room[1], lent[1]);
     }
     _exit(2);
 }

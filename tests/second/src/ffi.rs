@@ -45,3 +45,8 @@ pub fn find(
 pub fn plan_check(book: &mut Room, masks: [u8; 3], make: &mut Room, learn: &mut Room, plan: &mut Room) -> u64 {
     route::plan_check(book, masks, make, learn, plan)
 }
+
+/// Answers a sheet, and leaves as much of what is printed in `out` as fits. The result is the whole answer's length.
+pub fn sheet(sheet: &mut Room, out: &mut Room) -> u64 {
+    route::sheet(sheet, out)
+}

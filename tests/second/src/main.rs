@@ -27,6 +27,8 @@ mod room;
 mod run;
 mod secrets;
 mod sentences;
+mod sheet;
+mod sheets;
 mod tables;
 
 use std::process::ExitCode;
@@ -34,7 +36,9 @@ use std::process::ExitCode;
 use report::{Group, Report, Subject};
 
 const USAGE: &str = "usage: second [--seed S] [--more K] [--only PART]\n\
-    K times as many random cases; only areas with PART in their name";
+    K times as many random cases; only areas with PART in their name\n\
+    or: second --answer FILE\n\
+    this program's own answer to a sheet";
 
 /// A part of the library: the functions that its cases call.
 struct Area {
@@ -50,6 +54,7 @@ const AREAS: &[Area] = &[
     Area { name: "finding", functions: &["pj_find"], test: finding::test },
     Area { name: "checking plans", functions: &["pj_plan_check"], test: checking::test },
     Area { name: "secrets", functions: &["pj_find"], test: secrets::test },
+    Area { name: "sheets", functions: &["pj_sheet"], test: sheets::test },
 ];
 
 fn main() -> ExitCode {
@@ -63,6 +68,7 @@ fn main() -> ExitCode {
         match (word.as_str(), number, value) {
             ("--seed", Some(number), _) => seed = number,
             ("--more", Some(number), _) if number > 0 => more = number as usize,
+            ("--answer", _, Some(sheet)) => return own_answer(&sheet),
             ("--only", _, Some(part)) if AREAS.iter().any(|area| area.name.contains(&part)) => only = part,
             _ => {
                 eprintln!("{USAGE}");
@@ -80,6 +86,20 @@ fn main() -> ExitCode {
         ExitCode::SUCCESS
     } else {
         ExitCode::FAILURE
+    }
+}
+
+/// The library is not asked.
+fn own_answer(sheet: &str) -> ExitCode {
+    match std::fs::read(sheet) {
+        Ok(bytes) => {
+            print!("{}", sheet::answer(&bytes));
+            ExitCode::SUCCESS
+        }
+        Err(error) => {
+            eprintln!("{sheet}: {error}");
+            ExitCode::from(2)
+        }
     }
 }
 

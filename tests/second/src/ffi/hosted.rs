@@ -12,6 +12,7 @@ const BOOK_READ: u64 = 2;
 const BOOK_WRITE: u64 = 3;
 const FIND: u64 = 4;
 const PLAN_CHECK: u64 = 5;
+const SHEET: u64 = 6;
 
 pub fn formula_read(n: u64, text: &mut Room, table: &mut Room) -> u64 {
     call(FORMULA_READ, &[n], &mut [text, table])
@@ -38,6 +39,10 @@ pub fn find(
 
 pub fn plan_check(book: &mut Room, masks: [u8; 3], make: &mut Room, learn: &mut Room, plan: &mut Room) -> u64 {
     call(PLAN_CHECK, &masks.map(u64::from), &mut [book, make, learn, plan])
+}
+
+pub fn sheet(sheet: &mut Room, out: &mut Room) -> u64 {
+    call(SHEET, &[], &mut [sheet, out])
 }
 
 struct Host {

@@ -35,6 +35,7 @@ extern "C" {
         plan: *const u8,
         plan_len: u64,
     ) -> u64;
+    fn pj_sheet(sheet: *const u8, len: u64, out: *mut u8, out_len: u64) -> u64;
 }
 
 /// The pointer may be used over the whole room, guards too, so a stray store is found and is not undefined.
@@ -107,4 +108,8 @@ pub fn plan_check(
             size(plan),
         )
     }
+}
+
+pub fn sheet(sheet: &mut Room, out: &mut Room) -> u64 {
+    unsafe { pj_sheet(start(sheet), size(sheet), start(out), size(out)) }
 }
