@@ -31,11 +31,11 @@ pub record Question (sheet : Sheet) (rights make learn : List ℕ) (team known v
   pub rules : (right : Right) (i q : ℕ) → i < sheet .settings → q < sheet .posts
       → Accepts (sheet .settings) (ruleText (sheet .rules) right i q) (table (tablesOf rights i) q right)
   pub nobody : (right : Right) (i q : ℕ) → i < sheet .settings → sheet .posts ≤ q → q < 8 → table (tablesOf rights i) q right ≡ replicate 16 0
-  pub make : Accepts (sheet .settings) (sheet .make) make
-  pub learn : TablesOf (sheet .settings) (sheet .asks) learn
-  pub team : (q : ℕ) → bit team q ≡ member q (sheet .team)
-  pub known : (i : ℕ) → bit known i ≡ member i (knownSettings (sheet .known))
-  pub values : (i : ℕ) → bit values i ≡ member i (knownTrue (sheet .known))
+  pub made : Accepts (sheet .settings) (sheet .make) make
+  pub learnt : TablesOf (sheet .settings) (sheet .asks) learn
+  pub posts : (q : ℕ) → bit team q ≡ member q (sheet .team)
+  pub settings-known : (i : ℕ) → bit known i ≡ member i (knownSettings (sheet .known))
+  pub settings-true : (i : ℕ) → bit values i ≡ member i (knownTrue (sheet .known))
 
 -- the answer to it, with the room for what is printed before and after, and the length of all of it: "reach" with the least height and the plan
 -- written, or "cannot"
