@@ -1,1 +1,2 @@
 -- The laws of sheets.
+pub mod Split
