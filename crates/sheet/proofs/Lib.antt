@@ -1,2 +1,3 @@
 -- The laws of sheets.
 pub mod Split
+pub mod Names

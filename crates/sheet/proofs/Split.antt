@@ -54,13 +54,16 @@ module _ (mark : ℕ) where
       pushed c [] = f (c ∷ []) []
       pushed c (p ∷ ps) = f (c ∷ p) ps
 
+  pub marked-some : (s : List ℕ) → marked mark (split mark s) ≡ mark ∷ joined mark (split mark s)
+  marked-some s = some-piece (λ q. marked mark q ≡ mark ∷ joined mark q) (λ p ps. refl) s
+
   -- joining undoes splitting
   pub joined-split : (s : List ℕ) → joined mark (split mark s) ≡ s
   unfolding split onto
   joined-split [] = refl
   joined-split (c ∷ s) =
       by-byte (λ c s q. joined mark (split mark s) ≡ s → joined mark q ≡ c ∷ s)
-      (λ s e. some-piece (λ q. marked mark q ≡ mark ∷ joined mark q) (λ p ps. refl) s ∙ ap (_∷_ mark) e)
+      (λ s e. marked-some s ∙ ap (_∷_ mark) e)
       (λ c s other e. pushed c (split mark s) ∙ ap (_∷_ c) e)
       c s (joined-split s)
     where
