@@ -1,3 +1,4 @@
 -- The laws of sheets.
 pub mod Split
 pub mod Names
+pub mod LineForms
