@@ -2,3 +2,6 @@
 pub mod Split
 pub mod Names
 pub mod LineForms
+pub mod LineByLine
+pub mod SoFar
+pub mod Taken
