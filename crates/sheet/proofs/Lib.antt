@@ -5,3 +5,4 @@ pub mod LineForms
 pub mod LineByLine
 pub mod SoFar
 pub mod Taken
+pub mod Grammar

@@ -103,7 +103,7 @@ rule-read n m r h k =
     by-right Look i q F a b = (rw (a, b) tt, ap₂ (λ (x y : ℕ). record { right = Look; setting = x; post = y; text = F }) (omega arith) (omega arith))
     by-right Set i q F a b = (rw (a, b) tt, ap₂ (λ (x y : ℕ). record { right = Set; setting = x; post = y; text = F }) (omega arith) (omega arith))
 
-clear-append : (mark : ℕ) (p q : List ℕ) → Clear mark p → Clear mark q → Clear mark (p ++ q)
+pub clear-append : (mark : ℕ) (p q : List ℕ) → Clear mark p → Clear mark q → Clear mark (p ++ q)
 clear-append mark [] q h k = k
 clear-append mark (c ∷ p) q h k = (h .0, clear-append mark p q (h .1) k)
 
@@ -133,9 +133,10 @@ team-written m line h =
     some : (p : List ℕ) (ps : List (List ℕ)) → 1 ≤ length (indexes 49 (p ∷ ps))
     some p ps = omega arith
 
-pub team-read : (m : ℕ) → m ≤ 8 → (q : ℕ) (qs : List ℕ) → PostsFit m (q ∷ qs) → T (isTeam m (teamLine (q ∷ qs))) × (teamOf (teamLine (q ∷ qs)) ≡ q ∷ qs)
+pub team-read : (m : ℕ) → m ≤ 8 → (qs : List ℕ) → 1 ≤ length qs → PostsFit m qs → T (isTeam m (teamLine qs)) × (teamOf (teamLine qs) ≡ qs)
 unfolding isTeam teamOf teamLine postWords postsText begins
-team-read m l q qs h =
+team-read m l [] some h = absurd (omega arith)
+team-read m l (q ∷ qs) some h =
     let clear = posts-clear (q ∷ qs) in
     let words : split space ((49 + q) ∷ postsText qs) ≡ map postWord (q ∷ qs) =
     ap (λ (s : List ℕ). split space ((49 + q) ∷ s)) (posts-text qs) ∙ split-joined space (postWord q) (map postWord qs) (clear .0) (clear .1) in
