@@ -6,3 +6,4 @@ pub mod LineByLine
 pub mod SoFar
 pub mod Taken
 pub mod Grammar
+pub mod Examples
