@@ -4,6 +4,7 @@ pub mod Names
 pub mod LineForms
 pub mod LineByLine
 pub mod SoFar
+pub mod Steps
 pub mod Taken
 pub mod Grammar
 pub mod Examples

@@ -14,16 +14,13 @@ use Rattle.sheet.specs.Reading.{Step, fault, next, sizeStep, step, Outco
 use Rattle.sheet.specs.Grammar.{ended, text, InLine, WellFormed}
 use Rattle.sheet.proofs.Split.{marked, joined, Clear, AllClear, joined-split, split-clear}
 use Rattle.sheet.proofs.LineByLine.{after, lines-after, first-after}
-use Rattle.sheet.proofs.SoFar.{toRights, toTeam, toKnown, soFar, WellSoFar, Good, size-good, step-good}
+use Rattle.sheet.proofs.SoFar.{soFar, WellSoFar, whole, Good}
+use Rattle.sheet.proofs.Steps.{size-good, step-good}
 
 -- what is stated is well formed, and its text is s
 abbrev Written : List ℕ → Outcome → Type 0
 Written s (refused number line) = Unit
 Written s (stated w) = WellFormed w × (text w ≡ s)
-
-whole : (v : Sheet) → text v ≡ soFar Asks v
-unfolding text toKnown toTeam toRights
-whole v = sym (simp append-assoc)
 
 in-line : (s : List ℕ) → Clear newline s → InLine s
 in-line [] h = tt
