@@ -7,7 +7,7 @@ use Rattle.book.specs.declared.rule.Right.the-variants.{Look, Set}
 use Rattle.formula.specs.Read.{isLetter, isSign, isStray, isPast}
 use Rattle.formula.specs.Automaton.{isAtom, step, verdict}
 use Rattle.formula.specs.Numbered.{sentenceNumber, foreignNumber, formulaNumber}
-use Rattle.sheet.specs.Sheet.{Rule, sameRight, concerns, isStated, knownSettings}
+use Rattle.sheet.specs.Sheet.{sameRight, concerns, isStated, knownSettings}
 use Rattle.sheet.specs.Words.{onto, split, begins, among, isSetting, isPost, isSize, digitAt, isRule, ruleOf, isFalse, bare, isName, allNames, indexOf, indexes, postWords, isTeam, teamOf, settingWords, isKnown, knownBy, knownOf, twice}
 use Rattle.sheet.specs.Reading.{unlessRefused, sized, withRule, withTeam, withKnown, withMake, withAsk, sizeStep, ruleStep, teamStep, knownStep, makeStep, askStep, rightsStep, refused, stated, lines, firstLine, meaning}
 

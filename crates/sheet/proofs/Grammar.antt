@@ -1,13 +1,13 @@
 -- A well-formed sheet is taken as what it is, or refused with a number that is not 22: each of its lines passes the test of its form and reads
 -- back, so that what is left are 23, 24, 25 and a formula's number.
-use mathlib.Core.Path.{_≡_, refl, sym, ap, ap₂, _∙_, subst}
+use mathlib.Core.Path.{_≡_, refl, sym, ap, _∙_, subst}
 use mathlib.Core.Logic.{_⊎_, inl, inr}
 use mathlib.Core.List.{List, [], _∷_, _++_, append-assoc, append-nil}
 use mathlib.Core.Bool.{Bool, true, false, not, _&&_, cond}
-use Prim.Native.Nat.{ℕ, zero, suc, _+_, _≤_, _<_}
+use Prim.Native.Nat.{ℕ, zero, suc, _≤_, _<_}
 use native.Mathlib.Omega.{arith}
 use lib.Dec.{T, leb, ltb, lt→ltb}
-use lib.ListN.{length, drop, length-append}
+use lib.ListN.{length, length-append}
 use Rattle.ground.specs.Text.{bytes}
 use Rattle.ground.proofs.Bools.{T→true}
 use Rattle.book.specs.declared.rule.Right.{Right}
@@ -16,11 +16,10 @@ use Rattle.formula.specs.Read.{isStray, isPast}
 use Rattle.formula.specs.Automaton.{Verdict, whole, breaks, wants, verdict}
 use Rattle.formula.specs.Numbered.{sentenceNumber, foreignNumber, formulaNumber}
 use Rattle.sheet.specs.Sheet.{Rule, Sheet, isStated, knownSettings}
-use Rattle.sheet.specs.Words.{split, newline, begins, isSize, digitAt, isRule, ruleOf, isTeam, teamOf, isKnown, knownOf, twice}
-use Rattle.sheet.specs.declared.desk.Due.{Due}
+use Rattle.sheet.specs.Words.{split, newline, begins, isSize, isRule, ruleOf, isTeam, isKnown, twice}
 use Rattle.sheet.specs.declared.desk.Due.the-variants.{Rights, Known, Make, Asks}
-use Rattle.sheet.specs.Reading.{Step, fault, next, unless, unlessNumbered, unlessRefused, sized, withRule, withTeam, withKnown, withMake, withAsk, sizeStep, ruleStep, teamStep, knownStep, makeStep, askStep, oneOf, rightsStep, step, Outcome, refused, stated, ending, lines, firstLine, meaning}
-use Rattle.sheet.specs.Grammar.{ended, sizeText, word, ruleLine, ruleLines, teamLine, knownLine, makeLine, askLines, text, InLine, RulesFit, PostsFit, KnownFit, AsksFit, WellFormed}
+use Rattle.sheet.specs.Reading.{Step, next, unless, unlessNumbered, unlessRefused, sized, withRule, withTeam, withKnown, withMake, withAsk, sizeStep, ruleStep, teamStep, knownStep, makeStep, askStep, rightsStep, Outcome, refused, stated, lines, firstLine, meaning}
+use Rattle.sheet.specs.Grammar.{ended, sizeText, word, ruleLine, ruleLines, teamLine, knownLine, makeLine, askLines, text, InLine, RulesFit, AsksFit, WellFormed}
 use Rattle.sheet.proofs.Split.{Clear}
 use Rattle.sheet.proofs.LineForms.{clear-append, size-read, size-clear, rule-read, rule-clear, team-read, team-clear, known-read, known-clear}
 use Rattle.sheet.proofs.LineByLine.{after, lines-split, first-split}
@@ -53,7 +52,7 @@ number-small n s =
 
 -- ---- what a well-formed sheet may come to
 
-abbrev Fine : Sheet → Outcome → Type 0
+abbrev pub Fine : Sheet → Outcome → Type 0
 Fine w (refused number line) = number ≡ 22 → ⊥
 Fine w (stated v) = v ≡ w
 

@@ -7,4 +7,6 @@ pub mod SoFar
 pub mod Steps
 pub mod Taken
 pub mod Grammar
+pub mod Places
+pub mod Place
 pub mod Examples

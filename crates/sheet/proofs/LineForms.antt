@@ -1,23 +1,23 @@
 -- Each form of line, both ways: a line that passes its test is written as the grammar says, and a line so written passes it and reads back. The
 -- first word is compared byte by byte; what follows stands at fixed places.
-use mathlib.Core.Path.{_≡_, refl, sym, ap, ap₂, _∙_, subst}
-use mathlib.Core.Logic.{_⊎_, inl, inr}
+use mathlib.Core.Path.{_≡_, refl, sym, ap, ap₂, _∙_}
+use mathlib.Core.Logic.{inl, inr}
 use mathlib.Core.List.{List, [], _∷_, _++_, map}
-use mathlib.Core.Bool.{Bool, true, false, not, _&&_, _||_, cond}
-use Prim.Native.Nat.{ℕ, zero, suc, _+_, _-_, _≤_, _<_}
+use mathlib.Core.Bool.{Bool, true, false, _||_}
+use Prim.Native.Nat.{ℕ, suc, _+_, _-_, _≤_, _<_}
 use native.Mathlib.Numerals.{add-one, add-two, add-three, add-four}
 use native.Mathlib.Omega.{arith}
-use lib.Dec.{T, eqb, leb, ltb, eqb→eq, not-T}
+use lib.Dec.{T, eqb, eqb→eq, not-T}
 use lib.ListN.{length, getD, drop, drop-of-length-le, List·getD-eq-default}
 use lib.Seq.{drop-cons}
 use Rattle.ground.specs.Text.{bytes}
-use Rattle.ground.proofs.Bools.{T→true, T→false, and-in, and-left, and-right, or-out, decide, lt-or-ge}
+use Rattle.ground.proofs.Bools.{T→true, T→false, and-left, and-right, decide, lt-or-ge}
 use Rattle.book.specs.declared.rule.Right.{Right}
 use Rattle.book.specs.declared.rule.Right.the-variants.{Look, Set}
 use Rattle.sheet.specs.Sheet.{Rule, Known}
 use Rattle.sheet.specs.Words.{space, split, begins, among, isSetting, isPost, isSize, digitAt, isRule, ruleOf, allNames, indexes, postWords, isTeam, teamOf, settingWords, isKnown, knownBy, knownOf}
 use Rattle.sheet.specs.Grammar.{sizeText, word, ruleLine, postsText, teamLine, knownWord, knownsText, knownLine, PostsFit, KnownFit}
-use Rattle.sheet.proofs.Split.{marked, joined, Clear, some-piece, marked-some, joined-split, split-joined}
+use Rattle.sheet.proofs.Split.{marked, Clear, some-piece, marked-some, joined-split, split-joined}
 use Rattle.sheet.proofs.Names.{three, five, among-in, among-out, postWord, posts-text, posts-clear, posts-written, posts-read, knowns-text, knowns-clear, knowns-written, knowns-read}
 
 -- ---- a first word, and bytes at fixed places

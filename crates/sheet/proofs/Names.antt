@@ -1,14 +1,14 @@
 -- The words after `team` and `known`, both ways: a word that passes the test is the sign of what it names, and that sign names it again. By
 -- recursion over the words.
-use mathlib.Core.Path.{_≡_, refl, sym, ap, ap₂, _∙_, subst}
-use mathlib.Core.Logic.{_⊎_, inl, inr}
+use mathlib.Core.Path.{_≡_, refl, sym, ap, ap₂, _∙_}
+use mathlib.Core.Logic.{inl, inr}
 use mathlib.Core.List.{List, [], _∷_, _++_, map}
-use mathlib.Core.Bool.{Bool, true, false, not, _&&_, _||_, cond}
-use Prim.Native.Nat.{ℕ, zero, suc, _+_, _-_, _≤_, _<_}
+use mathlib.Core.Bool.{Bool, true, false, not, _&&_, _||_}
+use Prim.Native.Nat.{ℕ, _+_, _-_, _≤_, _<_}
 use native.Mathlib.Omega.{arith}
 use lib.Dec.{T, eqb, leb, ltb, eqb→eq, leb→le, le→leb, ltb→lt, lt→ltb, not-T}
-use lib.ListN.{length, getD, drop}
-use Rattle.ground.proofs.Bools.{T→true, T→false, and-in, and-left, and-right, or-out, decide, eq→eqb}
+use lib.ListN.{length, getD}
+use Rattle.ground.proofs.Bools.{T→true, T→false, and-in, and-left, and-right, decide}
 use Rattle.sheet.specs.Sheet.{Known}
 use Rattle.sheet.specs.Words.{space, among, isFalse, bare, isName, allNames, indexOf, indexes, knownBy}
 use Rattle.sheet.specs.Grammar.{postsText, knownWord, knownsText, PostsFit, KnownFit}

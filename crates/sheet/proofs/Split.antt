@@ -1,10 +1,9 @@
 -- Cutting a text at its marks and joining the pieces with the mark undo one another: by induction on the text, a byte at a time.
 use mathlib.Core.Path.{_≡_, refl, sym, ap, _∙_, subst}
-use mathlib.Core.Logic.{_⊎_, inl, inr}
+use mathlib.Core.Logic.{inl, inr}
 use mathlib.Core.List.{List, [], _∷_, _++_, append-nil}
-use mathlib.Core.Bool.{Bool, true, false, not}
 use Prim.Native.Nat.{ℕ}
-use lib.Dec.{T, eqb, eqb→eq, eqb-refl, not-T}
+use lib.Dec.{eqb, eqb→eq, eqb-refl, not-T}
 use Rattle.ground.proofs.Bools.{T→true, T→false, eq→eqb, decide, both}
 use Rattle.sheet.specs.Words.{onto, split}
 
@@ -91,7 +90,7 @@ module _ (mark : ℕ) where
   split-marked [] s h = split-mark s
   split-marked (c ∷ p) s h = split-other c (p ++ mark ∷ s) (h .0) ∙ ap (onto c) (split-marked p s (h .1))
 
-  pub split-last : (p : List ℕ) → Clear mark p → split mark p ≡ p ∷ []
+  split-last : (p : List ℕ) → Clear mark p → split mark p ≡ p ∷ []
   unfolding split onto
   split-last [] h = refl
   split-last (c ∷ p) h = split-other c p (h .0) ∙ ap (onto c) (split-last p (h .1))

@@ -1,23 +1,21 @@
 -- Each line that is taken adds its own text to the text of the lines before it, and keeps what they say well formed: by the form of the line.
-use mathlib.Core.Path.{_≡_, refl, sym, ap, _∙_, subst}
+use mathlib.Core.Path.{_≡_, refl, sym, ap, _∙_}
 use mathlib.Core.List.{List, [], _∷_, _++_, append-assoc, append-nil}
-use mathlib.Core.Bool.{Bool, true, false, not, _&&_, cond}
-use Prim.Native.Nat.{ℕ, zero, suc, _+_, _≤_, _<_}
+use mathlib.Core.Bool.{Bool, true, false, not, _&&_}
+use Prim.Native.Nat.{ℕ, zero, suc, _+_, _<_}
 use native.Mathlib.Omega.{arith}
-use native.Mathlib.Numerals.{add-one}
 use lib.Dec.{T, leb, ltb, ltb→lt}
 use lib.ListN.{length, drop, length-append}
 use Rattle.ground.specs.Text.{bytes}
 use Rattle.ground.proofs.Bools.{and-left, and-right}
 use Rattle.book.specs.declared.rule.Right.{Right}
 use Rattle.book.specs.declared.rule.Right.the-variants.{Look, Set}
-use Rattle.formula.specs.Numbered.{formulaNumber}
 use Rattle.sheet.specs.Sheet.{Rule, Sheet, isStated, knownSettings}
-use Rattle.sheet.specs.Words.{split, newline, begins, isSize, digitAt, isRule, ruleOf, isTeam, teamOf, isKnown, knownOf, twice}
+use Rattle.sheet.specs.Words.{begins, isSize, digitAt, isRule, ruleOf, isTeam, teamOf, isKnown, knownOf, twice}
 use Rattle.sheet.specs.declared.desk.Due.{Due}
 use Rattle.sheet.specs.declared.desk.Due.the-variants.{Rights, Known, Make, Asks}
-use Rattle.sheet.specs.Reading.{Step, fault, next, unless, unlessNumbered, unlessRefused, sized, withRule, withTeam, withKnown, withMake, withAsk, sizeStep, ruleStep, teamStep, knownStep, makeStep, askStep, oneOf, rightsStep, step, Outcome, refused, stated, ending, lines, firstLine, meaning}
-use Rattle.sheet.specs.Grammar.{ended, sizeText, word, ruleLine, ruleLines, teamLine, knownLine, makeLine, askLines, text, InLine, RulesFit, PostsFit, KnownFit, AsksFit, WellFormed}
+use Rattle.sheet.specs.Reading.{Step, next, unless, unlessRefused, sized, withRule, withTeam, withKnown, withMake, withAsk, sizeStep, ruleStep, teamStep, knownStep, makeStep, askStep, oneOf, rightsStep, step}
+use Rattle.sheet.specs.Grammar.{ended, sizeText, word, ruleLine, ruleLines, makeLine, askLines, text, InLine, RulesFit, AsksFit, WellFormed}
 use Rattle.sheet.proofs.LineForms.{begins-written, size-written, rule-written, team-written, known-written}
 use Rattle.sheet.proofs.SoFar.{toRights, toTeam, toKnown, soFar, Begun, Teamed, WellSoFar, made, Good, good-begins, good-form, good-unless, good-refused}
 

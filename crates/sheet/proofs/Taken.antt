@@ -1,6 +1,6 @@
 -- What a sheet that is taken states is well formed, and written out it is the sheet again: each of its lines adds its text, and there is nothing
 -- after the last.
-use mathlib.Core.Path.{_≡_, refl, sym, ap, _∙_, subst, subst₂}
+use mathlib.Core.Path.{_≡_, sym, _∙_, subst, subst₂}
 use mathlib.Core.List.{List, [], _∷_, _++_, append-assoc, append-nil}
 use mathlib.Core.Bool.{Bool, true, false, cond}
 use Prim.Native.Nat.{ℕ, suc}
@@ -12,7 +12,8 @@ use Rattle.sheet.specs.declared.desk.Due.{Due}
 use Rattle.sheet.specs.declared.desk.Due.the-variants.{Rights, Known, Make, Asks}
 use Rattle.sheet.specs.Reading.{Step, fault, next, sizeStep, step, Outcome, refused, stated, ending, lines, firstLine, meaning}
 use Rattle.sheet.specs.Grammar.{ended, text, InLine, WellFormed}
-use Rattle.sheet.proofs.Split.{marked, joined, Clear, AllClear, joined-split, split-clear}
+use Rattle.sheet.specs.Place.{IsSheet}
+use Rattle.sheet.proofs.Split.{joined, Clear, AllClear, joined-split, split-clear}
 use Rattle.sheet.proofs.LineByLine.{after, lines-after, first-after}
 use Rattle.sheet.proofs.SoFar.{soFar, WellSoFar, whole, Good}
 use Rattle.sheet.proofs.Steps.{size-good, step-good}
@@ -22,7 +23,7 @@ abbrev Written : List ℕ → Outcome → Type 0
 Written s (refused number line) = Unit
 Written s (stated w) = WellFormed w × (text w ≡ s)
 
-in-line : (s : List ℕ) → Clear newline s → InLine s
+pub in-line : (s : List ℕ) → Clear newline s → InLine s
 in-line [] h = tt
 in-line (c ∷ s) h = (h .0, in-line s (h .1))
 
@@ -69,6 +70,10 @@ meaning-written s = by-length (ltb 32768 (length s))
     by-length true = tt
     by-length false = subst (λ (x : List ℕ). Written x (firstLine (split newline s))) (joined-split newline s) (first-written (split newline s) (split-clear newline s))
 
--- THE TEXT THAT IS TAKEN: what is stated is well formed, and it is the sheet
+-- what is stated is well formed, and its text is the sheet
 pub stated-written : (s : List ℕ) (w : Sheet) → meaning s ≡ stated w → WellFormed w × (text w ≡ s)
 stated-written s w e = subst (Written s) e (meaning-written s)
+
+-- ONLY A WELL-FORMED SHEET IS TAKEN
+pub taken-only-well-formed : (s : List ℕ) (w : Sheet) → meaning s ≡ stated w → IsSheet s
+taken-only-well-formed s w e = let t = stated-written s w e in record { sheet = w; well-formed = t .0; written = t .1 }
