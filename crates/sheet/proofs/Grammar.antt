@@ -19,10 +19,9 @@ use Rattle.sheet.specs.Sheet.{Rule, Sheet, isStated, knownSettings}
 use Rattle.sheet.specs.Words.{split, newline, begins, isSize, isRule, ruleOf, isTeam, isKnown, twice}
 use Rattle.sheet.specs.declared.desk.Due.the-variants.{Rights, Known, Make, Asks}
 use Rattle.sheet.specs.Reading.{Step, next, unless, unlessNumbered, unlessRefused, sized, withRule, withTeam, withKnown, withMake, withAsk, sizeStep, ruleStep, teamStep, knownStep, makeStep, askStep, rightsStep, Outcome, refused, stated, lines, firstLine, meaning}
-use Rattle.sheet.specs.Grammar.{ended, sizeText, word, ruleLine, ruleLines, teamLine, knownLine, makeLine, askLines, text, InLine, RulesFit, AsksFit, WellFormed}
-use Rattle.sheet.proofs.Split.{Clear}
+use Rattle.sheet.specs.Grammar.{ended, sizeText, word, ruleLine, ruleLines, teamLine, knownLine, makeLine, askLines, text, RulesFit, AsksFit, WellFormed}
 use Rattle.sheet.proofs.LineForms.{clear-append, size-read, size-clear, rule-read, rule-clear, team-read, team-clear, known-read, known-clear}
-use Rattle.sheet.proofs.LineByLine.{after, lines-split, first-split}
+use Rattle.sheet.proofs.LineByLine.{line-clear, after, lines-split, first-split}
 
 -- ---- a formula's number is at most 5
 
@@ -69,10 +68,6 @@ module _ (w : Sheet) (L : ℕ) (pieces : List (List ℕ)) where
       by-number zero l = h
       by-number (suc x) l = omega arith
 
-clear : (s : List ℕ) → InLine s → Clear newline s
-clear [] h = tt
-clear (c ∷ s) h = (h .0, clear s (h .1))
-
 -- ---- the sheet as it is stated so far
 
 abbrev ruled : Sheet → List Rule → Sheet
@@ -105,7 +100,7 @@ module _ (w : Sheet) (h : WellFormed w) where
   asks-fine (F ∷ Fs) done L i e =
       let fewer : length done < 4 = omega (arith, h .asks-most, ap length e, length-append done (F ∷ Fs)) in
       let line : List ℕ = bytes "ask " ++ F in
-      subst (Fine w) (sym (lines-split L Asks (asking w done) line (askLines Fs) (clear-append 10 (bytes "ask ") F (omega arith) (clear F (i .0)))))
+      subst (Fine w) (sym (lines-split L Asks (asking w done) line (askLines Fs) (clear-append 10 (bytes "ask ") F (omega arith) (line-clear F (i .0)))))
       (rw (T→true (ltb (length done) 4) (lt→ltb (length done) 4 fewer))
       (fine-refused w L (split newline (askLines Fs)) (w .settings) F (next Asks (asking w (done ++ F ∷ [])))
       (asks-fine Fs (done ++ F ∷ []) (suc L) (i .1) (append-assoc done (F ∷ []) Fs ∙ e))))
@@ -113,7 +108,7 @@ module _ (w : Sheet) (h : WellFormed w) where
   make-fine : (L : ℕ) → Fine w (lines L Make (knowing w) (split newline (ended (makeLine (w .make)) ++ askLines (w .asks))))
   unfolding makeStep begins withMake makeLine
   make-fine L =
-      subst (Fine w) (sym (lines-split L Make (knowing w) (makeLine (w .make)) (askLines (w .asks)) (clear-append 10 (bytes "make ") (w .make) (omega arith) (clear (w .make) (h .make)))))
+      subst (Fine w) (sym (lines-split L Make (knowing w) (makeLine (w .make)) (askLines (w .asks)) (clear-append 10 (bytes "make ") (w .make) (omega arith) (line-clear (w .make) (h .make)))))
       (fine-refused w L (split newline (askLines (w .asks))) (w .settings) (w .make) (next Asks (asking w []))
       (asks-fine (w .asks) [] (suc L) (h .asks) refl))
 
@@ -145,7 +140,7 @@ module _ (w : Sheet) (h : WellFormed w) where
       let v : Sheet = ruled w done in
       subst (Fine w)
       (sym (ap (λ (s : List ℕ). lines L Rights v (split newline s)) (append-assoc (ended (ruleLine r)) (ruleLines rs) rest)
-      ∙ lines-split L Rights v (ruleLine r) others (rule-clear r (clear (r .text) (i .0 .2)))
+      ∙ lines-split L Rights v (ruleLine r) others (rule-clear r (line-clear (r .text) (i .0 .2)))
       ∙ ap (after L (split newline others)) (right-step v r (i .0 .0) (i .0 .1))))
       (fine-unless w L (split newline others) (not (isStated done (r .right) (r .setting) (r .post))) 23 (unlessRefused (w .settings) (r .text) (next Rights (withRule v r))) (omega arith)
       (fine-refused w L (split newline others) (w .settings) (r .text) (next Rights (withRule v r))

@@ -7,8 +7,17 @@ use Rattle.sheet.specs.Sheet.{Sheet}
 use Rattle.sheet.specs.Words.{split, newline}
 use Rattle.sheet.specs.declared.desk.Due.{Due}
 use Rattle.sheet.specs.Reading.{Step, fault, next, sizeStep, step, Outcome, refused, lines, firstLine}
-use Rattle.sheet.specs.Grammar.{ended}
+use Rattle.sheet.specs.Grammar.{ended, InLine}
 use Rattle.sheet.proofs.Split.{Clear, some-piece, split-marked}
+
+-- to be in a line is to be clear of byte 10
+pub in-line : (s : List ℕ) → Clear newline s → InLine s
+in-line [] h = tt
+in-line (c ∷ s) h = (h .0, in-line s (h .1))
+
+pub line-clear : (s : List ℕ) → InLine s → Clear newline s
+line-clear [] h = tt
+line-clear (c ∷ s) h = (h .0, line-clear s (h .1))
 
 -- what comes of a sheet after line L, from what that line does
 abbrev pub after : ℕ → List (List ℕ) → Step → Outcome

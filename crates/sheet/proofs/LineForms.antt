@@ -3,7 +3,7 @@
 use mathlib.Core.Path.{_≡_, refl, sym, ap, ap₂, _∙_}
 use mathlib.Core.Logic.{inl, inr}
 use mathlib.Core.List.{List, [], _∷_, _++_, map}
-use mathlib.Core.Bool.{Bool, true, false, _||_}
+use mathlib.Core.Bool.{true, false, _||_}
 use Prim.Native.Nat.{ℕ, suc, _+_, _-_, _≤_, _<_}
 use native.Mathlib.Numerals.{add-one, add-two, add-three, add-four}
 use native.Mathlib.Omega.{arith}
@@ -18,7 +18,7 @@ use Rattle.sheet.specs.Sheet.{Rule, Known}
 use Rattle.sheet.specs.Words.{space, split, begins, among, isSetting, isPost, isSize, digitAt, isRule, ruleOf, allNames, indexes, postWords, isTeam, teamOf, settingWords, isKnown, knownBy, knownOf}
 use Rattle.sheet.specs.Grammar.{sizeText, word, ruleLine, postsText, teamLine, knownWord, knownsText, knownLine, PostsFit, KnownFit}
 use Rattle.sheet.proofs.Split.{marked, Clear, some-piece, marked-some, joined-split, split-joined}
-use Rattle.sheet.proofs.Names.{three, five, among-in, among-out, postWord, posts-text, posts-clear, posts-written, posts-read, knowns-text, knowns-clear, knowns-written, knowns-read}
+use Rattle.sheet.proofs.Names.{three, five, among-in, among-out, postWord, posts-text, posts-clear, posts-written, posts-read, knowns-text, word-clear, knowns-clear, knowns-written, knowns-read}
 
 -- ---- a first word, and bytes at fixed places
 
@@ -186,13 +186,9 @@ known-read n l (k ∷ ks) h =
     rw (long, words) (knowns-read n l (k ∷ ks) h)
 
 pub known-clear : (ks : List Known) → Clear 10 (knownLine ks)
-unfolding knownLine knownsText knownWord
+unfolding knownLine knownsText
 known-clear ks = clear-append 10 (bytes "known") (knownsText ks) (omega arith) (knowns ks)
   where
-    one : (value : Bool) (i : ℕ) → Clear 10 (knownWord (record { setting = i; value = value }))
-    one true i = omega arith
-    one false i = omega arith
-
     knowns : (ks : List Known) → Clear 10 (knownsText ks)
     knowns [] = tt
-    knowns (k ∷ ks) = (omega arith, clear-append 10 (knownWord k) (knownsText ks) (one (k .value) (k .setting)) (knowns ks))
+    knowns (k ∷ ks) = (omega arith, clear-append 10 (knownWord k) (knownsText ks) (word-clear 10 (omega arith) k) (knowns ks))

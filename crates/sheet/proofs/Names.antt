@@ -105,14 +105,17 @@ unfolding knownsText
 knowns-text [] = refl
 knowns-text (k ∷ ks) = ap (λ (s : List ℕ). space ∷ (knownWord k ++ s)) (knowns-text ks)
 
-pub knowns-clear : (ks : List Known) → AllClear space (map knownWord ks)
+pub word-clear : (mark : ℕ) → mark < 97 → (k : Known) → Clear mark (knownWord k)
 unfolding knownWord
-knowns-clear [] = tt
-knowns-clear (k ∷ ks) = (word-clear (k .value) (k .setting), knowns-clear ks)
+word-clear mark l k = by-value (k .value) (k .setting)
   where
-    word-clear : (value : Bool) (i : ℕ) → Clear space (knownWord (record { setting = i; value = value }))
-    word-clear true i = omega arith
-    word-clear false i = omega arith
+    by-value : (value : Bool) (i : ℕ) → Clear mark (knownWord (record { setting = i; value = value }))
+    by-value true i = omega arith
+    by-value false i = omega arith
+
+pub knowns-clear : (ks : List Known) → AllClear space (map knownWord ks)
+knowns-clear [] = tt
+knowns-clear (k ∷ ks) = (word-clear space (omega arith) k, knowns-clear ks)
 
 pub knowns-written : (n : ℕ) (words : List (List ℕ)) → T (allNames true 97 n words) → KnownFit n (knownBy words) × (map knownWord (knownBy words) ≡ words)
 unfolding allNames knownBy knownWord

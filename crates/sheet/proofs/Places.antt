@@ -13,10 +13,9 @@ use Rattle.sheet.specs.Reading.{Step, fault, next, sized, sizeStep, step
 use Rattle.sheet.specs.Grammar.{ended}
 use Rattle.sheet.specs.Place.{BeginsSheet, allEnded}
 use Rattle.sheet.proofs.Split.{AllClear, some-piece, split-clear}
-use Rattle.sheet.proofs.LineByLine.{after, lines-after, first-after, lines-split, first-split}
+use Rattle.sheet.proofs.LineByLine.{in-line, after, lines-after, first-after, lines-split, first-split}
 use Rattle.sheet.proofs.SoFar.{soFar, WellSoFar, begins-less, so-far-begins, Good}
 use Rattle.sheet.proofs.Steps.{size-good, step-good}
-use Rattle.sheet.proofs.Taken.{in-line}
 
 -- x at L, after the text `before`, from line K on, where the sheet goes on with these pieces; `run` is what comes of another text in their place
 pub record At (before : List ℕ) (pieces : List (List ℕ)) (run : List ℕ → Outcome) (K x L : ℕ) : Type 0 where

@@ -11,10 +11,10 @@ use Rattle.sheet.specs.Words.{split, newline}
 use Rattle.sheet.specs.declared.desk.Due.{Due}
 use Rattle.sheet.specs.declared.desk.Due.the-variants.{Rights, Known, Make, Asks}
 use Rattle.sheet.specs.Reading.{Step, fault, next, sizeStep, step, Outcome, refused, stated, ending, lines, firstLine, meaning}
-use Rattle.sheet.specs.Grammar.{ended, text, InLine, WellFormed}
+use Rattle.sheet.specs.Grammar.{ended, text, WellFormed}
 use Rattle.sheet.specs.Place.{IsSheet}
-use Rattle.sheet.proofs.Split.{joined, Clear, AllClear, joined-split, split-clear}
-use Rattle.sheet.proofs.LineByLine.{after, lines-after, first-after}
+use Rattle.sheet.proofs.Split.{joined, AllClear, joined-split, split-clear}
+use Rattle.sheet.proofs.LineByLine.{in-line, after, lines-after, first-after}
 use Rattle.sheet.proofs.SoFar.{soFar, WellSoFar, whole, Good}
 use Rattle.sheet.proofs.Steps.{size-good, step-good}
 
@@ -22,10 +22,6 @@ use Rattle.sheet.proofs.Steps.{size-good, step-good}
 abbrev Written : List ℕ → Outcome → Type 0
 Written s (refused number line) = Unit
 Written s (stated w) = WellFormed w × (text w ≡ s)
-
-pub in-line : (s : List ℕ) → Clear newline s → InLine s
-in-line [] h = tt
-in-line (c ∷ s) h = (h .0, in-line s (h .1))
 
 -- after the last byte 10
 ending-written : (due : Due) (v : Sheet) (rest : List ℕ) (L : ℕ) → WellSoFar due v → Written (soFar due v ++ rest) (ending due v rest L)
