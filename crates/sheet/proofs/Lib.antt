@@ -1,12 +1,12 @@
 -- The laws of sheets.
 pub mod Split
-pub mod Names
+pub mod WordForms
 pub mod LineForms
 pub mod LineByLine
 pub mod SoFar
-pub mod Steps
+pub mod GoodLines
 pub mod Taken
 pub mod Grammar
-pub mod Places
+pub mod RefusedAt
 pub mod Place
 pub mod Examples
