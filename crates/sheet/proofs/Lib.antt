@@ -1,4 +1,4 @@
--- The laws of sheets.
+-- The laws of sheets: what the functions need, line by line; then the grammar, and where 22 stands.
 pub mod Pieces
 pub mod NameLaws
 pub mod FormLaws
@@ -9,3 +9,14 @@ pub mod LineLaws
 pub mod Turns
 pub mod RuleTurns
 pub mod ReadLaws
+pub mod Split
+pub mod WordForms
+pub mod LineForms
+pub mod LineByLine
+pub mod SoFar
+pub mod GoodLines
+pub mod Taken
+pub mod Grammar
+pub mod RefusedAt
+pub mod Place
+pub mod Examples
