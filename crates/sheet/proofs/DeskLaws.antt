@@ -153,9 +153,10 @@ module _ (sheet : Sheet) (d : Desk) (h : Holds sheet d) (r : Rule) (t : List ℕ
         | inl c ↦ (let e = slot-same r right i q c in
             slot-as (d .settings) _ _ {b = true} {G = r .text}
             (stated-snoc (sheet .rules) r right i q ∙ ap (λ (b : Bool). isStated (sheet .rules) right i q || b) (T→true (concerns r right i q) c) ∙ or-true (isStated (sheet .rules) right i q))
-            (text-same (sheet .rules) r right i q (not-yet right i q c) (T→true (concerns r right i q) c))
-            (ap (λ (k : ℕ). getD (set (d .stated) own 1) k 0) e ∙ getD-set-same (d .stated) own 1 0 (subst (λ (k : ℕ). own < k) (sym (h .stated-size)) small),
-              subst (Accepts (d .settings) (r .text)) (sym (ap (tableIn (sets (d .rights) (16 * own) t)) e ∙ own-table)) a))
+            (text-same (sheet .rules) r right i q (not-yet right i q c) (T→true (concerns r right i q) c)) (
+              ap (λ (k : ℕ). getD (set (d .stated) own 1) k 0) e ∙ getD-set-same (d .stated) own 1 0 (subst (λ (k : ℕ). own < k) (sym (h .stated-size)) small),
+              subst (Accepts (d .settings) (r .text)) (sym (ap (tableIn (sets (d .rights) (16 * own) t)) e ∙ own-table)) a,
+            ))
         | inr c ↦ (let f = T→false (concerns r right i q) c in
             slot-as (d .settings) _ _
             (stated-snoc (sheet .rules) r right i q ∙ ap (λ (b : Bool). isStated (sheet .rules) right i q || b) f ∙ or-false (isStated (sheet .rules) right i q))
@@ -166,9 +167,21 @@ module _ (sheet : Sheet) (d : Desk) (h : Holds sheet d) (r : Rule) (t : List ℕ
   pub holds-rule : Holds (withRule sheet r) (ruledDesk d (slotOf (r .right) (r .setting) (r .post)) t)
   unfolding withRule ruledDesk own
   holds-rule = record {
-    settings = h .settings; posts = h .posts; settings-least = h .settings-least; settings-most = h .settings-most; posts-least = h .posts-least; posts-most = h .posts-most;
+    settings = h .settings;
+    posts = h .posts;
+    settings-least = h .settings-least;
+    settings-most = h .settings-most;
+    posts-least = h .posts-least;
+    posts-most = h .posts-most;
     rights-size = length-sets (d .rights) (16 * own) t ∙ h .rights-size;
     stated-size = length-set (d .stated) own 1 ∙ h .stated-size;
     slots = slots-after;
-    team = h .team; known = h .known; values = h .values; make = h .make; asks = h .asks; asks-most = h .asks-most; learn-size = h .learn-size; learn = h .learn;
+    team = h .team;
+    known = h .known;
+    values = h .values;
+    make = h .make;
+    asks = h .asks;
+    asks-most = h .asks-most;
+    learn-size = h .learn-size;
+    learn = h .learn;
   }

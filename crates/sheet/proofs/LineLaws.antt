@@ -40,27 +40,69 @@ module _ (sheet : Sheet) (d : Desk) (h : Holds sheet d) where
       → Holds (withTeam sheet line) (record { settings = d .settings; posts = d .posts; rights = d .rights; stated = d .stated; team = mask; known = d .known; values = d .values; make = d .make; asks = d .asks; learn = d .learn })
   unfolding withTeam
   holds-team line mask m = record {
-    settings = h .settings; posts = h .posts; settings-least = h .settings-least; settings-most = h .settings-most; posts-least = h .posts-least; posts-most = h .posts-most;
-    rights-size = h .rights-size; stated-size = h .stated-size; slots = h .slots; team = m; known = h .known; values = h .values; make = h .make; asks = h .asks;
-    asks-most = h .asks-most; learn-size = h .learn-size; learn = h .learn;
+    settings = h .settings;
+    posts = h .posts;
+    settings-least = h .settings-least;
+    settings-most = h .settings-most;
+    posts-least = h .posts-least;
+    posts-most = h .posts-most;
+    rights-size = h .rights-size;
+    stated-size = h .stated-size;
+    slots = h .slots;
+    team = m;
+    known = h .known;
+    values = h .values;
+    make = h .make;
+    asks = h .asks;
+    asks-most = h .asks-most;
+    learn-size = h .learn-size;
+    learn = h .learn;
   }
 
   pub holds-known : (line : List ℕ) (mask values : ℕ) → ((i : ℕ) → bit mask i ≡ member i (knownSettings (knownOf line))) → ((i : ℕ) → bit values i ≡ member i (knownTrue (knownOf line)))
       → Holds (withKnown sheet line) (record { settings = d .settings; posts = d .posts; rights = d .rights; stated = d .stated; team = d .team; known = mask; values = values; make = d .make; asks = d .asks; learn = d .learn })
   unfolding withKnown
   holds-known line mask values m v = record {
-    settings = h .settings; posts = h .posts; settings-least = h .settings-least; settings-most = h .settings-most; posts-least = h .posts-least; posts-most = h .posts-most;
-    rights-size = h .rights-size; stated-size = h .stated-size; slots = h .slots; team = h .team; known = m; values = v; make = h .make; asks = h .asks;
-    asks-most = h .asks-most; learn-size = h .learn-size; learn = h .learn;
+    settings = h .settings;
+    posts = h .posts;
+    settings-least = h .settings-least;
+    settings-most = h .settings-most;
+    posts-least = h .posts-least;
+    posts-most = h .posts-most;
+    rights-size = h .rights-size;
+    stated-size = h .stated-size;
+    slots = h .slots;
+    team = h .team;
+    known = m;
+    values = v;
+    make = h .make;
+    asks = h .asks;
+    asks-most = h .asks-most;
+    learn-size = h .learn-size;
+    learn = h .learn;
   }
 
   pub holds-make : (F t : List ℕ) → Accepts (d .settings) F t
       → Holds (withMake sheet F) (record { settings = d .settings; posts = d .posts; rights = d .rights; stated = d .stated; team = d .team; known = d .known; values = d .values; make = t; asks = d .asks; learn = d .learn })
   unfolding withMake
   holds-make F t a = record {
-    settings = h .settings; posts = h .posts; settings-least = h .settings-least; settings-most = h .settings-most; posts-least = h .posts-least; posts-most = h .posts-most;
-    rights-size = h .rights-size; stated-size = h .stated-size; slots = h .slots; team = h .team; known = h .known; values = h .values; make = a; asks = h .asks;
-    asks-most = h .asks-most; learn-size = h .learn-size; learn = h .learn;
+    settings = h .settings;
+    posts = h .posts;
+    settings-least = h .settings-least;
+    settings-most = h .settings-most;
+    posts-least = h .posts-least;
+    posts-most = h .posts-most;
+    rights-size = h .rights-size;
+    stated-size = h .stated-size;
+    slots = h .slots;
+    team = h .team;
+    known = h .known;
+    values = h .values;
+    make = a;
+    asks = h .asks;
+    asks-most = h .asks-most;
+    learn-size = h .learn-size;
+    learn = h .learn;
   }
 
   module _ (F t : List ℕ) (few : d .asks < 4) (sixteen : length t ≡ 16) (a : Accepts (d .settings) F t) where
@@ -73,8 +115,19 @@ module _ (sheet : Sheet) (d : Desk) (h : Holds sheet d) where
     pub holds-ask : Holds (withAsk sheet F) (askedDesk d t)
     unfolding withAsk askedDesk
     holds-ask = record {
-      settings = h .settings; posts = h .posts; settings-least = h .settings-least; settings-most = h .settings-most; posts-least = h .posts-least; posts-most = h .posts-most;
-      rights-size = h .rights-size; stated-size = h .stated-size; slots = h .slots; team = h .team; known = h .known; values = h .values; make = h .make;
+      settings = h .settings;
+      posts = h .posts;
+      settings-least = h .settings-least;
+      settings-most = h .settings-most;
+      posts-least = h .posts-least;
+      posts-most = h .posts-most;
+      rights-size = h .rights-size;
+      stated-size = h .stated-size;
+      slots = h .slots;
+      team = h .team;
+      known = h .known;
+      values = h .values;
+      make = h .make;
       asks = sym (length-append (sheet .asks) (F ∷ []) ∙ omega (arith, h .asks));
       asks-most = omega arith;
       learn-size = length-sets (d .learn) (16 * d .asks) t ∙ h .learn-size;

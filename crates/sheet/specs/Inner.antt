@@ -101,12 +101,30 @@ pub record Holds (sheet : Sheet) (d : Desk) : Type 0 where
 -- the desk with one right more, and with one more formula to learn
 unfoldable pub ruledDesk : Desk → ℕ → List ℕ → Desk
 ruledDesk d slot t = record {
-  settings = d .settings; posts = d .posts; rights = sets (d .rights) (16 * slot) t; stated = set (d .stated) slot 1; team = d .team; known = d .known; values = d .values; make = d .make; asks = d .asks; learn = d .learn;
+  settings = d .settings;
+  posts = d .posts;
+  rights = sets (d .rights) (16 * slot) t;
+  stated = set (d .stated) slot 1;
+  team = d .team;
+  known = d .known;
+  values = d .values;
+  make = d .make;
+  asks = d .asks;
+  learn = d .learn;
 }
 
 unfoldable pub askedDesk : Desk → List ℕ → Desk
 askedDesk d t = record {
-  settings = d .settings; posts = d .posts; rights = d .rights; stated = d .stated; team = d .team; known = d .known; values = d .values; make = d .make; asks = d .asks + 1; learn = sets (d .learn) (16 * d .asks) t;
+  settings = d .settings;
+  posts = d .posts;
+  rights = d .rights;
+  stated = d .stated;
+  team = d .team;
+  known = d .known;
+  values = d .values;
+  make = d .make;
+  asks = d .asks + 1;
+  learn = sets (d .learn) (16 * d .asks) t;
 }
 
 -- what a line does, on the desk

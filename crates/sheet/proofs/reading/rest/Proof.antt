@@ -74,10 +74,15 @@ loop-less : tie.Need-loop-less Inv-loop μ-loop
 loop-less c = omega (arith, c .before .before .before .before .before .before .before .piece-end .ensures .from, c .before .before .before .before .before .before .if1 .left)
 
 loop-again : tie.Need-loop-again Inv-loop μ-loop
-loop-again c = (omega (arith, c .before .before .before .before .before .before .if1 .left), omega (arith, c .before .before .before .before .before .before .before .piece-end .ensures .from, c .before .before .before .before .before .before .before .before .loop .inv .1), c .before .before .before .before .before .before .before .before .loop .inv .2, λ stated h.
-    let z = c .before .before .before .before .before .before .before .before .loop .inv .3 stated h in
-    let w = went-on-by (step (c .before .before .before .before .before .before .before .before .loop .due) (z .0) (part (c .before .before .before .before .before .before .before .before .before .before .args .sheet .now) (c .before .before .before .before .before .before .before .before .loop .at) (c .before .before .before .before .before .before .before .piece-end .result))) (c .before .before .before .before .line .result .desk) (c .before .before .taken2 .given .1) (c .before .before .before .before .line .ensures (z .0) (z .1)) in
-    (w .0, w .2, rw (add-one, add-one) (sym (rest-goes-on (c .before .before .before .before .before .before .before .before .before .before .args .sheet .now) (c .before .before .before .before .before .before .before .before .loop .at) (c .before .before .before .before .before .before .before .piece-end .result) (c .before .before .before .before .before .before .before .before .loop .number) (c .before .before .before .before .before .before .before .before .loop .due) (z .0) (c .before .before .before .before .before .before .before .piece-end .ensures) (c .before .before .before .before .before .before .if1 .left) (w .1)) ∙ z .2)))
+loop-again c = (
+  omega (arith, c .before .before .before .before .before .before .if1 .left),
+  omega (arith, c .before .before .before .before .before .before .before .piece-end .ensures .from, c .before .before .before .before .before .before .before .before .loop .inv .1),
+  c .before .before .before .before .before .before .before .before .loop .inv .2,
+  λ stated h.
+      let z = c .before .before .before .before .before .before .before .before .loop .inv .3 stated h in
+      let w = went-on-by (step (c .before .before .before .before .before .before .before .before .loop .due) (z .0) (part (c .before .before .before .before .before .before .before .before .before .before .args .sheet .now) (c .before .before .before .before .before .before .before .before .loop .at) (c .before .before .before .before .before .before .before .piece-end .result))) (c .before .before .before .before .line .result .desk) (c .before .before .taken2 .given .1) (c .before .before .before .before .line .ensures (z .0) (z .1)) in
+      (w .0, w .2, rw (add-one, add-one) (sym (rest-goes-on (c .before .before .before .before .before .before .before .before .before .before .args .sheet .now) (c .before .before .before .before .before .before .before .before .loop .at) (c .before .before .before .before .before .before .before .piece-end .result) (c .before .before .before .before .before .before .before .before .loop .number) (c .before .before .before .before .before .before .before .before .loop .due) (z .0) (c .before .before .before .before .before .before .before .piece-end .ensures) (c .before .before .before .before .before .before .if1 .left) (w .1)) ∙ z .2)),
+)
 
 pub rest-spec : {M : Type 1} → statement M
 rest-spec =
