@@ -37,27 +37,57 @@ sized n m = record { settings = n; posts = m; rules = []; team = []; known = [];
 -- and the sheet with one line more
 unfoldable pub withRule : Sheet → Rule → Sheet
 withRule sheet r = record {
-  settings = sheet .settings; posts = sheet .posts; rules = sheet .rules ++ (r ∷ []); team = sheet .team; known = sheet .known; make = sheet .make; asks = sheet .asks;
+  settings = sheet .settings;
+  posts = sheet .posts;
+  rules = sheet .rules ++ (r ∷ []);
+  team = sheet .team;
+  known = sheet .known;
+  make = sheet .make;
+  asks = sheet .asks;
 }
 
 unfoldable pub withTeam : Sheet → List ℕ → Sheet
 withTeam sheet line = record {
-  settings = sheet .settings; posts = sheet .posts; rules = sheet .rules; team = teamOf line; known = sheet .known; make = sheet .make; asks = sheet .asks;
+  settings = sheet .settings;
+  posts = sheet .posts;
+  rules = sheet .rules;
+  team = teamOf line;
+  known = sheet .known;
+  make = sheet .make;
+  asks = sheet .asks;
 }
 
 unfoldable pub withKnown : Sheet → List ℕ → Sheet
 withKnown sheet line = record {
-  settings = sheet .settings; posts = sheet .posts; rules = sheet .rules; team = sheet .team; known = knownOf line; make = sheet .make; asks = sheet .asks;
+  settings = sheet .settings;
+  posts = sheet .posts;
+  rules = sheet .rules;
+  team = sheet .team;
+  known = knownOf line;
+  make = sheet .make;
+  asks = sheet .asks;
 }
 
 unfoldable pub withMake : Sheet → List ℕ → Sheet
 withMake sheet F = record {
-  settings = sheet .settings; posts = sheet .posts; rules = sheet .rules; team = sheet .team; known = sheet .known; make = F; asks = sheet .asks;
+  settings = sheet .settings;
+  posts = sheet .posts;
+  rules = sheet .rules;
+  team = sheet .team;
+  known = sheet .known;
+  make = F;
+  asks = sheet .asks;
 }
 
 unfoldable pub withAsk : Sheet → List ℕ → Sheet
 withAsk sheet F = record {
-  settings = sheet .settings; posts = sheet .posts; rules = sheet .rules; team = sheet .team; known = sheet .known; make = sheet .make; asks = sheet .asks ++ (F ∷ []);
+  settings = sheet .settings;
+  posts = sheet .posts;
+  rules = sheet .rules;
+  team = sheet .team;
+  known = sheet .known;
+  make = sheet .make;
+  asks = sheet .asks ++ (F ∷ []);
 }
 
 -- `size N M`; "25 n above 5 in the program"
