@@ -98,14 +98,14 @@ team-byte : {m team : ℕ} → m ≤ 8 → TeamFits m team → team < 256
 team-byte {m} {team} h t = omega (arith, low-bits team m team (below-power team) (t .posts), pow-mono {i = m} {j = 8} h)
 
 module _ {book : List ℕ} {q : Question} {make learn : List ℕ} {n m : ℕ} (v : ValidQuestion book q make learn n m) where
-  lawful : Lawful n (systemOf n book (q .team) make learn)
+  pub lawful : Lawful n (systemOf n book (q .team) make learn)
   unfolding systemOf
   lawful = team-lawful n book (q .team) (settled n make learn) (team-byte (v .sound .posts .most) (v .team))
 
   few : n ≤ 7
   few = v .sound .settings .most
 
-  find-clear : (ranks : List ℕ) → 7 ^ n ≤ length ranks → Clear (findRows book (q .team) (q .known) (q .values) make learn ranks)
+  pub find-clear : (ranks : List ℕ) → 7 ^ n ≤ length ranks → Clear (findRows book (q .team) (q .known) (q .values) make learn ranks)
   unfolding findRows
   find-clear ranks h =
       clear-append (questionRows book (q .team) (q .known) (q .values) make learn) _

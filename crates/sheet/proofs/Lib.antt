@@ -1,6 +1,6 @@
 -- The laws of sheets.
 pub mod Split
-pub mod Names
+pub mod ListedNames
 pub mod LineForms
 pub mod LineByLine
 pub mod SoFar
@@ -12,3 +12,6 @@ pub mod Place
 pub mod Examples
 pub mod Pieces
 pub mod NameLaws
+pub mod DeskRights
+pub mod DeskGoal
+pub mod DeskQuestion
