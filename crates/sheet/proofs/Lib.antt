@@ -15,3 +15,4 @@ pub mod NameLaws
 pub mod DeskRights
 pub mod DeskGoal
 pub mod DeskQuestion
+pub mod AnswerLaws
