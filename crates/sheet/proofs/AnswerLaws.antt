@@ -14,7 +14,7 @@ use Rattle.sheet.specs.declared.desk.Fault.{Fault}
 use Rattle.sheet.specs.declared.reading.Told.{Told}
 use Rattle.sheet.specs.declared.reading.Told.the-variants.{Stated, Refused}
 use Rattle.sheet.proofs.Taken.{stated-written}
-use Rattle.sheet.proofs.DeskQuestion.{desk-question}
+use Rattle.sheet.proofs.DeskRights.{desk-question}
 
 module _ (s : List ℕ) {told : Told} (d : Desk) (reads : Reads (meaning s) told d) where
   -- a sheet that is stated is whole on the desk

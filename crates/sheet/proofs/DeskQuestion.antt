@@ -1,35 +1,26 @@
--- The question on the desk is the one that the sheet asks, and it is valid: so the finder refuses nothing, and its plan fits a room of 2,016 bytes.
-use mathlib.Core.Path.{_≡_, refl, sym, ap, _∙_, subst}
+-- What is asked on the desk, as the functions ask it: the question is the sheet's, so the book is written, the finder refuses nothing, and the plan
+-- fits a room of 2,016 bytes and can be printed.
+use mathlib.Core.Path.{_≡_, refl, sym, ap, _∙_, subst, subst₂}
 use mathlib.Core.Logic.{_⊎_, inl, inr}
 use mathlib.Core.List.{List, _++_}
-use Prim.Native.Nat.{ℕ, suc, _+_, _-_, _*_, _^_, _≤_, _<_}
-use native.Mathlib.Nat.{le-trans, mul-le-mul, pow-le-pow-right}
+use Prim.Native.Nat.{ℕ, _+_, _*_, _^_, _≤_}
+use native.Mathlib.Nat.{pow-le-pow-right}
 use native.Mathlib.Omega.{arith}
 use lib.Dec.{lit<}
-use lib.ListN.{length, take, drop, length-append, length-drop}
-use lib.Pow.{pow-mono}
+use lib.ListN.{length, take, drop, length-append}
 use lib.Seq.{take-at}
-use Rattle.ground.specs.Search.{Least}
-use Rattle.formula.specs.Read.{Accepts}
-use Rattle.book.specs.Rule.{table}
-use Rattle.book.specs.Sound.{tablesOf}
-use Rattle.book.specs.Written.{bookOf}
+use Rattle.book.specs.Written.{bookOf, Writable}
 use Rattle.book.specs.Promise.{Writes}
 use Rattle.book.specs.declared.writing.WriteAnswer.{WriteAnswer}
 use Rattle.book.specs.declared.writing.WriteAnswer.the-variants.{Written as BookWritten}
 use Rattle.book.proofs.OrderLaws.{first-clear}
 use Rattle.book.proofs.SoundLaws.{length-book}
-use Rattle.book.proofs.RoundTrip.{written-sound}
 use Rattle.book.proofs.Theorems.{sound-one, writes-one}
-use Rattle.plan.specs.Plans.{System, Lawful, Plan}
-use Rattle.plan.specs.Ranks.{Reach as ReachIn, Written}
+use Rattle.plan.specs.Plans.{Lawful, Plan}
+use Rattle.plan.specs.Ranks.{Written}
 use Rattle.plan.specs.Bytes.{encode}
-use Rattle.plan.specs.Pending.{unknowns}
-use Rattle.plan.proofs.Unknowns.{unknowns-le}
-use Rattle.plan.proofs.Ranks.{has-rank, rank-reach, rank-most}
 use Rattle.plan.proofs.Size.{works-permitted}
 use Rattle.plan.proofs.Written.{written-works}
-use Rattle.plan.proofs.Accepted.{written-size}
 use Rattle.finder.specs.Question.{systemOf, startNumber}
 use Rattle.finder.specs.Rows.{number, place, findRows}
 use Rattle.finder.specs.Finds.{ValidQuestion, Answers, Finds}
@@ -41,42 +32,30 @@ use Rattle.finder.specs.declared.finding.Answer.the-variants.{Reach, Cannot, Re
 use Rattle.finder.proofs.Theorems.{lawful, find-clear}
 use Rattle.printing.specs.Printed.{cannotText, reachText, Lettered, Prints}
 use Rattle.printing.proofs.Theorems.{permitted-lettered}
-use Rattle.sheet.specs.Sheet.{Sheet, ruleText}
-use Rattle.sheet.specs.Grammar.{WellFormed}
-use Rattle.sheet.specs.Answer.{TablesOf, Question, Tells}
-use Rattle.sheet.specs.Inner.{Holds, Whole, rightsIn, learnIn, bookIn, systemIn, startIn}
+use Rattle.sheet.specs.Answer.{Question, Tells}
+use Rattle.sheet.specs.Inner.{Whole, rightsIn, learnIn, bookIn, systemIn, startIn}
 use Rattle.sheet.specs.declared.desk.Desk.{Desk}
-use Rattle.sheet.proofs.DeskRights.{rights-length, desk-accepts, desk-nobody, desk-writable}
-use Rattle.sheet.proofs.DeskGoal.{desk-team, desk-known, desk-goal}
+use Rattle.sheet.proofs.SheetQuestion.{asked-writable, asked-valid, asked-most}
+use Rattle.sheet.proofs.DeskRights.{rights-length, desk-question}
 
 -- the masks on the desk
 abbrev pub asking : Desk → Asking
 asking d = record { team = d .team; known = d .known; values = d .values }
 
-pub desk-question : {sheet : Sheet} {d : Desk} → Holds sheet d → WellFormed sheet → Question sheet (rightsIn d) (d .make) (learnIn d) (d .team) (d .known) (d .values)
-unfolding learnIn
-desk-question {sheet} {d} h w = record {
-  size = rights-length h ∙ ap (λ (n : ℕ). 256 * n) (h .settings);
-  rules = λ right i q hi hq.
-      subst (λ (n : ℕ). Accepts n (ruleText (sheet .rules) right i q) (table (tablesOf (rightsIn d) i) q right)) (h .settings)
-      (desk-accepts h right i q (omega (arith, h .settings)) (omega (arith, w .posts-most)));
-  nobody = λ right i q hi l hq. desk-nobody h right i q (omega (arith, h .settings)) hq w l;
-  made = subst (λ (n : ℕ). Accepts n (sheet .make) (d .make)) (h .settings) (h .make);
-  learnt = subst (λ (n : ℕ). TablesOf n (sheet .asks) (take (16 * d .asks) (d .learn))) (h .settings) (h .learn);
-  posts = h .team;
-  settings-known = h .known;
-  settings-true = h .values;
-}
-
 module _ {d : Desk} (x : Whole d) where
+  -- what holds of the sheet's question holds of the desk's
+  on-desk : (P : ℕ → ℕ → Type 0) → P (x .sheet .settings) (x .sheet .posts) → P (d .settings) (d .posts)
+  on-desk P h = subst₂ P (sym (x .holds .settings)) (sym (x .holds .posts)) h
+
+  question : Question (x .sheet) (rightsIn d) (d .make) (learnIn d) (d .team) (d .known) (d .values)
+  question = desk-question (x .holds) (x .well-formed)
+
+  desk-writable : Writable (d .settings) (d .posts) (rightsIn d)
+  desk-writable = on-desk (λ n m. Writable n m (rightsIn d)) (asked-writable (x .well-formed) question)
+
   desk-valid : ValidQuestion (bookIn d) (asking d) (d .make) (learnIn d) (d .settings) (d .posts)
   unfolding bookIn
-  desk-valid = record {
-    sound = written-sound (desk-writable (x .holds) (x .well-formed));
-    team = desk-team (x .holds) (x .well-formed);
-    known = desk-known (x .holds) (x .well-formed);
-    goal = desk-goal (x .holds) (x .well-formed);
-  }
+  desk-valid = on-desk (λ n m. ValidQuestion (bookOf n m (rightsIn d)) (asking d) (d .make) (learnIn d) n m) (asked-valid (x .well-formed) question)
 
   desk-lawful : Lawful (d .settings) (systemIn d)
   unfolding systemIn
@@ -84,6 +63,12 @@ module _ {d : Desk} (x : Whole d) where
 
   few : d .settings ≤ 7
   few = omega (arith, x .holds .settings-most)
+
+  plan-most : (p : Plan) → Written (systemIn d) (startIn d) p → length (encode p) ≤ 2016
+  unfolding systemIn bookIn
+  plan-most p t =
+      on-desk (λ n m. Written (systemOf n (bookOf n m (rightsIn d)) (d .team) (d .make) (learnIn d)) (startIn d) p → length (encode p) ≤ 2016)
+      (λ u. asked-most (x .well-formed) question (omega (arith, x .holds .settings, x .holds .settings-most)) (startIn d) p u .1) t
 
   pub book-length : length (bookIn d) ≡ 512 * (1 + d .settings)
   unfolding bookIn
@@ -94,11 +79,10 @@ module _ {d : Desk} (x : Whole d) where
       → take (512 * (1 + d .settings)) after ≡ bookIn d
   unfolding bookIn
   desk-written room after a size wrote =
-      let good = desk-writable (x .holds) (x .well-formed) in
       let book = bookOf (d .settings) (d .posts) (rightsIn d) in
-      let same = writes-one (d .settings) (d .posts) (rightsIn d) room a BookWritten after (book ++ drop (512 * (1 + d .settings)) room) wrote (good, omega (arith, x .holds .settings-most), refl) in
+      let same = writes-one (d .settings) (d .posts) (rightsIn d) room a BookWritten after (book ++ drop (512 * (1 + d .settings)) room) wrote (desk-writable, omega (arith, x .holds .settings-most), refl) in
       ap (take (512 * (1 + d .settings))) (same .1)
-      ∙ take-at book (drop (512 * (1 + d .settings)) room) (512 * (1 + d .settings)) (length-book (d .settings) (d .posts) (rightsIn d) (good .size))
+      ∙ take-at book (drop (512 * (1 + d .settings)) room) (512 * (1 + d .settings)) (length-book (d .settings) (d .posts) (rightsIn d) (desk-writable .size))
 
   -- the finder answers
   pub desk-found : {book : List ℕ} (ranks plan : List ℕ) (a : Answer) (ranks′ plan′ : List ℕ) → book ≡ bookIn d → length ranks ≡ 16807
@@ -116,19 +100,6 @@ module _ {d : Desk} (x : Whole d) where
       by-case (inr (n, m, v, l, r, s)) =
           subst (λ (k : ℕ). Answers (systemOf k (bookIn d) (d .team) (d .make) (learnIn d)) (startNumber (d .known) (d .values)) plan a plan′)
           (sound-one (v .sound) (desk-valid .sound) .0) s
-
-  -- 2^5 branches of at most 62 acts and a stop
-  plan-most : (p : Plan) → Written (systemIn d) (startIn d) p → length (encode p) ≤ 2016
-  plan-most p w =
-      let n = d .settings in
-      let k = startIn d in
-      let r = has-rank desk-lawful k in
-      let low : r .0 < 255 = rank-reach desk-lawful k (r .0) few (r .1) .1 (p, written-works (systemIn d) p k w) in
-      let most = rank-most desk-lawful k (r .0) (r .1) (λ e. omega arith) in
-      le-trans (written-size desk-lawful few k p (r .0) w (r .1))
-      (mul-le-mul {n₁ = 2 ^ unknowns n k} {m₁ = suc (r .0)} {n₂ = 32} {m₂ = 63}
-      (pow-mono {i = unknowns n k} {j = 5} (omega (arith, unknowns-le n k, x .holds .settings-most)))
-      (omega (arith, pow-mono {i = suc n} {j = 6} (omega (arith, x .holds .settings-most)))))
 
   -- what the finder answered, once it is known to be a refusal or a plan
   module _ (plan plan′ : List ℕ) (r : Answer) (answered : Answers (systemIn d) (startIn d) plan r plan′) where

@@ -1,25 +1,21 @@
--- The rights on the desk are the tables of their texts, `0` where a right is not stated; so they may be written as a book. Slot by slot.
+-- The desk asks what the sheet asks: its rights are the tables of their texts, `0` where a right is not stated. Slot by slot.
 use mathlib.Core.Path.{_≡_, refl, sym, ap, ap₂, _∙_, subst}
 use mathlib.Core.Logic.{_⊎_, inl, inr}
 use mathlib.Core.Bool.{Bool, true, false, _||_, cond}
 use mathlib.Core.List.{List, [], _∷_}
-use Prim.Native.Nat.{ℕ, zero, suc, _+_, _*_, _/_, _%_, _≤_, _<_}
+use Prim.Native.Nat.{ℕ, zero, suc, _+_, _*_, _≤_, _<_}
 use native.Mathlib.Nat.{add-assoc}
 use native.Mathlib.Omega.{arith}
 use lib.Dec.{T, eqb, eqb→eq, lit<, lit≤}
-use lib.ListN.{length, getD, take, drop, replicate, length-replicate, getD-replicate, List·getD-eq-default}
+use lib.ListN.{length, getD, take, drop, replicate}
 use lib.Seq.{length-take-le, getD-take}
-use Rattle.ground.specs.Digits.{bit}
-use Rattle.ground.specs.Table.{truth, Within}
+use Rattle.ground.specs.Table.{Within}
 use Rattle.ground.specs.Text.{bytes}
-use Rattle.ground.proofs.Bools.{decide, and-right, T→false, lt-or-ge}
-use Rattle.ground.proofs.Bits.{bit-of-zero}
+use Rattle.ground.proofs.Bools.{decide, and-right, T→false}
 use Rattle.formula.specs.Grammar.{text, meaning, nought, one-unit, one-product}
 use Rattle.formula.specs.Read.{isLetter, isSign, isStray, isPast, Foreign, Accepts}
-use Rattle.book.specs.Block.{Zeros}
 use Rattle.book.specs.Rule.{tablePlace, table}
 use Rattle.book.specs.Sound.{tablesOf}
-use Rattle.book.specs.Written.{Writable}
 use Rattle.book.specs.declared.rule.Right.{Right}
 use Rattle.book.specs.declared.rule.Right.the-variants.{Look, Set}
 use Rattle.book.proofs.Lists.{getD-part, part-same}
@@ -27,17 +23,12 @@ use Rattle.book.proofs.WriteLaws.{length-tables}
 use Rattle.book.proofs.RuleLaws.{place-most}
 use Rattle.sheet.specs.Sheet.{Rule, Sheet, concerns, isStated, ruleText}
 use Rattle.sheet.specs.Grammar.{RulesFit, WellFormed}
-use Rattle.sheet.specs.Inner.{slotOf, tableIn, Slot, Holds, rightsIn}
+use Rattle.sheet.specs.Answer.{TablesOf, Question}
+use Rattle.sheet.specs.Inner.{slotOf, tableIn, Slot, Holds, rightsIn, learnIn}
 use Rattle.sheet.specs.declared.desk.Desk.{Desk}
+use Rattle.sheet.proofs.SheetQuestion.{zero-byte, zero-truth}
 
 -- ---- sixteen zeros are the table of `0`
-
-zero-byte : (j : ℕ) → _≡_ {A = ℕ} (getD (replicate 16 0) j 0) 0
-zero-byte j = elim (lt-or-ge j 16) [ inl l ↦ getD-replicate 16 j 0 0 l | inr l ↦ List·getD-eq-default (replicate 16 0) 0 l ]
-
-zero-truth : (v : ℕ) → truth (replicate 16 0) v ≡ false
-unfolding truth
-zero-truth v = ap (λ (x : ℕ). bit x (v % 8)) (zero-byte (v / 8)) ∙ bit-of-zero (v % 8)
 
 zero-clean : (n j : ℕ) → Foreign n (bytes "0") j → ⊥
 unfolding isStray isPast isLetter isSign
@@ -122,27 +113,30 @@ module _ {sheet : Sheet} {d : Desk} (h : Holds sheet d) where
         ∙ getD-take (256 * d .settings) (d .rights) (256 * i + (tablePlace q right + o)) 0 (omega arith)
         ∙ ap (λ (x : ℕ). getD (d .rights) x 0) (sym (add-assoc (256 * i) (tablePlace q right) o) ∙ ap (λ (x : ℕ). x + o) e))
 
-    pub desk-accepts : Accepts (d .settings) (ruleText (sheet .rules) right i q) (table (tablesOf (rightsIn d) i) q right)
+    desk-accepts : Accepts (d .settings) (ruleText (sheet .rules) right i q) (table (tablesOf (rightsIn d) i) q right)
     desk-accepts =
         subst (Accepts (d .settings) (ruleText (sheet .rules) right i q)) (sym desk-table)
         (slot-accepts (d .settings) (isStated (sheet .rules) right i q) _ _ _ (h .settings-least) (omega (arith, h .settings-most))
         (unstated-text (sheet .rules) right i q) (h .slots right i q (omega (arith, h .settings-most)) hq))
 
-    pub desk-nobody : WellFormed sheet → sheet .posts ≤ q → table (tablesOf (rightsIn d) i) q right ≡ replicate 16 0
+    desk-nobody : WellFormed sheet → sheet .posts ≤ q → table (tablesOf (rightsIn d) i) q right ≡ replicate 16 0
     desk-nobody w l =
         desk-table
         ∙ slot-zeros (d .settings) (isStated (sheet .rules) right i q) _ _ _
         (post-unstated (sheet .settings) (sheet .posts) (sheet .rules) right i q (w .rules) l) (h .slots right i q (omega (arith, h .settings-most)) hq)
 
-  pub desk-writable : WellFormed sheet → Writable (d .settings) (d .posts) (rightsIn d)
-  unfolding Zeros
-  desk-writable w = record {
-    settings = record { least = h .settings-least; most = omega (arith, h .settings-most) };
-    posts = record { least = h .posts-least; most = h .posts-most };
-    size = rights-length;
-    tables = λ i hi. record {
-      nobody = λ q right l hq j from to.
-          ap (λ (t : List ℕ). getD t j 0) (desk-nobody right i q hi hq w (omega (arith, h .posts))) ∙ zero-byte j;
-      within = λ q right hq. desk-accepts right i q hi hq .table .within;
-    };
+  -- the question on the desk is the sheet's
+  pub desk-question : WellFormed sheet → Question sheet (rightsIn d) (d .make) (learnIn d) (d .team) (d .known) (d .values)
+  unfolding learnIn
+  desk-question w = record {
+    size = rights-length ∙ ap (λ (n : ℕ). 256 * n) (h .settings);
+    rules = λ right i q hi hq.
+        subst (λ (n : ℕ). Accepts n (ruleText (sheet .rules) right i q) (table (tablesOf (rightsIn d) i) q right)) (h .settings)
+        (desk-accepts right i q (omega (arith, h .settings)) (omega (arith, w .posts-most)));
+    nobody = λ right i q hi l hq. desk-nobody right i q (omega (arith, h .settings)) hq w l;
+    made = subst (λ (n : ℕ). Accepts n (sheet .make) (d .make)) (h .settings) (h .make);
+    learnt = subst (λ (n : ℕ). TablesOf n (sheet .asks) (take (16 * d .asks) (d .learn))) (h .settings) (h .learn);
+    posts = h .team;
+    settings-known = h .known;
+    settings-true = h .values;
   }

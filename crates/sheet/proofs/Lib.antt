@@ -12,7 +12,7 @@ pub mod Place
 pub mod Examples
 pub mod Pieces
 pub mod NameLaws
+pub mod SheetQuestion
 pub mod DeskRights
-pub mod DeskGoal
 pub mod DeskQuestion
 pub mod AnswerLaws
