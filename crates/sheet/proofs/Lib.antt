@@ -16,3 +16,6 @@ pub mod SheetQuestion
 pub mod DeskRights
 pub mod DeskQuestion
 pub mod AnswerLaws
+pub mod OneQuestion
+pub mod Bounds
+pub mod Theorems
