@@ -89,7 +89,7 @@ ranks-unique {n} {S} {old} {new} {other} a b =
 
 -- ---- any two results that the contract allows are equal, the rank table and the plan room included
 
-below-power : (x : ℕ) → x < 2 ^ x
+pub below-power : (x : ℕ) → x < 2 ^ x
 below-power zero = lit< tt
 below-power (suc x) = rw two-pow-succ (omega (arith, below-power x))
 
@@ -98,14 +98,14 @@ team-byte : {m team : ℕ} → m ≤ 8 → TeamFits m team → team < 256
 team-byte {m} {team} h t = omega (arith, low-bits team m team (below-power team) (t .posts), pow-mono {i = m} {j = 8} h)
 
 module _ {book : List ℕ} {q : Question} {make learn : List ℕ} {n m : ℕ} (v : ValidQuestion book q make learn n m) where
-  lawful : Lawful n (systemOf n book (q .team) make learn)
+  pub lawful : Lawful n (systemOf n book (q .team) make learn)
   unfolding systemOf
   lawful = team-lawful n book (q .team) (settled n make learn) (team-byte (v .sound .posts .most) (v .team))
 
   few : n ≤ 7
   few = v .sound .settings .most
 
-  find-clear : (ranks : List ℕ) → 7 ^ n ≤ length ranks → Clear (findRows book (q .team) (q .known) (q .values) make learn ranks)
+  pub find-clear : (ranks : List ℕ) → 7 ^ n ≤ length ranks → Clear (findRows book (q .team) (q .known) (q .values) make learn ranks)
   unfolding findRows
   find-clear ranks h =
       clear-append (questionRows book (q .team) (q .known) (q .values) make learn) _
@@ -243,14 +243,16 @@ module _ (book : List ℕ) (q : Question) (make learn ranks plan : List ℕ) (r 
 abbrev pub NoMaking : ℕ → List ℕ → Type 0
 NoMaking n make = (v : ℕ) → v < 2 ^ n → truth make v ≡ true
 
-module _ (book : List ℕ) (q : Question) (make learn ranks plan : List ℕ) (r x : List ℕ) where
-  enough : (n : ℕ) → NoMaking n make → learnCount learn ≡ 1 → (k : ℕ) → T (learnSettled n (digit 7 k) (learnTable learn 0)) → T (System-of book q make learn n .goal k)
+-- there the goal is settled where the learn formula is
+module _ (book : List ℕ) (q : Question) (make learn : List ℕ) where
+  pub enough : (n : ℕ) → NoMaking n make → learnCount learn ≡ 1 → (k : ℕ) → T (learnSettled n (digit 7 k) (learnTable learn 0)) → T (System-of book q make learn n .goal k)
   unfolding systemOf settled allSettled all
   enough n one single k h =
       and-in (known n (digit 7 k) make) (all (learnCount learn) (λ j. learnSettled n (digit 7 k) (learnTable learn j)))
       (known-intro n (digit 7 k) make (λ v l t. true→T (one v l)))
       (subst (λ (c : ℕ). T (all c (λ j. learnSettled n (digit 7 k) (learnTable learn j)))) (sym single) (and-in (learnSettled n (digit 7 k) (learnTable learn 0)) true h tt))
 
+module _ (book : List ℕ) (q : Question) (make learn ranks plan : List ℕ) (r x : List ℕ) where
   -- for a question with no making and one learn formula that is answered "cannot": for every permitted plan there are two starting valuations below 2^n,
   -- both agreeing with what the team knew, that give the formula different values, and on which the plan does the same acts and sees the same readings
   pub cannot-secret : Finds book q make learn ranks plan Cannot r x
@@ -258,4 +260,4 @@ module _ (book : List ℕ) (q : Question) (make learn ranks plan : List ℕ) (r 
       × (NoMaking n make → learnCount learn ≡ 1 → (p : Plan) → Permitted (System-of book q make learn n) (Start-of q) p → Twins n (learnTable learn 0) (Start-of q) p)
   cannot-secret (inl u) = let e : Cannot ≡ Refused (u .why) = u .answered in let z : _≡_ {A = ℕ} 0 1 = cc in absurd (omega arith)
   cannot-secret (inr (n, m, v, l, f, a)) =
-      (n, m, v, λ one single p w. secret n (learnTable learn 0) (lawful v) (enough n one single) (Start-of q) (a .0) p w)
+      (n, m, v, λ one single p w. secret n (learnTable learn 0) (lawful v) (enough book q make learn n one single) (Start-of q) (a .0) p w)

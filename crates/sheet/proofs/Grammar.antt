@@ -42,7 +42,7 @@ unfolding foreignNumber
 foreign-small n [] later h = h
 foreign-small n (c ∷ s) later h = cond-small (isStray c) 2 (cond (isPast n c) 3 (foreignNumber n s later)) (omega arith) (cond-small (isPast n c) 3 (foreignNumber n s later) (omega arith) (foreign-small n s later h))
 
-number-small : (n : ℕ) (s : List ℕ) → formulaNumber n s ≤ 5
+pub number-small : (n : ℕ) (s : List ℕ) → formulaNumber n s ≤ 5
 unfolding formulaNumber
 number-small n s =
     let later : ℕ = foreignNumber n s (sentenceNumber s) in

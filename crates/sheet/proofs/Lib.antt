@@ -1,4 +1,5 @@
--- The laws of sheets: what the functions need, line by line; then the grammar, and where 22 stands.
+-- The laws of sheets: line by line, what the functions need; the grammar, and where 22 stands; from the desk to the question that is asked; and
+-- the theorems that others cite.
 pub mod Pieces
 pub mod NameLaws
 pub mod FormLaws
@@ -20,3 +21,10 @@ pub mod Grammar
 pub mod RefusedAt
 pub mod Place
 pub mod Examples
+pub mod SheetQuestion
+pub mod DeskRights
+pub mod DeskQuestion
+pub mod AnswerLaws
+pub mod OneQuestion
+pub mod Bounds
+pub mod Theorems

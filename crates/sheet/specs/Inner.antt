@@ -10,9 +10,13 @@ use Rattle.ground.specs.Digits.{bit}
 use Rattle.formula.specs.Read.{Accepts}
 use Rattle.book.specs.declared.rule.Right.{Right}
 use Rattle.book.specs.declared.rule.Right.the-variants.{Look, Set}
+use Rattle.book.specs.Written.{bookOf}
+use Rattle.plan.specs.Plans.{System}
+use Rattle.finder.specs.Question.{systemOf, startNumber}
 use Rattle.sheet.specs.Sheet.{Rule, Sheet, isStated, ruleText, member, knownSettings, knownTrue}
 use Rattle.sheet.specs.Words.{split, isFalse, indexOf, indexes, twice}
 use Rattle.sheet.specs.Reading.{Step, fault, next, Outcome, refused, stated}
+use Rattle.sheet.specs.Grammar.{WellFormed}
 use Rattle.sheet.specs.Answer.{TablesOf}
 use Rattle.sheet.specs.declared.desk.Due.{Due}
 use Rattle.sheet.specs.declared.desk.Due.the-variants.{Asks}
@@ -140,3 +144,26 @@ Reads (refused x line) (Refused why at) d = (number why ≡ x) × (at ≡ line)
 Reads (refused x line) Stated d = ⊥
 Reads (stated sheet) (Refused why at) d = ⊥
 Reads (stated sheet) Stated d = Holds sheet d
+
+-- a whole sheet is on the desk
+pub record Whole (d : Desk) : Type 0 where
+  pub sheet : Sheet
+  pub holds : Holds sheet d
+  pub well-formed : WellFormed sheet
+
+-- the rights and the learn tables on the desk, without what its arrays have past them
+unfoldable pub rightsIn : Desk → List ℕ
+rightsIn d = take (256 * d .settings) (d .rights)
+
+unfoldable pub learnIn : Desk → List ℕ
+learnIn d = take (16 * d .asks) (d .learn)
+
+-- the book of those rights, and the question over it
+unfoldable pub bookIn : Desk → List ℕ
+bookIn d = bookOf (d .settings) (d .posts) (rightsIn d)
+
+unfoldable pub systemIn : Desk → System
+systemIn d = systemOf (d .settings) (bookIn d) (d .team) (d .make) (learnIn d)
+
+unfoldable pub startIn : Desk → ℕ
+startIn d = startNumber (d .known) (d .values)

@@ -1,7 +1,32 @@
-// The sheet program's answer, all in memory.
+// The sheet program's answer, all in memory: a text sheet to what is printed. A sheet that is not
+// whole is answered by the first of its faults, with the number and the line. Nothing is refused: a
+// room shorter than the answer holds as much of it as fits.
+mod asking;
 mod desk;
 mod lines;
 mod names;
 mod reading;
 mod rules;
 mod words;
+
+use asking::ask;
+use reading::Told;
+use reading::read;
+ghost use Rattle.sheet.specs.Answer.{Answers};
+
+// The most bytes that an answer has: 10 for `reach` and a height of up to three digits, and 14 for each of
+// 2,016 plan bytes, as `999 set g 8 1` and the line's end have. A refusal is shorter.
+pub const ANSWER_MOST: usize = 28234;
+
+// What is printed for a sheet, as much of it as fits into the room; and the length of all of it.
+pub fn answer(sheet: &[u8], out: &mut [u8]) -> usize
+    ensures { λ r. ⌜ Answers (now (sheet .entry)) (now (out .entry)) r (now (out .exit)) ⌝ }
+{
+    let reading = read(sheet);
+    let told = reading.told;
+    let desk = reading.desk;
+    match told {
+        Told::Refused(why, line) => printing::refused(why.number(), line, out),
+        Told::Stated => ask(desk, out),
+    }
+}

@@ -1,0 +1,110 @@
+-- A sheet asks one question: its tables are those of its formulas, its masks have the bits that it names, and nothing is left open. Byte by byte and
+-- bit by bit. So one thing alone is printed for it.
+use mathlib.Core.Path.{_≡_, refl, sym, ap, ap₂, _∙_, subst₂}
+use mathlib.Core.Logic.{_⊎_, inl, inr}
+use mathlib.Core.Bool.{Bool}
+use mathlib.Core.List.{List, [], _∷_, _++_}
+use Prim.Native.Nat.{ℕ, _+_, _-_, _*_, _/_, _%_, _≤_, _<_}
+use native.Mathlib.Omega.{arith}
+use lib.ListN.{length, getD}
+use lib.Pow.{pow-mono}
+use lib.Seq.{ext-getD}
+use Rattle.ground.specs.Digits.{bit}
+use Rattle.ground.proofs.Bools.{lt-or-ge}
+use Rattle.ground.proofs.Bits.{same-bits}
+use Rattle.ground.proofs.Search.{least-unique}
+use Rattle.formula.specs.Read.{Accepts}
+use Rattle.formula.specs.declared.Answer.the-variants.{Accepted}
+use Rattle.formula.proofs.Unique.{read-unique}
+use Rattle.book.specs.Rule.{tablePlace, table}
+use Rattle.book.specs.Sound.{tablesOf}
+use Rattle.book.specs.Written.{bookOf}
+use Rattle.book.specs.declared.rule.Right.{Right}
+use Rattle.book.specs.declared.rule.Right.the-variants.{Look, Set}
+use Rattle.book.proofs.Lists.{getD-part}
+use Rattle.book.proofs.RuleLaws.{place-most}
+use Rattle.plan.specs.Plans.{System, Lawful, Plan}
+use Rattle.plan.proofs.Written.{written-works, written-unique}
+use Rattle.finder.specs.Question.{systemOf, startNumber}
+use Rattle.finder.proofs.Theorems.{below-power}
+use Rattle.printing.specs.Printed.{reachText, Prints}
+use Rattle.printing.proofs.Theorems.{prints-unique}
+use Rattle.sheet.specs.Sheet.{Sheet}
+use Rattle.sheet.specs.Grammar.{WellFormed}
+use Rattle.sheet.specs.Answer.{TablesOf, Question, Tells}
+
+-- ---- masks and tables
+
+mask-one : (a b : ℕ) → ((i : ℕ) → bit a i ≡ bit b i) → a ≡ b
+mask-one a b f =
+    same-bits (a + b) a b (omega (arith, below-power a, pow-mono {i = a} {j = a + b} (omega arith))) (omega (arith, below-power b, pow-mono {i = b} {j = a + b} (omega arith)))
+    (λ i h. f i)
+
+table-one : {n : ℕ} {F t u : List ℕ} → Accepts n F t → Accepts n F u → t ≡ u
+table-one {n} {F} {t} {u} a b = read-unique n F Accepted Accepted t u a b .1
+
+tables-one : (n : ℕ) (Fs : List (List ℕ)) (t u : List ℕ) → TablesOf n Fs t → TablesOf n Fs u → t ≡ u
+tables-one n [] t u a b = a ∙ sym b
+tables-one n (F ∷ Fs) t u (a, b, x, y, e) (c, d, z, w, f) = e ∙ ap₂ _++_ (table-one x z) (tables-one n Fs b d y w) ∙ sym f
+
+-- ---- rights
+
+-- byte o of a right's table, among all
+table-byte : (rights : List ℕ) (right : Right) (i q o : ℕ) → q < 8 → o < 16 → getD (table (tablesOf rights i) q right) o 0 ≡ getD rights (256 * i + (tablePlace q right + o)) 0
+unfolding table tablesOf
+table-byte rights right i q o hq ho =
+    getD-part (tablesOf rights i) (tablePlace q right) 16 o ho ∙ getD-part rights (256 * i) 256 (tablePlace q right + o) (omega (arith, place-most q right hq))
+
+-- each byte is one of a table
+byte-place : (j : ℕ) → (right : Right) × (q : ℕ) × (o : ℕ) × (q < 8) × (o < 16) × (256 * (j / 256) + (tablePlace q right + o) ≡ j)
+unfolding tablePlace
+byte-place j = elim (lt-or-ge (j % 32) 16) [
+  | inl l ↦ (Look, j % 256 / 32, j % 32, omega arith, l, omega arith)
+  | inr l ↦ (Set, j % 256 / 32, j % 32 - 16, omega arith, omega arith, omega arith)
+]
+
+module _ (rights others : List ℕ) (n : ℕ) (size : length rights ≡ 256 * n) (same-size : length others ≡ 256 * n)
+    (same : (right : Right) (i q : ℕ) → i < n → q < 8 → table (tablesOf rights i) q right ≡ table (tablesOf others i) q right) where
+  rights-one : rights ≡ others
+  rights-one = ext-getD 0 rights others (size ∙ sym same-size) (λ j h. at j (omega arith))
+    where
+      at : (j : ℕ) → j < 256 * n → getD rights j 0 ≡ getD others j 0
+      at j h =
+          let p = byte-place j in
+          let e : 256 * (j / 256) + (tablePlace (p .1) (p .0) + p .2) ≡ j = p .5 in
+          ap (λ (x : ℕ). getD rights x 0) (sym e)
+          ∙ sym (table-byte rights (p .0) (j / 256) (p .1) (p .2) (p .3) (p .4))
+          ∙ ap (λ (t : List ℕ). getD t (p .2) 0) (same (p .0) (j / 256) (p .1) (omega arith) (p .3))
+          ∙ table-byte others (p .0) (j / 256) (p .1) (p .2) (p .3) (p .4)
+          ∙ ap (λ (x : ℕ). getD others x 0) e
+
+-- ---- the question
+
+module _ {sheet : Sheet} {R R′ make make′ learn learn′ : List ℕ} {team team′ known known′ values values′ : ℕ}
+    (a : Question sheet R make learn team known values) (b : Question sheet R′ make′ learn′ team′ known′ values′) where
+  same-table : (right : Right) (i q : ℕ) → i < sheet .settings → q < 8 → table (tablesOf R i) q right ≡ table (tablesOf R′ i) q right
+  same-table right i q hi hq = elim (lt-or-ge q (sheet .posts)) [
+    | inl l ↦ table-one (a .rules right i q hi l) (b .rules right i q hi l)
+    | inr l ↦ a .nobody right i q hi l hq ∙ sym (b .nobody right i q hi l hq)
+  ]
+
+  pub same-system : systemOf (sheet .settings) (bookOf (sheet .settings) (sheet .posts) R) team make learn ≡ systemOf (sheet .settings) (bookOf (sheet .settings) (sheet .posts) R′) team′ make′ learn′
+  same-system =
+      let r : R ≡ R′ = rights-one R R′ (sheet .settings) (a .size) (b .size) same-table in
+      let m : make ≡ make′ = table-one (a .made) (b .made) in
+      let l : learn ≡ learn′ = tables-one (sheet .settings) (sheet .asks) learn learn′ (a .learnt) (b .learnt) in
+      let t : team ≡ team′ = mask-one team team′ (λ q. a .posts q ∙ sym (b .posts q)) in
+      cc
+
+  pub same-start : startNumber known values ≡ startNumber known′ values′
+  same-start =
+      ap₂ startNumber (mask-one known known′ (λ i. a .settings-known i ∙ sym (b .settings-known i))) (mask-one values values′ (λ i. a .settings-true i ∙ sym (b .settings-true i)))
+
+-- ---- its answer
+
+pub tells-one : {n : ℕ} {S : System} {k : ℕ} → Lawful n S → n ≤ 7 → {old new new′ : List ℕ} {r r′ : ℕ} → Tells S k old r new → Tells S k old r′ new′ → (r ≡ r′) × (new ≡ new′)
+tells-one {n} {S} {k} law few {old} {new} {new′} {r} {r′} (inl (h, p, l, w, x)) (inl (j, s, m, v, y)) =
+    prints-unique x (subst₂ (λ (i : ℕ) (t : Plan). Prints old (reachText i t) r′ new′) (least-unique m l) (written-unique law few s p k v w) y)
+tells-one {n} {S} {k} law few (inl (h, p, l, w, x)) (inr (none, y)) = absurd (none p (written-works S p k w))
+tells-one {n} {S} {k} law few (inr (none, x)) (inl (j, s, m, v, y)) = absurd (none s (written-works S s k v))
+tells-one law few (inr (none, x)) (inr (also, y)) = prints-unique x y

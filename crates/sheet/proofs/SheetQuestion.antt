@@ -1,0 +1,169 @@
+-- The question that a well-formed sheet asks is valid: its rights may be written as a book, and refusals 10 to 12 deny nothing of it. Name by name,
+-- and table by table. So its plans are short.
+use mathlib.Core.Path.{_≡_, refl, sym, ap, _∙_, subst}
+use mathlib.Core.Logic.{_⊎_, inl, inr}
+use mathlib.Core.Bool.{Bool, true, false, _||_, cond}
+use mathlib.Core.List.{List, [], _∷_, _++_}
+use Prim.Native.Nat.{ℕ, zero, suc, _+_, _*_, _/_, _%_, _^_, _≤_, _<_}
+use native.Mathlib.Nat.{le-trans, mul-le-mul}
+use native.Mathlib.Omega.{arith}
+use lib.Dec.{T, eqb, eqb→eq, eqb-refl}
+use lib.ListN.{length, getD, take, drop, replicate, length-append, getD-replicate, List·getD-eq-default}
+use lib.Pow.{pow-mono}
+use lib.Seq.{take-at, drop-append-add}
+use Rattle.ground.specs.Digits.{bit}
+use Rattle.ground.specs.Table.{truth, Within}
+use Rattle.ground.proofs.Bools.{or-left, or-right, or-out, both, false→T, lt-or-ge}
+use Rattle.ground.proofs.Bits.{bit-of-zero}
+use Rattle.book.specs.Block.{Zeros}
+use Rattle.book.specs.Rule.{table}
+use Rattle.book.specs.Sound.{tablesOf}
+use Rattle.book.specs.Written.{bookOf, Writable}
+use Rattle.book.specs.declared.rule.Right.{Right}
+use Rattle.book.proofs.RoundTrip.{written-sound}
+use Rattle.plan.specs.Plans.{System, Lawful, Plan, height}
+use Rattle.plan.specs.Ranks.{Written}
+use Rattle.plan.specs.Bytes.{encode}
+use Rattle.plan.specs.Pending.{unknowns}
+use Rattle.plan.proofs.Unknowns.{unknowns-le}
+use Rattle.plan.proofs.Ranks.{has-rank, rank-reach, rank-most}
+use Rattle.plan.proofs.Written.{written-works, written-height}
+use Rattle.plan.proofs.Accepted.{written-size}
+use Rattle.sides.specs.Over.{learnTable}
+use Rattle.finder.specs.Question.{systemOf}
+use Rattle.finder.specs.Rows.{TeamFits, KnownFits, GoalFits}
+use Rattle.finder.specs.Finds.{ValidQuestion}
+use Rattle.finder.proofs.Theorems.{lawful}
+use Rattle.sheet.specs.Sheet.{Known, Sheet, member, knownSettings, knownTrue}
+use Rattle.sheet.specs.Grammar.{PostsFit, KnownFit, WellFormed}
+use Rattle.sheet.specs.Answer.{TablesOf, Question}
+
+-- ---- what is named
+
+post-below : (m : ℕ) (ps : List ℕ) (q : ℕ) → PostsFit m ps → T (member q ps) → q < m
+unfolding member
+post-below m [] q f t = absurd t
+post-below m (p ∷ ps) q f t = elim (or-out (eqb p q) (member q ps) t) [
+  | inl e ↦ (let s : p ≡ q = eqb→eq p q e in omega (arith, f .0))
+  | inr u ↦ post-below m ps q (f .1) u
+]
+
+setting-below : (n : ℕ) (ks : List Known) (i : ℕ) → KnownFit n ks → T (member i (knownSettings ks)) → i < n
+unfolding member knownSettings
+setting-below n [] i f t = absurd t
+setting-below n (k ∷ ks) i f t = elim (or-out (eqb (k .setting) i) (member i (knownSettings ks)) t) [
+  | inl e ↦ (let s : k .setting ≡ i = eqb→eq (k .setting) i e in omega (arith, f .0))
+  | inr u ↦ setting-below n ks i (f .1) u
+]
+
+someone-named : (ps : List ℕ) → 1 ≤ length ps → (q : ℕ) × T (member q ps)
+unfolding member
+someone-named [] l = absurd (omega arith)
+someone-named (p ∷ ps) l = (p, or-left (eqb p p) (member p ps) (eqb-refl p))
+
+-- a setting that is known to be true is known
+true-step : (b : Bool) (s i : ℕ) (xs ys : List ℕ) → (T (member i xs) → T (member i ys)) → T (member i (cond b (s ∷ xs) xs)) → T (member i (s ∷ ys))
+unfolding member
+true-step true s i xs ys f t = elim (or-out (eqb s i) (member i xs) t) [
+  | inl e ↦ or-left (eqb s i) (member i ys) e
+  | inr u ↦ or-right (eqb s i) (member i ys) (f u)
+]
+true-step false s i xs ys f t = or-right (eqb s i) (member i ys) (f t)
+
+true-known : (ks : List Known) (i : ℕ) → T (member i (knownTrue ks)) → T (member i (knownSettings ks))
+unfolding knownTrue knownSettings
+true-known [] i t = t
+true-known (k ∷ ks) i t = true-step (k .value) (k .setting) i (knownTrue ks) (knownSettings ks) (true-known ks i) t
+
+-- ---- the learn tables
+
+pub tables-length : (n : ℕ) (Fs : List (List ℕ)) (t : List ℕ) → TablesOf n Fs t → length t ≡ 16 * length Fs
+tables-length n [] t e = omega (arith, ap length e)
+tables-length n (F ∷ Fs) t (a, b, x, y, e) = omega (arith, ap length e, length-append a b, x .table .sixteen, tables-length n Fs b y)
+
+tables-within : (n : ℕ) (Fs : List (List ℕ)) (t : List ℕ) (j : ℕ) → TablesOf n Fs t → j < length Fs → Within n (learnTable t j)
+unfolding learnTable
+tables-within n [] t j e l = absurd (omega arith)
+tables-within n (F ∷ Fs) t zero (a, b, x, y, e) l =
+    subst (Within n) (sym (ap (take 16) e ∙ take-at a b 16 (x .table .sixteen))) (x .table .within)
+tables-within n (F ∷ Fs) t (suc j) (a, b, x, y, e) l =
+    let past : 16 * suc j ≡ length a + 16 * j = omega (arith, x .table .sixteen) in
+    subst (λ (s : List ℕ). Within n (take 16 s))
+    (sym (ap (drop (16 * suc j)) e ∙ ap (λ (k : ℕ). drop k (a ++ b)) past ∙ drop-append-add a b (16 * j)))
+    (tables-within n Fs b j y (omega arith))
+
+-- ---- sixteen zeros
+
+pub zero-byte : (j : ℕ) → _≡_ {A = ℕ} (getD (replicate 16 0) j 0) 0
+zero-byte j = elim (lt-or-ge j 16) [ inl l ↦ getD-replicate 16 j 0 0 l | inr l ↦ List·getD-eq-default (replicate 16 0) 0 l ]
+
+pub zero-truth : (v : ℕ) → truth (replicate 16 0) v ≡ false
+unfolding truth
+zero-truth v = ap (λ (x : ℕ). bit x (v % 8)) (zero-byte (v / 8)) ∙ bit-of-zero (v % 8)
+
+-- ---- the question
+
+module _ {sheet : Sheet} {rights make learn : List ℕ} {team known values : ℕ} (w : WellFormed sheet) (q : Question sheet rights make learn team known values) where
+  asked-team : TeamFits (sheet .posts) team
+  asked-team = record {
+    someone = λ e.
+        let x = someone-named (sheet .team) (w .someone) in
+        both (bit team (x .0)) (subst T (sym (q .posts (x .0))) (x .1)) (false→T (ap (λ (t : ℕ). bit t (x .0)) e ∙ bit-of-zero (x .0)));
+    posts = λ p t. post-below (sheet .posts) (sheet .team) p (w .team) (subst T (q .posts p) t);
+  }
+
+  asked-known : KnownFits (sheet .settings) known values
+  asked-known = record {
+    settings = λ i t. setting-below (sheet .settings) (sheet .known) i (w .known) (subst T (q .settings-known i) t);
+    valued = λ i t. subst T (sym (q .settings-known i)) (true-known (sheet .known) i (subst T (q .settings-true i) t));
+  }
+
+  asked-goal : GoalFits (sheet .settings) make learn
+  asked-goal =
+      let size : length learn ≡ 16 * length (sheet .asks) = tables-length (sheet .settings) (sheet .asks) learn (q .learnt) in
+      record {
+        make-bytes = q .made .table .sixteen;
+        learn-bytes = omega arith;
+        learn-most = omega (arith, w .asks-most);
+        make-within = q .made .table .within;
+        learn-within = λ j l. tables-within (sheet .settings) (sheet .asks) learn j (q .learnt) (omega arith);
+      }
+
+  asked-within : (right : Right) (i p : ℕ) → i < sheet .settings → p < 8 → Within (sheet .settings) (table (tablesOf rights i) p right)
+  unfolding Within
+  asked-within right i p hi hp = elim (lt-or-ge p (sheet .posts)) [
+    | inl l ↦ q .rules right i p hi l .table .within
+    | inr l ↦ (λ v m h. ap (λ (t : List ℕ). truth t v) (q .nobody right i p hi l hp) ∙ zero-truth v)
+  ]
+
+  pub asked-writable : Writable (sheet .settings) (sheet .posts) rights
+  unfolding Zeros
+  asked-writable = record {
+    settings = record { least = w .settings-least; most = w .settings-most };
+    posts = record { least = w .posts-least; most = w .posts-most };
+    size = q .size;
+    tables = λ i hi. record {
+      nobody = λ p right l hp j from to. ap (λ (t : List ℕ). getD t j 0) (q .nobody right i p hi l hp) ∙ zero-byte j;
+      within = λ p right hp. asked-within right i p hi hp;
+    };
+  }
+
+  pub asked-valid : ValidQuestion (bookOf (sheet .settings) (sheet .posts) rights) (record { team = team; known = known; values = values }) make learn (sheet .settings) (sheet .posts)
+  asked-valid = record { sound = written-sound asked-writable; team = asked-team; known = asked-known; goal = asked-goal }
+
+  pub asked-lawful : Lawful (sheet .settings) (systemOf (sheet .settings) (bookOf (sheet .settings) (sheet .posts) rights) team make learn)
+  asked-lawful = lawful asked-valid
+
+  -- of up to 5 settings: at most 62 acts on a branch, 2^5 branches of those and a stop
+  pub asked-most : sheet .settings ≤ 5 → (k : ℕ) (p : Plan) → Written (systemOf (sheet .settings) (bookOf (sheet .settings) (sheet .posts) rights) team make learn) k p
+      → (height p ≤ 62) × (length (encode p) ≤ 2016)
+  asked-most five k p x =
+      let n : ℕ = sheet .settings in
+      let S : System = systemOf (sheet .settings) (bookOf (sheet .settings) (sheet .posts) rights) team make learn in
+      let r = has-rank asked-lawful k in
+      let low : r .0 < 255 = rank-reach asked-lawful k (r .0) (w .settings-most) (r .1) .1 (p, written-works S p k x) in
+      let most : r .0 ≤ 62 = omega (arith, rank-most asked-lawful k (r .0) (r .1) (λ e. omega arith), pow-mono {i = suc n} {j = 6} (omega arith)) in (
+        omega (arith, written-height S p k (r .0) x (r .1)),
+        le-trans (written-size asked-lawful (w .settings-most) k p (r .0) x (r .1))
+            (mul-le-mul {n₁ = 2 ^ unknowns n k} {m₁ = suc (r .0)} {n₂ = 32} {m₂ = 63} (pow-mono {i = unknowns n k} {j = 5} (omega (arith, unknowns-le n k))) (omega arith)),
+      )

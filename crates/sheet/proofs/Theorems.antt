@@ -1,0 +1,134 @@
+-- What is promised of the answer to a sheet, about `answer`'s contract: it is settled, the room included; it has at most 28,234 bytes; and for a sheet
+-- that is stated demands 2 and 3, over the plans of the question that it asks.
+use mathlib.Core.Path.{_≡_, refl, sym, ap, _∙_, subst, subst₂}
+use mathlib.Core.Logic.{_⊎_, inl, inr}
+use mathlib.Core.Bool.{true}
+use mathlib.Core.List.{List, [], _∷_, _++_}
+use Prim.Native.Nat.{ℕ, _+_, _*_, _/_, _^_, _≤_, _<_}
+use native.Mathlib.Omega.{arith}
+use lib.ListN.{length, getD, take, drop}
+use lib.Seq.{take-at}
+use Rattle.ground.specs.Text.{byte, bytes}
+use Rattle.formula.specs.Grammar.{text, meaning as truthOf, one, one-unit, one-product}
+use Rattle.formula.specs.Read.{Accepts}
+use Rattle.formula.proofs.Meaning.{unambiguous}
+use Rattle.book.specs.Written.{bookOf}
+use Rattle.plan.specs.Plans.{System, Plan, Permitted, Works, height}
+use Rattle.plan.specs.Secret.{Twins}
+use Rattle.plan.proofs.Ranks.{rank-least}
+use Rattle.plan.proofs.Written.{written-works, written-height}
+use Rattle.plan.proofs.Secret.{secret}
+use Rattle.sides.specs.Over.{learnTable}
+use Rattle.finder.specs.Question.{systemOf, startNumber}
+use Rattle.finder.proofs.Theorems.{NoMaking, enough}
+use Rattle.printing.specs.Printed.{cannotText, reachText, fitted, Prints}
+use Rattle.printing.proofs.Theorems.{prints-unique, refused-length, reach-length}
+use Rattle.sheet.specs.Sheet.{Sheet}
+use Rattle.sheet.specs.Reading.{Outcome, refused, stated, meaning}
+use Rattle.sheet.specs.Grammar.{WellFormed}
+use Rattle.sheet.specs.Answer.{TablesOf, Question, Tells, Prints-outcome, Answers}
+use Rattle.sheet.proofs.Taken.{stated-written}
+use Rattle.sheet.proofs.SheetQuestion.{tables-length, asked-lawful, asked-most}
+use Rattle.sheet.proofs.OneQuestion.{same-system, same-start, tells-one}
+use Rattle.sheet.proofs.Bounds.{Small, small-meaning}
+
+-- ---- any two answers that the contract allows are the same, what is left in the room included
+
+pub answer-unique : (s old : List ℕ) (r r′ : ℕ) (new new′ : List ℕ) → Answers s old r new → Answers s old r′ new′ → (r ≡ r′) × (new ≡ new′)
+answer-unique s old r r′ new new′ a b = by-outcome (meaning s) refl a b
+  where
+    by-outcome : (o : Outcome) → meaning s ≡ o → Prints-outcome o old r new → Prints-outcome o old r′ new′ → (r ≡ r′) × (new ≡ new′)
+    by-outcome (refused x line) m p q = prints-unique p q
+    by-outcome (stated sheet) m (R, M, L, t, k, v, q, x) (R′, M′, L′, t′, k′, v′, q′, y) =
+        let w : WellFormed sheet = stated-written s sheet m .0 in
+        tells-one (asked-lawful w q) (w .settings-most) x (subst₂ (λ (S : System) (i : ℕ). Tells S i old r′ new′) (same-system q′ q) (same-start q′ q) y)
+
+-- ---- 28,234 bytes always suffice
+
+pub answer-most : (s old : List ℕ) (r : ℕ) (new : List ℕ) → Answers s old r new → r ≤ 28234
+answer-most s old r new a = by-outcome (meaning s) refl (small-meaning s) a
+  where
+    by-outcome : (o : Outcome) → meaning s ≡ o → Small 32770 o → Prints-outcome o old r new → r ≤ 28234
+    by-outcome (refused x line) m h p = omega (arith, p .count, refused-length x line (omega (arith, h .0)) (omega (arith, h .1)))
+    by-outcome (stated sheet) m h (R, M, L, t, k, v, q, inl (i, p, l, w, x)) =
+        let S : System = systemOf (sheet .settings) (bookOf (sheet .settings) (sheet .posts) R) t M L in
+        let most = asked-most (stated-written s sheet m .0) q h (startNumber k v) p w in
+        let same : height p ≡ i = written-height S p (startNumber k v) i w (inl l) in
+        omega (arith, x .count, most .1, reach-length i p (omega (arith, most .0)) (omega (arith, most .0)))
+    by-outcome (stated sheet) m h (R, M, L, t, k, v, q, inr (none, x)) = omega (arith, x .count)
+
+-- ---- demand 2: "reach" exactly when a working plan exists, the least height, and such a plan
+
+-- the plans of the question that a sheet asks
+abbrev pub System-for : Sheet → List ℕ → List ℕ → List ℕ → ℕ → System
+System-for sheet rights make learn team = systemOf (sheet .settings) (bookOf (sheet .settings) (sheet .posts) rights) team make learn
+
+-- the first byte of what is printed, where the room has one
+first-byte : (old : List ℕ) (c : ℕ) (text : List ℕ) → 1 ≤ length old → getD (fitted old (c ∷ text)) 0 0 ≡ c
+first-byte [] c text l = absurd (omega arith)
+first-byte (x ∷ old) c text l = refl
+
+module _ (s old : List ℕ) (r : ℕ) (new : List ℕ) {sheet : Sheet} {rights make learn : List ℕ} {team known values : ℕ}
+    (m : meaning s ≡ stated sheet) (q : Question sheet rights make learn team known values) (a : Answers s old r new) where
+  told : Tells (System-for sheet rights make learn team) (startNumber known values) old r new
+  told =
+      let b = subst (λ (o : Outcome). Prints-outcome o old r new) m a in
+      subst₂ (λ (S : System) (i : ℕ). Tells S i old r new) (same-system (b .6) q) (same-start (b .6) q) (b .7)
+
+  -- where a plan works, `reach` is printed with the least height of one and a plan of that height that works
+  pub reach-printed : (p : Plan) → Works (System-for sheet rights make learn team) (startNumber known values) p
+      → (h : ℕ) × (t : Plan) × Works (System-for sheet rights make learn team) (startNumber known values) t × (height t ≡ h)
+      × ((u : Plan) → Works (System-for sheet rights make learn team) (startNumber known values) u → h ≤ height u) × Prints old (reachText h t) r new
+  reach-printed p works = elim told [
+    | inl (h, t, l, w, x) ↦ (let S = System-for sheet rights make learn team in
+        let k = startNumber known values in
+        (h, t, written-works S t k w, written-height S t k h w (inl l), (λ u v. rank-least S k (inl l) u v), x))
+    | inr (none, x) ↦ absurd (none p works)
+  ]
+
+  -- where none works, `cannot` is
+  pub cannot-printed : ((p : Plan) → Works (System-for sheet rights make learn team) (startNumber known values) p → ⊥) → Prints old cannotText r new
+  cannot-printed none = elim told [
+    | inl (h, t, l, w, x) ↦ absurd (none t (written-works (System-for sheet rights make learn team) t (startNumber known values) w))
+    | inr (also, x) ↦ x
+  ]
+
+  -- and the first byte in the room tells which
+  pub reach-means : 1 ≤ length old → getD new 0 0 ≡ byte "r" → (p : Plan) × Works (System-for sheet rights make learn team) (startNumber known values) p
+  reach-means l e = elim told [
+    | inl (h, t, least, w, x) ↦ (t, written-works (System-for sheet rights make learn team) t (startNumber known values) w)
+    | inr (none, x) ↦ absurd (omega (arith, ap (λ (n : List ℕ). getD n 0 0) (x .room) ∙ first-byte old (byte "c") (bytes "annot\n") l, e))
+  ]
+
+  pub cannot-means : 1 ≤ length old → getD new 0 0 ≡ byte "c" → (p : Plan) → Works (System-for sheet rights make learn team) (startNumber known values) p → ⊥
+  cannot-means l e p works = elim told [
+    | inl (h, t, least, w, x) ↦ omega (arith, ap (λ (n : List ℕ). getD n 0 0) (x .room) ∙ first-byte old (byte "r") (drop 1 (reachText h t)) l, e)
+    | inr (none, x) ↦ none p works
+  ]
+
+  -- ---- demand 3: what "cannot" means for a secret
+
+  -- "No making: the make formula is `1`"
+  no-making : sheet .make ≡ bytes "1" → NoMaking (sheet .settings) make
+  unfolding text truthOf
+  no-making e v h =
+      q .made .table .tells v h ∙ unambiguous (q .made .parsed .sentence) (one-product (one-unit one)) (q .made .parsed .written ∙ e) v
+
+  -- for a sheet with no making that asks one formula F and is answered `cannot`: for every permitted plan there are two starting valuations, both agreeing
+  -- with what the team knew, that give F different values, and on which the plan does the same acts and sees the same readings
+  pub cannot-secret : 1 ≤ length old → getD new 0 0 ≡ byte "c" → sheet .make ≡ bytes "1" → (F : List ℕ) → sheet .asks ≡ F ∷ []
+      → (p : Plan) → Permitted (System-for sheet rights make learn team) (startNumber known values) p
+      → (t : List ℕ) × Accepts (sheet .settings) F t × Twins (sheet .settings) t (startNumber known values) p
+  unfolding learnTable
+  cannot-secret l e making F asks p permitted =
+      let w : WellFormed sheet = stated-written s sheet m .0 in
+      let n : ℕ = sheet .settings in
+      let b = subst (λ (Fs : List (List ℕ)). TablesOf n Fs learn) asks (q .learnt) in
+      let size : length learn ≡ 16 = tables-length n (F ∷ []) learn b in
+      let same : learnTable learn 0 ≡ b .0 = ap (take 16) (b .4) ∙ take-at (b .0) (b .1) 16 (b .2 .table .sixteen) in
+      let twins =
+      secret n (learnTable learn 0) (asked-lawful w q)
+      (enough (bookOf n (sheet .posts) rights) (record { team = team; known = known; values = values }) make learn n (no-making making) (omega arith))
+      (startNumber known values) (cannot-means l e) p permitted
+      in
+      (b .0, b .2, subst (λ (t : List ℕ). Twins n t (startNumber known values) p) same twins)
