@@ -1,5 +1,5 @@
 -- From what was read of a sheet to what is printed for it: one law for each return of `answer`, by the sheet's meaning.
-use mathlib.Core.Path.{_≡_, refl, sym, ap₂, _∙_, subst}
+use mathlib.Core.Path.{_≡_, refl, ap₂, _∙_, subst}
 use mathlib.Core.List.{List}
 use Prim.Native.Nat.{ℕ}
 use Rattle.book.specs.Written.{bookOf}

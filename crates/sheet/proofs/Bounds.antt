@@ -1,7 +1,7 @@
 -- How far the meaning of a sheet goes: a refusal's number is at most 25 and its line at most two past the bytes of the longest sheet, and a sheet that is
 -- stated has at most 5 settings. Step by step, and line by line.
-use mathlib.Core.Path.{_≡_, refl, sym, ap, _∙_, subst}
-use mathlib.Core.Logic.{_⊎_, inl, inr}
+use mathlib.Core.Path.{sym, subst}
+use mathlib.Core.Logic.{inl, inr}
 use mathlib.Core.List.{List, [], _∷_}
 use mathlib.Core.Bool.{Bool, true, false, not, _&&_, cond}
 use Prim.Native.Nat.{ℕ, zero, suc, _+_, _≤_}

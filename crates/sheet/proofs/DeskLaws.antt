@@ -1,31 +1,26 @@
 -- The desk after each line holds what the sheet then states: a line changes one part, and the rest stays.
-use mathlib.Core.Path.{_≡_, refl, sym, ap, ap₂, _∙_, subst}
+use mathlib.Core.Path.{_≡_, refl, sym, ap, _∙_, subst}
 use mathlib.Core.Logic.{_⊎_, inl, inr}
 use mathlib.Core.Bool.{Bool, true, false, not, _&&_, _||_, cond}
 use mathlib.Core.List.{List, [], _∷_, _++_}
-use Prim.Native.Nat.{ℕ, zero, suc, _+_, _*_, _-_, _≤_, _<_}
+use Prim.Native.Nat.{ℕ, suc, _+_, _*_, _≤_, _<_}
 use native.Mathlib.Omega.{arith}
 use native.Mathlib.Nat.{zero-add}
-use lib.Dec.{T, eqb, eqb→eq, lit<, lit≤}
-use lib.ListN.{length, getD, set, take, drop, replicate, length-set, length-append, length-replicate, getD-replicate, List·getD-eq-default}
-use lib.Seq.{sets, sets-eq, length-sets, getD-set-same, getD-set-other, take-append-seam, take-all}
+use lib.Dec.{T, eqb, eqb→eq}
+use lib.ListN.{length, getD, set, length-set}
+use lib.Seq.{sets, length-sets, getD-set-same, getD-set-other, take-all}
 use Rattle.ground.specs.Text.{bytes}
-use Rattle.ground.specs.Digits.{bit}
-use Rattle.ground.specs.Table.{truth, Within, TableOf}
 use Rattle.ground.proofs.Bools.{lt-or-ge, and-in, and-left, and-right, decide, both, T→true, T→false, eq→eqb}
 use Rattle.sheet.proofs.NameLaws.{or-false, or-assoc}
 use Rattle.sheet.proofs.HoldLaws.{kind-small, slot-small}
-use Rattle.ground.proofs.Bits.{bit-of-zero}
-use Rattle.formula.specs.Grammar.{sum, nought, one-unit, one-product, text, meaning}
-use Rattle.formula.specs.Read.{Accepts, Foreign, isStray, isPast, isLetter, isSign}
+use Rattle.formula.specs.Grammar.{text}
+use Rattle.formula.specs.Read.{Accepts}
 use Rattle.book.specs.declared.rule.Right.{Right}
 use Rattle.book.specs.declared.rule.Right.the-variants.{Look, Set}
 use Rattle.book.proofs.Lists.{part-same, getD-sets}
-use Rattle.sheet.specs.Sheet.{Rule, Sheet, sameRight, concerns, isStated, ruleText, member, knownSettings, knownTrue}
-use Rattle.sheet.specs.Words.{teamOf, knownOf}
-use Rattle.sheet.specs.Reading.{sized, withRule, withTeam, withKnown, withMake, withAsk}
-use Rattle.sheet.specs.Answer.{TablesOf}
-use Rattle.sheet.specs.Inner.{kindOf, slotOf, tableIn, Slot, Holds, ruledDesk, askedDesk}
+use Rattle.sheet.specs.Sheet.{Rule, Sheet, sameRight, concerns, isStated, ruleText}
+use Rattle.sheet.specs.Reading.{withRule}
+use Rattle.sheet.specs.Inner.{kindOf, slotOf, tableIn, Slot, Holds, ruledDesk}
 use Rattle.sheet.specs.declared.desk.Desk.{Desk}
 
 -- ---- one right more

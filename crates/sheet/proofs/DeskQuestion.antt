@@ -1,7 +1,7 @@
 -- What is asked on the desk, as the functions ask it: the question is the sheet's, so the book is written, the finder refuses nothing, and the plan
 -- fits a room of 2,016 bytes and can be printed.
 use mathlib.Core.Path.{_≡_, refl, sym, ap, _∙_, subst, subst₂}
-use mathlib.Core.Logic.{_⊎_, inl, inr}
+use mathlib.Core.Logic.{inl, inr}
 use mathlib.Core.List.{List, _++_}
 use Prim.Native.Nat.{ℕ, _+_, _*_, _^_, _≤_}
 use native.Mathlib.Nat.{pow-le-pow-right}

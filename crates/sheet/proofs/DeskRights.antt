@@ -1,13 +1,13 @@
 -- The desk asks what the sheet asks: its rights are the tables of their texts, `0` where a right is not stated. Slot by slot.
 use mathlib.Core.Path.{_≡_, refl, sym, ap, ap₂, _∙_, subst}
-use mathlib.Core.Logic.{_⊎_, inl, inr}
+use mathlib.Core.Logic.{inl, inr}
 use mathlib.Core.Bool.{Bool, true, false, _||_, cond}
 use mathlib.Core.List.{List, [], _∷_}
 use Prim.Native.Nat.{ℕ, zero, suc, _+_, _*_, _≤_, _<_}
 use native.Mathlib.Nat.{add-assoc}
 use native.Mathlib.Omega.{arith}
-use lib.Dec.{T, eqb, eqb→eq, lit<, lit≤}
-use lib.ListN.{length, getD, take, drop, replicate}
+use lib.Dec.{eqb→eq, lit<, lit≤}
+use lib.ListN.{length, getD, take, replicate}
 use lib.Seq.{length-take-le, getD-take}
 use Rattle.ground.specs.Table.{Within}
 use Rattle.ground.specs.Text.{bytes}

@@ -6,7 +6,7 @@ use Prim.Native.Nat.{ℕ, _+_, _-_, _≤_, _<_}
 use native.Mathlib.Omega.{arith}
 use lib.Dec.{T, eqb, leb, ltb, leb→le, ltb→lt, eqb→eq}
 use lib.ListN.{length, getD, List·getD-eq-default}
-use mathlib.Core.Logic.{_⊎_, inl, inr}
+use mathlib.Core.Logic.{inl, inr}
 use Rattle.ground.proofs.Bools.{and-left, and-right, true→T, lt-or-ge}
 use Rattle.ground.specs.Text.{bytes}
 use Rattle.sheet.specs.Words.{begins, among, isSetting, isPost, isSize, digitAt, isRule}

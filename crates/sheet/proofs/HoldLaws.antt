@@ -1,30 +1,25 @@
 -- The desk when only the size is stated: zeros, which are the table of `0`.
-use mathlib.Core.Path.{_≡_, refl, sym, ap, ap₂, _∙_, subst}
-use mathlib.Core.Logic.{_⊎_, inl, inr}
-use mathlib.Core.Bool.{Bool, true, false, not, _&&_, _||_, cond}
-use mathlib.Core.List.{List, [], _∷_, _++_}
+use mathlib.Core.Path.{_≡_, refl, sym, ap, _∙_, subst}
+use mathlib.Core.Logic.{inl, inr}
+use mathlib.Core.Bool.{false}
+use mathlib.Core.List.{[]}
 use Prim.Native.Nat.{ℕ, zero, suc, _+_, _*_, _/_, _%_, _≤_, _<_}
 use native.Mathlib.Omega.{arith}
-use native.Mathlib.Nat.{mul-zero}
-use lib.Dec.{T, eqb, eqb→eq, lit<, lit≤}
-use lib.ListN.{length, getD, set, take, drop, replicate, length-set, length-append, length-replicate, getD-replicate, List·getD-eq-default}
-use lib.Seq.{sets, sets-eq, length-sets, getD-set-same, getD-set-other, take-append-seam, take-at}
+use lib.Dec.{lit<, lit≤}
+use lib.ListN.{getD, replicate, length-replicate, getD-replicate, List·getD-eq-default}
 use Rattle.ground.specs.Text.{bytes}
 use Rattle.ground.specs.Digits.{bit}
-use Rattle.ground.specs.Table.{truth, Within, TableOf}
-use Rattle.ground.proofs.Bools.{lt-or-ge, and-left, and-right, decide, T→true, T→false}
+use Rattle.ground.specs.Table.{truth, Within}
+use Rattle.ground.proofs.Bools.{lt-or-ge}
 use Rattle.ground.proofs.Bits.{bit-of-zero}
-use Rattle.formula.specs.Grammar.{sum, nought, one-unit, one-product, text, meaning}
+use Rattle.formula.specs.Grammar.{nought, one-unit, one-product, text, meaning}
 use Rattle.formula.specs.Read.{Accepts, Foreign, isStray, isPast, isLetter, isSign}
 use Rattle.book.specs.declared.rule.Right.{Right}
 use Rattle.book.specs.declared.rule.Right.the-variants.{Look, Set}
-use Rattle.book.proofs.Lists.{part-same, getD-sets}
-use Rattle.sheet.specs.Sheet.{Rule, Sheet, sameRight, concerns, isStated, ruleText, member, knownSettings, knownTrue}
-use Rattle.sheet.specs.Words.{teamOf, knownOf}
-use Rattle.sheet.specs.Reading.{sized, withRule, withTeam, withKnown, withMake, withAsk}
-use Rattle.sheet.specs.Answer.{TablesOf}
-use Rattle.sheet.specs.Inner.{kindOf, slotOf, tableIn, Slot, Holds, ruledDesk, askedDesk}
-use Rattle.sheet.specs.declared.desk.Desk.{Desk}
+use Rattle.book.proofs.Lists.{part-same}
+use Rattle.sheet.specs.Sheet.{isStated, member, knownSettings, knownTrue}
+use Rattle.sheet.specs.Reading.{sized}
+use Rattle.sheet.specs.Inner.{kindOf, slotOf, tableIn, Holds}
 
 -- ---- zeros
 

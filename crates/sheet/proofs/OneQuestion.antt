@@ -1,8 +1,7 @@
 -- A sheet asks one question: its tables are those of its formulas, its masks have the bits that it names, and nothing is left open. Byte by byte and
 -- bit by bit. So one thing alone is printed for it.
-use mathlib.Core.Path.{_≡_, refl, sym, ap, ap₂, _∙_, subst₂}
-use mathlib.Core.Logic.{_⊎_, inl, inr}
-use mathlib.Core.Bool.{Bool}
+use mathlib.Core.Path.{_≡_, sym, ap, ap₂, _∙_, subst₂}
+use mathlib.Core.Logic.{inl, inr}
 use mathlib.Core.List.{List, [], _∷_, _++_}
 use Prim.Native.Nat.{ℕ, _+_, _-_, _*_, _/_, _%_, _≤_, _<_}
 use native.Mathlib.Omega.{arith}
@@ -30,7 +29,6 @@ use Rattle.finder.proofs.Theorems.{below-power}
 use Rattle.printing.specs.Printed.{reachText, Prints}
 use Rattle.printing.proofs.Theorems.{prints-unique}
 use Rattle.sheet.specs.Sheet.{Sheet}
-use Rattle.sheet.specs.Grammar.{WellFormed}
 use Rattle.sheet.specs.Answer.{TablesOf, Question, Tells}
 
 -- ---- masks and tables

@@ -2,9 +2,9 @@
 use mathlib.Core.Path.{_≡_, refl, sym, ap, _∙_, subst}
 use mathlib.Core.Bool.{Bool, true, false, cond}
 use mathlib.Core.List.{List, [], _∷_}
-use Prim.Native.Nat.{ℕ, suc, _+_, _-_, _≤_, _<_}
+use Prim.Native.Nat.{ℕ, suc, _-_, _≤_, _<_}
 use native.Mathlib.Omega.{arith}
-use lib.Dec.{eqb, ltb}
+use lib.Dec.{eqb}
 use lib.ListN.{length, take, drop}
 use borrow.Author.Tests.{lt-ltb, le-ltb}
 use Rattle.sheet.specs.Sheet.{Sheet}
@@ -15,11 +15,10 @@ use Rattle.sheet.specs.declared.desk.Due.{Due}
 use Rattle.sheet.specs.declared.desk.Due.the-variants.{Rights, Known, Make, Asks}
 use Rattle.sheet.specs.declared.desk.Desk.{Desk}
 use Rattle.sheet.specs.declared.desk.Fault.{Fault}
-use Rattle.sheet.specs.declared.desk.Fault.the-variants.{Malformed, Length}
 use Rattle.sheet.specs.declared.desk.Taken.{Taken}
 use Rattle.sheet.specs.declared.desk.Taken.the-variants.{Next, No}
 use Rattle.sheet.specs.declared.reading.Told.{Told}
-use Rattle.sheet.specs.declared.reading.Told.the-variants.{Stated, Refused}
+use Rattle.sheet.specs.declared.reading.Told.the-variants.{Refused}
 
 -- ---- a turn tells the step
 

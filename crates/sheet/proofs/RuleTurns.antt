@@ -1,11 +1,11 @@
 -- Each way out of the function for a line that states a right: its mark tells whether it is stated already.
-use mathlib.Core.Path.{_≡_, refl, sym, ap, _∙_, subst}
+use mathlib.Core.Path.{_≡_, refl, sym, _∙_, subst}
 use mathlib.Core.Bool.{Bool, true, false}
 use mathlib.Core.List.{List}
-use Prim.Native.Nat.{ℕ, _+_, _-_, _≤_, _<_}
+use Prim.Native.Nat.{ℕ, _+_, _-_}
 use native.Mathlib.Omega.{arith}
 use lib.ListN.{length, getD, take, drop}
-use Rattle.formula.specs.Read.{number as formula-number, Reads, Accepts}
+use Rattle.formula.specs.Read.{number as formula-number, Reads}
 use Rattle.formula.specs.declared.Refusal.{Refusal}
 use Rattle.formula.specs.declared.Answer.{Answer}
 use Rattle.formula.specs.declared.Answer.the-variants.{Accepted, Refused}
@@ -16,7 +16,7 @@ use Rattle.sheet.specs.Reading.{fault, withRule, ruleStep}
 use Rattle.sheet.specs.Inner.{slotOf, tableIn, Slot, Holds, ruledDesk, Steps}
 use Rattle.sheet.specs.declared.desk.Due.the-variants.{Rights}
 use Rattle.sheet.specs.declared.desk.Desk.{Desk}
-use Rattle.sheet.specs.declared.desk.Taken.the-variants.{Next, No}
+use Rattle.sheet.specs.declared.desk.Taken.the-variants.{Next}
 use Rattle.sheet.proofs.Pieces.{tail}
 use Rattle.sheet.proofs.FormLaws.{RuleBounds}
 use Rattle.sheet.proofs.StepLaws.{refused-step, accepted-step, rule-twice, rule-once}

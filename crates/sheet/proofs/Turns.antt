@@ -1,15 +1,14 @@
 -- Each way out of a line's function: what its tests found is what the step does.
 use mathlib.Core.Path.{_≡_, refl, sym, ap, ap₂, _∙_, subst}
-use mathlib.Core.Logic.{_⊎_, inl, inr}
-use mathlib.Core.Bool.{Bool, true, false, not, _&&_, _||_, cond}
+use mathlib.Core.Logic.{inl, inr}
+use mathlib.Core.Bool.{Bool, true, false, _&&_, _||_, cond}
 use mathlib.Core.List.{List, []}
-use Prim.Native.Nat.{ℕ, suc, _+_, _-_, _≤_, _<_}
+use Prim.Native.Nat.{ℕ, _-_, _≤_, _<_}
 use native.Mathlib.Omega.{arith}
-use lib.Dec.{T, eqb, ltb, leb, leb→le, ltb→lt}
+use lib.Dec.{T, eqb}
 use lib.ListN.{length, getD, take, drop}
 use borrow.Author.Tests.{eq-eqb, ne-eqb, lt-ltb, le-ltb}
 use Rattle.ground.specs.Text.{bytes}
-use Rattle.ground.specs.Digits.{bit}
 use Rattle.ground.proofs.Bools.{true→T, T→true, and-left, and-right, lt-or-ge}
 use Rattle.ground.proofs.Bits.{bit-of-zero}
 use Rattle.formula.specs.Read.{number as formula-number, Reads, Accepts}
@@ -17,15 +16,14 @@ use Rattle.formula.specs.declared.Refusal.{Refusal}
 use Rattle.formula.specs.declared.Answer.{Answer}
 use Rattle.formula.specs.declared.Answer.the-variants.{Accepted, Refused}
 use Rattle.book.specs.declared.rule.Right.the-variants.{Look, Set}
-use Rattle.sheet.specs.Sheet.{Rule, Sheet, isStated, member, knownSettings, knownTrue}
-use Rattle.sheet.specs.Words.{split, space, begins, among, isSetting, isPost, isSize, digitAt, isRule, ruleOf, allNames, indexes, postWords, isTeam, teamOf, settingWords, isKnown, knownBy, knownOf, twice}
-use Rattle.sheet.specs.Reading.{Step, fault, next, unlessRefused, sized, withTeam, withKnown, withMake, withAsk, withRule, sizeStep, ruleStep, teamStep, knownStep, makeStep, askStep, oneOf, rightsStep}
-use Rattle.sheet.specs.Inner.{number, trueIndexes, Marked, slotOf, Slot, Holds, ruledDesk, askedDesk, Steps}
+use Rattle.sheet.specs.Sheet.{Sheet, member, knownSettings, knownTrue}
+use Rattle.sheet.specs.Words.{split, space, begins, isRule, ruleOf, allNames, indexes, postWords, isTeam, teamOf, settingWords, isKnown, knownBy, knownOf, twice}
+use Rattle.sheet.specs.Reading.{Step, fault, next, unlessRefused, withAsk, ruleStep, teamStep, knownStep, makeStep, askStep, oneOf, rightsStep}
+use Rattle.sheet.specs.Inner.{number, trueIndexes, Marked, Holds, askedDesk, Steps}
 use Rattle.sheet.specs.declared.desk.Due.{Due}
-use Rattle.sheet.specs.declared.desk.Due.the-variants.{Rights, Known, Make, Asks}
+use Rattle.sheet.specs.declared.desk.Due.the-variants.{Known, Make, Asks}
 use Rattle.sheet.specs.declared.desk.Desk.{Desk}
 use Rattle.sheet.specs.declared.desk.Fault.{Fault}
-use Rattle.sheet.specs.declared.desk.Fault.the-variants.{Malformed, Twice, Formula}
 use Rattle.sheet.specs.declared.desk.Taken.{Taken}
 use Rattle.sheet.specs.declared.desk.Taken.the-variants.{Next, No}
 use Rattle.sheet.specs.declared.names.Marks.{Marks}

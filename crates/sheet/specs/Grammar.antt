@@ -1,7 +1,7 @@
 -- The grammar of well-formed sheets: how each line is written, and what it may say. A sheet that is written so is never 22, whatever else is
 -- wrong with it (proofs/Grammar).
 use mathlib.Core.Path.{_≡_}
-use mathlib.Core.Bool.{Bool, true, false, cond}
+use mathlib.Core.Bool.{cond}
 use mathlib.Core.List.{List, [], _∷_, _++_}
 use Prim.Native.Nat.{ℕ, _+_, _≤_, _<_}
 use lib.ListN.{length}

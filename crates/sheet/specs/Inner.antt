@@ -1,9 +1,9 @@
 -- Inside: what the private functions mean. No public contract cites this.
 use mathlib.Core.Path.{_≡_}
-use mathlib.Core.Bool.{Bool, true, false, not, _&&_, _||_, cond}
-use mathlib.Core.List.{List, [], _∷_, _++_}
+use mathlib.Core.Bool.{Bool, true, false, _&&_, _||_, cond}
+use mathlib.Core.List.{List, [], _∷_}
 use Prim.Native.Nat.{ℕ, suc, _+_, _-_, _*_, _≤_, _<_}
-use lib.Dec.{T, eqb}
+use lib.Dec.{eqb}
 use lib.ListN.{length, getD, take, drop, set, replicate}
 use lib.Seq.{sets}
 use Rattle.ground.specs.Digits.{bit}
@@ -13,13 +13,11 @@ use Rattle.book.specs.declared.rule.Right.the-variants.{Look, Set}
 use Rattle.book.specs.Written.{bookOf}
 use Rattle.plan.specs.Plans.{System}
 use Rattle.finder.specs.Question.{systemOf, startNumber}
-use Rattle.sheet.specs.Sheet.{Rule, Sheet, isStated, ruleText, member, knownSettings, knownTrue}
+use Rattle.sheet.specs.Sheet.{Sheet, isStated, ruleText, member, knownSettings, knownTrue}
 use Rattle.sheet.specs.Words.{split, isFalse, indexOf, indexes, twice}
 use Rattle.sheet.specs.Reading.{Step, fault, next, Outcome, refused, stated}
 use Rattle.sheet.specs.Grammar.{WellFormed}
 use Rattle.sheet.specs.Answer.{TablesOf}
-use Rattle.sheet.specs.declared.desk.Due.{Due}
-use Rattle.sheet.specs.declared.desk.Due.the-variants.{Asks}
 use Rattle.sheet.specs.declared.desk.Desk.{Desk}
 use Rattle.sheet.specs.declared.desk.Fault.{Fault}
 use Rattle.sheet.specs.declared.desk.Fault.the-variants.{Malformed, Twice, Formula, Length, Settings}

@@ -1,7 +1,7 @@
 -- What a sheet states: "In order: `size N M`; any count of `read P G F` and `write P G F` (P a setting letter, G a post digit); `team G ..` (one
 -- or more); `known` with settings, `~` before a false one, or alone; `make F`; up to four `ask F` (learn)." Formulas are kept as their text.
 use mathlib.Core.Bool.{Bool, true, false, _&&_, _||_, cond}
-use mathlib.Core.List.{List, [], _∷_, _++_}
+use mathlib.Core.List.{List, [], _∷_}
 use Prim.Native.Nat.{ℕ}
 use lib.Dec.{eqb}
 use Rattle.ground.specs.Text.{bytes}

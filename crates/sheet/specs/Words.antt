@@ -1,8 +1,8 @@
 -- Lines and words, and the form of each line of a sheet. "Lines count from 1 and end in byte 10"; "Words are split by one space; F is all that
 -- follows the space before it"; "Sheet numbers are one digit".
 use mathlib.Core.Bool.{Bool, true, false, not, _&&_, _||_, cond}
-use mathlib.Core.List.{List, [], _∷_, _++_}
-use Prim.Native.Nat.{ℕ, suc, _+_, _-_, _<_}
+use mathlib.Core.List.{List, [], _∷_}
+use Prim.Native.Nat.{ℕ, _+_, _-_}
 use lib.Dec.{eqb, leb, ltb}
 use lib.ListN.{length, getD, drop}
 use Rattle.ground.specs.Text.{byte, bytes}

@@ -1,5 +1,4 @@
 -- `put_table` meets its contract: after i turns the first i bytes of the table stand in the room.
-use borrow.Author.Needs.{needs}
 use mathlib.Core.Path.{_≡_, refl}
 use Prim.Native.Nat.{_≤_, _-_}
 use native.Mathlib.Omega.{arith}

@@ -1,5 +1,5 @@
 -- `known_line` meets its contract, way by way.
-use mathlib.Core.Path.{_≡_, refl, sym, ap, _∙_, subst}
+use mathlib.Core.Path.{sym, _∙_}
 use native.Mathlib.Omega.{arith}
 use borrow.Author.Tests.{not-true, not-false}
 use Rattle.sheet.specs.declared.desk.Fault.the-variants.{Malformed, Twice}

@@ -1,5 +1,5 @@
 -- `make_line` meets its contract, way by way.
-use mathlib.Core.Path.{_≡_, refl, sym, ap, _∙_, subst}
+use mathlib.Core.Path.{sym, ap, _∙_, subst}
 use Prim.Native.Nat.{_-_}
 use lib.ListN.{length, take, drop}
 use borrow.Author.Tests.{not-true, not-false}

@@ -1,5 +1,5 @@
 -- `rights_line` meets its contract: the first form that fits is the line's.
-use mathlib.Core.Path.{_≡_, refl, sym, ap, _∙_, subst}
+use mathlib.Core.Path.{refl, sym, _∙_, subst}
 use mathlib.Core.Bool.{true, false}
 use lib.Dec.{lit<}
 use Rattle.ground.proofs.Bools.{true→T}

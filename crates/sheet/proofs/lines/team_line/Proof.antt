@@ -1,5 +1,5 @@
 -- `team_line` meets its contract, way by way.
-use mathlib.Core.Path.{_≡_, refl, sym, ap, _∙_, subst}
+use mathlib.Core.Path.{sym, _∙_}
 use borrow.Author.Tests.{not-true, not-false}
 use Rattle.ground.specs.Text.{bytes}
 use Rattle.ground.proofs.Bools.{true→T}

@@ -1,5 +1,5 @@
 -- `among` meets its contract: one bound after the other.
-use mathlib.Core.Path.{_≡_, sym, ap}
+use mathlib.Core.Path.{sym, ap}
 use mathlib.Core.Bool.{Bool, _&&_}
 use Prim.Native.Nat.{_+_}
 use lib.Dec.{ltb}

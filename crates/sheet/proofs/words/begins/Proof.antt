@@ -4,7 +4,6 @@ use Prim.Native.Nat.{_-_, _≤_}
 use native.Mathlib.Numerals.{add-one}
 use native.Mathlib.Omega.{arith}
 use lib.ListN.{length, drop}
-use borrow.Author.Tests.{eqb-false}
 use Rattle.sheet.specs.Words.{begins}
 use Rattle.sheet.proofs.Pieces.{begins-short, begins-differs, begins-more, begins-whole}
 use Rattle.sheet.proofs.words.begins.Statement.{statement}
