@@ -1,17 +1,25 @@
--- The laws of sheets.
+-- The laws of sheets: what the functions need, line by line; then the grammar, and where 22 stands.
+pub mod Pieces
+pub mod NameLaws
+pub mod FormLaws
+pub mod StepLaws
+pub mod HoldLaws
+pub mod DeskLaws
+pub mod LineLaws
+pub mod Turns
+pub mod RuleTurns
+pub mod ReadLaws
 pub mod Split
-pub mod ListedNames
+pub mod WordForms
 pub mod LineForms
 pub mod LineByLine
 pub mod SoFar
-pub mod Steps
+pub mod GoodLines
 pub mod Taken
 pub mod Grammar
-pub mod Places
+pub mod RefusedAt
 pub mod Place
 pub mod Examples
-pub mod Pieces
-pub mod NameLaws
 pub mod SheetQuestion
 pub mod DeskRights
 pub mod DeskQuestion

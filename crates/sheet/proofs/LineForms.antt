@@ -18,7 +18,7 @@ use Rattle.sheet.specs.Sheet.{Rule, Known}
 use Rattle.sheet.specs.Words.{space, split, begins, among, isSetting, isPost, isSize, digitAt, isRule, ruleOf, allNames, indexes, postWords, isTeam, teamOf, settingWords, isKnown, knownBy, knownOf}
 use Rattle.sheet.specs.Grammar.{sizeText, word, ruleLine, postsText, teamLine, knownWord, knownsText, knownLine, PostsFit, KnownFit}
 use Rattle.sheet.proofs.Split.{marked, Clear, some-piece, marked-some, joined-split, split-joined}
-use Rattle.sheet.proofs.ListedNames.{three, five, among-in, among-out, postWord, posts-text, posts-clear, posts-written, posts-read, knowns-text, word-clear, knowns-clear, knowns-written, knowns-read}
+use Rattle.sheet.proofs.WordForms.{three, five, among-in, among-out, postWord, posts-text, posts-clear, posts-written, posts-read, knowns-text, word-clear, knowns-clear, knowns-written, knowns-read}
 
 -- ---- a first word, and bytes at fixed places
 

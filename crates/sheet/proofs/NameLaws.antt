@@ -120,7 +120,7 @@ name-most signed first count w t = let c = getD (bare w) 0 0 in ltb→lt c (firs
 
 -- ---- the marks of all words
 
-or-assoc : (a b c : Bool) → ((a || b) || c) ≡ (a || (b || c))
+pub or-assoc : (a b c : Bool) → ((a || b) || c) ≡ (a || (b || c))
 or-assoc true b c = refl
 or-assoc false b c = refl
 

@@ -19,7 +19,7 @@ use Rattle.sheet.proofs.Split.{joined, some-piece, joined-split}
 use Rattle.sheet.proofs.SoFar.{begins-less}
 use Rattle.sheet.proofs.Taken.{taken-only-well-formed}
 use Rattle.sheet.proofs.Grammar.{Fine, lines-fine, twenty-two-never}
-use Rattle.sheet.proofs.Places.{At, Placed, empty-begins, sheet-placed}
+use Rattle.sheet.proofs.RefusedAt.{At, Placed, empty-begins, sheet-placed}
 
 -- ---- fewer lines of a sheet that begins so begin one too
 

@@ -16,7 +16,7 @@ use Rattle.sheet.specs.Place.{IsSheet}
 use Rattle.sheet.proofs.Split.{joined, AllClear, joined-split, split-clear}
 use Rattle.sheet.proofs.LineByLine.{in-line, after, lines-after, first-after}
 use Rattle.sheet.proofs.SoFar.{soFar, WellSoFar, whole, Good}
-use Rattle.sheet.proofs.Steps.{size-good, step-good}
+use Rattle.sheet.proofs.GoodLines.{size-good, step-good}
 
 -- what is stated is well formed, and its text is s
 abbrev Written : List ℕ → Outcome → Type 0

@@ -42,7 +42,7 @@ fn malformed(desk: Desk, number: usize) -> Reading
 }
 
 // What follows the last byte 10, at this line: nothing may, and the make formula must have come.
-fn end(due: Due, desk: Desk, rest: &[u8], number: usize) -> Reading
+fn ending(due: Due, desk: Desk, rest: &[u8], number: usize) -> Reading
     ensures { λ r. ⌜ ((sheet : Sheet) → Holds sheet desk → Reads (ending due sheet (now (rest .entry)) number) (r .told) (r .desk)) ⌝ }
 {
     match due {
@@ -62,17 +62,20 @@ fn end(due: Due, desk: Desk, rest: &[u8], number: usize) -> Reading
 }
 
 // The lines after the first, from byte `from` on.
-fn rest(sheet: &[u8], from: usize, first: Due, size: Desk) -> Reading {
+fn rest(sheet: &[u8], from: usize, first: Due, size: Desk) -> Reading
+    requires { ⌜ ((stated : Sheet) × Holds stated size) × (from ≤ length (now sheet)) × (1 ≤ from) × (length (now sheet) ≤ 32768) ⌝ }
+    ensures { λ r. ⌜ ((stated : Sheet) → Holds stated size → Reads (lines 2 first stated (split newline (drop from (now (sheet .entry))))) (r .told) (r .desk)) ⌝ }
+{
     let mut due = first;
     let mut desk = size;
     let mut at = from;
     let mut number = 2;
     loop {
-        let end_at = piece_end(sheet, at, b'\n');
-        if sheet.len() <= end_at {
-            return end(due, desk, &sheet[at..end_at], number);
+        let end = piece_end(sheet, at, b'\n');
+        if sheet.len() <= end {
+            return ending(due, desk, &sheet[at..end], number);
         }
-        let turn = line(due, desk, &sheet[at..end_at]);
+        let turn = line(due, desk, &sheet[at..end]);
         let taken = turn.taken;
         match taken {
             Taken::No(why) => {
@@ -86,7 +89,7 @@ fn rest(sheet: &[u8], from: usize, first: Due, size: Desk) -> Reading {
             }
         }
         desk = turn.desk;
-        at = end_at + 1;
+        at = end + 1;
         number += 1;
     }
 }
@@ -95,8 +98,8 @@ fn rest(sheet: &[u8], from: usize, first: Due, size: Desk) -> Reading {
 pub(crate) fn read(sheet: &[u8]) -> Reading
     ensures { λ r. ⌜ Reads (meaning (now (sheet .entry))) (r .told) (r .desk) ⌝ }
 {
-    let end_at = piece_end(sheet, 0, b'\n');
-    let turn = size_line(&sheet[..end_at]);
+    let end = piece_end(sheet, 0, b'\n');
+    let turn = size_line(&sheet[..end]);
     let taken = turn.taken;
     let desk = turn.desk;
     if SHEET_MOST < sheet.len() {
@@ -105,17 +108,14 @@ pub(crate) fn read(sheet: &[u8]) -> Reading
             desk,
         };
     }
-    if sheet.len() <= end_at {
-        return Reading {
-            told: Told::Refused(Fault::Malformed, 1),
-            desk,
-        };
+    if sheet.len() <= end {
+        return malformed(desk, 1);
     }
     match taken {
         Taken::No(why) => Reading {
             told: Told::Refused(why, 1),
             desk,
         },
-        Taken::Next(due) => rest(sheet, end_at + 1, due, desk),
+        Taken::Next(due) => rest(sheet, end + 1, due, desk),
     }
 }

@@ -1,55 +1,55 @@
+-- `size_line` meets its contract, way by way.
+use mathlib.Core.Path.{_≡_, refl, sym, ap, _∙_, subst}
+use Prim.Native.Nat.{ℕ, _-_, _≤_, _<_}
+use native.Mathlib.Omega.{arith}
+use borrow.Author.Tests.{not-true, not-false}
+use Rattle.sheet.specs.Words.{digitAt}
+use Rattle.sheet.specs.Reading.{sized}
+use Rattle.sheet.specs.Inner.{Holds}
+use Rattle.sheet.specs.declared.desk.Fault.the-variants.{Malformed, Settings}
+use Rattle.sheet.proofs.FormLaws.{size-bounds, digit-of}
+use Rattle.sheet.proofs.StepLaws.{size-malformed, size-large, size-next}
+use Rattle.sheet.proofs.Turns.{at-fault, taken}
 use borrow.Author.Needs.{needs}
 use Rattle.sheet.proofs.lines.size_line.Statement.{statement}
 use Rattle.sheet.proofs.lines.size_line.Tie as tie
-use Rattle.sheet.proofs.lines.size_line.Reads as reads
-use Rattle.sheet.proofs.lines.size_line.Lts as lts
-use Rattle.sheet.proofs.lines.is_size.Reads as is-size-reads
-use Rattle.sheet.proofs.lines.sized.Reads as sized-reads
-use Rattle.sheet.proofs.words.peek.Reads as peek-reads
 
--- src/lines.rt:68:9
 is-size-requires : tie.Need-is-size-requires
 is-size-requires c κs = search needs
 
--- src/lines.rt:71:19
 sized-requires : tie.Need-sized-requires
 sized-requires c κs = search needs
 
--- src/lines.rt:69:9
 returns : tie.Need-returns
-returns c = ?
+returns c = at-fault Malformed (c .sized .result) (size-malformed (c .before .before .before .before .args .line .now) (sym (c .before .before .is-size .ensures) ∙ not-true _ (c .before .if1 .taken))) refl
 
--- src/lines.rt:74:20
 peek-requires : tie.Need-peek-requires
 peek-requires c κs = search needs
 
--- src/lines.rt:74:20
 sub-settings : tie.Need-sub-settings
-sub-settings c = ?
+sub-settings c = omega (arith, c .peek .ensures, (size-bounds (c .before .before .before .before .args .line .now) (sym (c .before .before .is-size .ensures) ∙ not-false _ (c .before .if1 .left))) .0)
 
--- src/lines.rt:78:19
 sized-requires-2 : tie.Need-sized-requires-2
 sized-requires-2 c κs = search needs
 
--- src/lines.rt:76:9
 returns-2 : tie.Need-returns-2
-returns-2 c = ?
+returns-2 c = at-fault Settings (c .sized2 .result) (size-large (c .before .before .before .before .before .before .args .line .now) (sym (c .before .before .before .before .is-size .ensures) ∙ not-false _ (c .before .before .before .if1 .left)) (subst (λ (x : ℕ). 5 < x) (digit-of (c .before .before .before .before .before .before .args .line .now) 5 (c .before .before .peek .ensures)) (c .before .if2 .taken))) refl
 
--- src/lines.rt:83:31
 peek-requires-2 : tie.Need-peek-requires-2
 peek-requires-2 c κs = search needs
 
--- src/lines.rt:83:31
 sub-sized : tie.Need-sub-sized
-sub-sized c = ?
+sub-sized c = omega (arith, c .peek2 .ensures, (size-bounds (c .before .before .before .before .before .before .args .line .now) (sym (c .before .before .before .before .is-size .ensures) ∙ not-false _ (c .before .before .before .if1 .left))) .2)
 
--- src/lines.rt:83:15
 sized-requires-3 : tie.Need-sized-requires-3
-sized-requires-3 c κs = ?
+sized-requires-3 c κs =
+    let z = size-bounds (c .before .before .before .before .before .before .args .line .now) (sym (c .before .before .before .before .is-size .ensures) ∙ not-false _ (c .before .before .before .if1 .left)) in
+    (omega (arith, c .before .before .peek .ensures, z .0), c .before .if2 .left, omega (arith, c .peek2 .ensures, z .2), omega (arith, c .peek2 .ensures, z .3))
 
--- src/lines.rt:65:1
 returns-3 : tie.Need-returns-3
-returns-3 c = ?
+returns-3 c =
+    taken (size-next (c .before .before .before .before .before .before .before .args .line .now) (sym (c .before .before .before .before .before .is-size .ensures) ∙ not-false _ (c .before .before .before .before .if1 .left)) (subst (λ (x : ℕ). x ≤ 5) (digit-of (c .before .before .before .before .before .before .before .args .line .now) 5 (c .before .before .before .peek .ensures)) (c .before .before .if2 .left)))
+    (subst (λ (x : ℕ). Holds (sized x (digitAt (c .before .before .before .before .before .before .before .args .line .now) 7)) (c .sized3 .result)) (digit-of (c .before .before .before .before .before .before .before .args .line .now) 5 (c .before .before .before .peek .ensures)) (subst (λ (x : ℕ). Holds (sized (c .before .before .before .peek .result - 48) x) (c .sized3 .result)) (digit-of (c .before .before .before .before .before .before .before .args .line .now) 7 (c .before .peek2 .ensures)) (c .sized3 .ensures)))
 
 pub size-line-spec : {M : Type 1} → statement M
 size-line-spec =

@@ -1,11 +1,10 @@
+-- `sized` meets its contract: zeros everywhere.
+use Rattle.sheet.proofs.HoldLaws.{sized-holds}
 use Rattle.sheet.proofs.lines.sized.Statement.{statement}
 use Rattle.sheet.proofs.lines.sized.Tie as tie
-use Rattle.sheet.proofs.lines.sized.Reads as reads
-use Rattle.sheet.proofs.lines.sized.Lts as lts
 
--- src/lines.rt:27:1
 returns : tie.Need-returns
-returns c = ?
+returns c = let h = c .pre in sized-holds (c .args .settings) (c .args .posts) (h .0) (h .1) (h .2) (h .3)
 
 pub sized-spec : {M : Type 1} → statement M
 sized-spec = tie.close (tie.spec returns)

@@ -1,93 +1,83 @@
+-- `rule_line` meets its contract, way by way.
+use mathlib.Core.Path.{_≡_, refl, sym, ap, _∙_, subst}
+use Prim.Native.Nat.{ℕ, _+_, _-_, _<_}
+use native.Mathlib.Omega.{arith}
+use lib.ListN.{length, getD, take, drop}
+use Rattle.formula.specs.Read.{Reads}
+use Rattle.formula.specs.declared.Answer.{Answer}
+use Rattle.sheet.specs.Words.{ruleOf}
+use Rattle.sheet.specs.Reading.{fault, ruleStep}
+use Rattle.sheet.specs.Inner.{ruledDesk, Steps}
+use Rattle.sheet.specs.declared.desk.Due.the-variants.{Rights}
+use Rattle.sheet.specs.declared.desk.Taken.the-variants.{Next}
+use Rattle.sheet.specs.declared.desk.Fault.the-variants.{Twice, Formula}
+use Rattle.sheet.proofs.FormLaws.{rule-bounds}
+use Rattle.sheet.proofs.HoldLaws.{slot-small}
+use Rattle.sheet.proofs.Turns.{at-fault}
+use Rattle.sheet.proofs.RuleTurns.{line-twice, line-refused, line-taken}
 use borrow.Author.Needs.{needs}
 use Rattle.sheet.proofs.rules.rule_line.Statement.{statement}
 use Rattle.sheet.proofs.rules.rule_line.Tie as tie
-use Rattle.sheet.proofs.rules.rule_line.Reads as reads
-use Rattle.sheet.proofs.rules.rule_line.Lts as lts
-use Rattle.formula.proofs.Refusal.number.Reads as number-reads
-use Rattle.formula.proofs.read.Reads as read-reads
-use Rattle.sheet.proofs.rules.ruled.Reads as ruled-reads
-use Rattle.sheet.proofs.rules.slot_of.Reads as slot-of-reads
-use Rattle.sheet.proofs.words.peek.Reads as peek-reads
 
--- src/rules.rt:72:19
 peek-requires : tie.Need-peek-requires
 peek-requires c κs = search needs
 
--- src/rules.rt:72:19
 sub-setting : tie.Need-sub-setting
-sub-setting c = ?
+sub-setting c = let b = (rule-bounds (c .before .before .before .args .word .now) (c .before .before .before .args .desk .settings) (c .before .before .before .args .desk .posts) (c .before .before .before .args .line .now) (c .before .before .before .pre .2)) in omega (arith, c .peek .ensures, b .setting-least)
 
--- src/rules.rt:73:27
 add-peek : tie.Need-add-peek
 add-peek c = search needs
 
--- src/rules.rt:73:16
 peek-requires-2 : tie.Need-peek-requires-2
 peek-requires-2 c κs = search needs
 
--- src/rules.rt:73:16
 sub-post : tie.Need-sub-post
-sub-post c = ?
+sub-post c = let b = (rule-bounds (c .before .before .before .before .args .word .now) (c .before .before .before .before .args .desk .settings) (c .before .before .before .before .args .desk .posts) (c .before .before .before .before .args .line .now) (c .before .before .before .before .pre .2)) in omega (arith, c .peek2 .ensures, b .post-least)
 
--- src/rules.rt:74:9
 slot-of-requires : tie.Need-slot-of-requires
 slot-of-requires c κs = search needs
 
--- src/rules.rt:76:8
 array-read-if1 : tie.Need-array-read-if1
-array-read-if1 c = ?
+array-read-if1 c = let b = (rule-bounds (c .before .before .before .before .before .before .args .word .now) (c .before .before .before .before .before .before .args .desk .settings) (c .before .before .before .before .before .before .args .desk .posts) (c .before .before .before .before .before .before .args .line .now) (c .before .before .before .before .before .before .pre .2)) in subst (λ (x : ℕ). x < 80) (sym (c .before .slot-of .ensures)) (slot-small (c .before .before .before .before .before .before .args .right) (c .before .before .before .peek .result - 97) (c .before .before .peek2 .result - 49) (omega (arith, c .before .before .before .peek .ensures, b .setting-most, b .setting-least, c .before .before .before .before .before .before .pre .0 .1 .settings-most)) (omega (arith, c .before .before .peek2 .ensures, b .post-most, b .post-least, c .before .before .before .before .before .before .pre .0 .1 .posts-most)))
 
--- src/rules.rt:77:9
 returns : tie.Need-returns
-returns c = ?
+returns c = λ sheet h. at-fault Twice (c .before .before .before .before .before .before .before .args .desk) (line-twice sheet (c .before .before .before .before .before .before .before .args .desk) h (c .before .before .before .before .before .before .before .args .right) (c .before .before .before .before .before .before .before .args .word .now) (c .before .before .before .before .before .before .before .args .line .now) (rule-bounds (c .before .before .before .before .before .before .before .args .word .now) (c .before .before .before .before .before .before .before .args .desk .settings) (c .before .before .before .before .before .before .before .args .desk .posts) (c .before .before .before .before .before .before .before .args .line .now) (c .before .before .before .before .before .before .before .pre .2)) (c .before .before .before .before .peek .result - 97) (c .before .before .before .peek2 .result - 49) (ap (λ (x : ℕ). x - 97) (c .before .before .before .before .peek .ensures)) (ap (λ (x : ℕ). x - 49) (c .before .before .before .peek2 .ensures)) (λ e. c .if1 .taken (ap (λ (k : ℕ). getD (c .before .before .before .before .before .before .before .args .desk .stated) k 0) (c .before .before .slot-of .ensures) ∙ e))) refl
 
--- src/rules.rt:82:16
 add-from : tie.Need-add-from
 add-from c = search needs
 
--- src/rules.rt:83:33
 cast-read : tie.Need-cast-read
 cast-read c = search needs
 
--- src/rules.rt:83:57
 sub-read : tie.Need-sub-read
-sub-read c = ?
+sub-read c = (rule-bounds (c .before .before .before .before .before .before .before .before .args .word .now) (c .before .before .before .before .before .before .before .before .args .desk .settings) (c .before .before .before .before .before .before .before .before .args .desk .posts) (c .before .before .before .before .before .before .before .before .args .line .now) (c .before .before .before .before .before .before .before .before .pre .2)) .size
 
--- src/rules.rt:83:57
 part-read-start : tie.Need-part-read-start
-part-read-start c = ?
+part-read-start c = (rule-bounds (c .before .before .before .before .before .before .before .before .args .word .now) (c .before .before .before .before .before .before .before .before .args .desk .settings) (c .before .before .before .before .before .before .before .before .args .desk .posts) (c .before .before .before .before .before .before .before .before .args .line .now) (c .before .before .before .before .before .before .before .before .pre .2)) .size
 
--- src/rules.rt:83:57
 part-read-end : tie.Need-part-read-end
 part-read-end c = search needs
 
--- src/rules.rt:83:9
 read-requires : tie.Need-read-requires
 read-requires c κs = search needs
 
--- src/rules.rt:87:25
 enum-known-answer : tie.Need-enum-known-answer
 enum-known-answer c = search needs
 
--- src/rules.rt:88:45
 number-requires : tie.Need-number-requires
 number-requires c κs = search needs
 
--- src/rules.rt:92:32
 enum-told : tie.Need-enum-told
 enum-told c = search needs
 
--- src/rules.rt:93:19
 ruled-requires : tie.Need-ruled-requires
-ruled-requires c κs = search needs
+ruled-requires c κs = let b = (rule-bounds (c .before .before .before .before .before .before .before .before .before .before .before .before .before .before .args .word .now) (c .before .before .before .before .before .before .before .before .before .before .before .before .before .before .args .desk .settings) (c .before .before .before .before .before .before .before .before .before .before .before .before .before .before .args .desk .posts) (c .before .before .before .before .before .before .before .before .before .before .before .before .before .before .args .line .now) (c .before .before .before .before .before .before .before .before .before .before .before .before .before .before .pre .2)) in ((subst (λ (a : Answer). Reads (c .before .before .before .before .before .before .before .before .before .before .before .before .before .before .args .desk .settings) (take (length (c .before .before .before .before .before .before .before .before .before .before .before .before .before .before .args .line .now) - (length (c .before .before .before .before .before .before .before .before .before .before .before .before .before .before .args .word .now) + 4)) (drop (length (c .before .before .before .before .before .before .before .before .before .before .before .before .before .before .args .word .now) + 4) (c .before .before .before .before .before .before .before .before .before .before .before .before .before .before .args .line .now))) a (c .before .before .before .before .read .result .table)) (c .before .enum-told .given .1) (c .before .before .before .before .read .ensures)) .table .sixteen, subst (λ (x : ℕ). x < 80) (sym (c .before .before .before .before .before .before .before .before .before .slot-of .ensures)) (slot-small (c .before .before .before .before .before .before .before .before .before .before .before .before .before .before .args .right) (c .before .before .before .before .before .before .before .before .before .before .before .peek .result - 97) (c .before .before .before .before .before .before .before .before .before .before .peek2 .result - 49) (omega (arith, c .before .before .before .before .before .before .before .before .before .before .before .peek .ensures, b .setting-most, b .setting-least, c .before .before .before .before .before .before .before .before .before .before .before .before .before .before .pre .0 .1 .settings-most)) (omega (arith, c .before .before .before .before .before .before .before .before .before .before .peek2 .ensures, b .post-most, b .post-least, c .before .before .before .before .before .before .before .before .before .before .before .before .before .before .pre .0 .1 .posts-most))), c .before .before .before .before .before .before .before .before .before .before .before .before .before .before .pre .0 .1 .rights-size, c .before .before .before .before .before .before .before .before .before .before .before .before .before .before .pre .0 .1 .stated-size)
 
--- src/rules.rt:67:1
 returns-2 : tie.Need-returns-2
-returns-2 c = ?
+returns-2 c = λ sheet h. at-fault (Formula (c .number .result)) (c .before .before .before .before .before .before .before .before .before .before .before .before .before .before .before .args .desk) (line-refused sheet (c .before .before .before .before .before .before .before .before .before .before .before .before .before .before .before .args .desk) h (c .before .before .before .before .before .before .before .before .before .before .before .before .before .before .before .args .right) (c .before .before .before .before .before .before .before .before .before .before .before .before .before .before .before .args .word .now) (c .before .before .before .before .before .before .before .before .before .before .before .before .before .before .before .args .line .now) (rule-bounds (c .before .before .before .before .before .before .before .before .before .before .before .before .before .before .before .args .word .now) (c .before .before .before .before .before .before .before .before .before .before .before .before .before .before .before .args .desk .settings) (c .before .before .before .before .before .before .before .before .before .before .before .before .before .before .before .args .desk .posts) (c .before .before .before .before .before .before .before .before .before .before .before .before .before .before .before .args .line .now) (c .before .before .before .before .before .before .before .before .before .before .before .before .before .before .before .pre .2)) (c .before .before .before .before .before .before .before .before .before .before .before .before .peek .result - 97) (c .before .before .before .before .before .before .before .before .before .before .before .peek2 .result - 49) (ap (λ (x : ℕ). x - 97) (c .before .before .before .before .before .before .before .before .before .before .before .before .peek .ensures)) (ap (λ (x : ℕ). x - 49) (c .before .before .before .before .before .before .before .before .before .before .before .peek2 .ensures)) (ap (λ (k : ℕ). getD (c .before .before .before .before .before .before .before .before .before .before .before .before .before .before .before .args .desk .stated) k 0) (sym (c .before .before .before .before .before .before .before .before .before .before .slot-of .ensures)) ∙ c .before .before .before .before .before .before .before .before .if1 .left) (c .before .before .before .before .before .read .result .table) (c .before .before .answer .given .0 .0) (subst (λ (a : Answer). Reads (c .before .before .before .before .before .before .before .before .before .before .before .before .before .before .before .args .desk .settings) (take (length (c .before .before .before .before .before .before .before .before .before .before .before .before .before .before .before .args .line .now) - (length (c .before .before .before .before .before .before .before .before .before .before .before .before .before .before .before .args .word .now) + 4)) (drop (length (c .before .before .before .before .before .before .before .before .before .before .before .before .before .before .before .args .word .now) + 4) (c .before .before .before .before .before .before .before .before .before .before .before .before .before .before .before .args .line .now))) a (c .before .before .before .before .before .read .result .table)) (c .before .before .answer .given .1) (c .before .before .before .before .before .read .ensures)) ∙ ap fault (sym (c .number .ensures))) refl
 
--- src/rules.rt:67:1
 returns-3 : tie.Need-returns-3
-returns-3 c = ?
+returns-3 c = λ sheet h. subst (Steps (ruleStep sheet (ruleOf (c .before .before .before .before .before .before .before .before .before .before .before .before .before .before .before .args .word .now) (c .before .before .before .before .before .before .before .before .before .before .before .before .before .before .before .args .right) (c .before .before .before .before .before .before .before .before .before .before .before .before .before .before .before .args .line .now))) (Next Rights)) (sym (c .ruled .ensures ∙ ap (λ (k : ℕ). ruledDesk (c .before .before .before .before .before .before .before .before .before .before .before .before .before .before .before .args .desk) k (c .before .before .before .before .before .read .result .table)) (c .before .before .before .before .before .before .before .before .before .before .slot-of .ensures))) (line-taken sheet (c .before .before .before .before .before .before .before .before .before .before .before .before .before .before .before .args .desk) h (c .before .before .before .before .before .before .before .before .before .before .before .before .before .before .before .args .right) (c .before .before .before .before .before .before .before .before .before .before .before .before .before .before .before .args .word .now) (c .before .before .before .before .before .before .before .before .before .before .before .before .before .before .before .args .line .now) (rule-bounds (c .before .before .before .before .before .before .before .before .before .before .before .before .before .before .before .args .word .now) (c .before .before .before .before .before .before .before .before .before .before .before .before .before .before .before .args .desk .settings) (c .before .before .before .before .before .before .before .before .before .before .before .before .before .before .before .args .desk .posts) (c .before .before .before .before .before .before .before .before .before .before .before .before .before .before .before .args .line .now) (c .before .before .before .before .before .before .before .before .before .before .before .before .before .before .before .pre .2)) (c .before .before .before .before .before .before .before .before .before .before .before .before .peek .result - 97) (c .before .before .before .before .before .before .before .before .before .before .before .peek2 .result - 49) (ap (λ (x : ℕ). x - 97) (c .before .before .before .before .before .before .before .before .before .before .before .before .peek .ensures)) (ap (λ (x : ℕ). x - 49) (c .before .before .before .before .before .before .before .before .before .before .before .peek2 .ensures)) (ap (λ (k : ℕ). getD (c .before .before .before .before .before .before .before .before .before .before .before .before .before .before .before .args .desk .stated) k 0) (sym (c .before .before .before .before .before .before .before .before .before .before .slot-of .ensures)) ∙ c .before .before .before .before .before .before .before .before .if1 .left) (c .before .before .before .before .before .read .result .table) (subst (λ (a : Answer). Reads (c .before .before .before .before .before .before .before .before .before .before .before .before .before .before .before .args .desk .settings) (take (length (c .before .before .before .before .before .before .before .before .before .before .before .before .before .before .before .args .line .now) - (length (c .before .before .before .before .before .before .before .before .before .before .before .before .before .before .before .args .word .now) + 4)) (drop (length (c .before .before .before .before .before .before .before .before .before .before .before .before .before .before .before .args .word .now) + 4) (c .before .before .before .before .before .before .before .before .before .before .before .before .before .before .before .args .line .now))) a (c .before .before .before .before .before .read .result .table)) (c .before .before .enum-told .given .1) (c .before .before .before .before .before .read .ensures)))
 
 pub rule-line-spec : {M : Type 1} → statement M
 rule-line-spec =

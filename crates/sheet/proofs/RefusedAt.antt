@@ -15,7 +15,7 @@ use Rattle.sheet.specs.Place.{BeginsSheet, allEnded}
 use Rattle.sheet.proofs.Split.{AllClear, some-piece, split-clear}
 use Rattle.sheet.proofs.LineByLine.{in-line, after, lines-after, first-after, lines-split, first-split}
 use Rattle.sheet.proofs.SoFar.{soFar, WellSoFar, begins-less, so-far-begins, Good}
-use Rattle.sheet.proofs.Steps.{size-good, step-good}
+use Rattle.sheet.proofs.GoodLines.{size-good, step-good}
 
 -- x at L, after the text `before`, from line K on, where the sheet goes on with these pieces; `run` is what comes of another text in their place
 pub record At (before : List ℕ) (pieces : List (List ℕ)) (run : List ℕ → Outcome) (K x L : ℕ) : Type 0 where
