@@ -1,5 +1,5 @@
 -- Any two results that a C function's contract allows are equal, lent memory included: each is a function of what the crate behind it answers,
--- which is settled there.
+-- which is settled there. `pj_sheet` hands on the contract of `answer`, settled by sheet's `answer-unique`.
 use mathlib.Core.Path.{_≡_, sym, ap, _∙_}
 use mathlib.Core.List.{List}
 use Prim.Native.Nat.{ℕ}

@@ -8,6 +8,7 @@ ghost use Rattle.exports.specs.Formula.{FormulaRead};
 ghost use Rattle.exports.specs.Find.{asked, PlanFound};
 ghost use Rattle.exports.specs.Check.{PlanChecked};
 ghost use Rattle.exports.specs.Book.{BookRead, BookWritten};
+ghost use Rattle.sheet.specs.Answer.{Answers};
 use book::ReadAnswer;
 use book::WriteAnswer;
 use finder::Answer as Found;
@@ -105,6 +106,15 @@ pub extern "C" fn pj_plan_check(
         CheckAnswer::Yes => 0,
         CheckAnswer::Refused(why) => refusal(why.number(), why.place() as u64),
     }
+}
+
+// What is printed for a sheet, in the lent room as far as it fits: the length of all of it, which is at
+// most `sheet::ANSWER_MOST`. Nothing is refused, and the rest of the room keeps what it held.
+#[no_mangle]
+pub extern "C" fn pj_sheet(sheet: &[u8], out: &mut [u8]) -> u64
+    ensures { λ r. ⌜ Answers (now (sheet .entry)) (now (out .entry)) r (now (out .exit)) ⌝ }
+{
+    sheet::answer(sheet, out) as u64
 }
 
 // A refusal as one number.
