@@ -149,6 +149,13 @@ module _ (book : List ℕ) (q : Question) (make learn ranks plan : List ℕ) whe
       let z = answers-unique (lawful v) (few v) (startNumber (q .known) (q .values)) plan a b x y g answered in
       (z .0, ranks-unique f filled, z .1)
 
+-- a refusal leaves the plan room as it was, and the rank table too but for 14
+pub find-refused : (book : List ℕ) (q : Question) (make learn ranks plan : List ℕ) (w : Refusal) (r x : List ℕ)
+    → Finds book q make learn ranks plan (Refused w) r x → (x ≡ plan) × ((r ≡ ranks) ⊎ (number w ≡ 14))
+find-refused book q make learn ranks plan w r x (inl u) = (u .plan-kept, inl (u .ranks-kept))
+find-refused book q make learn ranks plan w r x (inr (n, m, v, l, f, a)) =
+    let z = late (systemOf n book (q .team) make learn) (startNumber (q .known) (q .values)) plan x w a in (z .2, inr (ap number (z .0)))
+
 -- and of `ask`
 module _ (book : List ℕ) (q : Question) (make learn : List ℕ) where
   not-both : {n m : ℕ} (r : Refusal) → ValidQuestion book q make learn n m → First (questionRows book (q .team) (q .known) (q .values) make learn) (number r) (place r) → ⊥
