@@ -82,7 +82,7 @@ module _ {d : Desk} (x : Whole d) where
       let book = bookOf (d .settings) (d .posts) (rightsIn d) in
       let same = writes-one (d .settings) (d .posts) (rightsIn d) room a BookWritten after (book ++ drop (512 * (1 + d .settings)) room) wrote (desk-writable, omega (arith, x .holds .settings-most), refl) in
       ap (take (512 * (1 + d .settings))) (same .1)
-      ∙ take-at book (drop (512 * (1 + d .settings)) room) (512 * (1 + d .settings)) (length-book (d .settings) (d .posts) (rightsIn d) (desk-writable .size))
+      ∙ take-at book (drop (512 * (1 + d .settings)) room) (512 * (1 + d .settings)) book-length
 
   -- the finder answers
   pub desk-found : {book : List ℕ} (ranks plan : List ℕ) (a : Answer) (ranks′ plan′ : List ℕ) → book ≡ bookIn d → length ranks ≡ 16807
@@ -101,7 +101,7 @@ module _ {d : Desk} (x : Whole d) where
           subst (λ (k : ℕ). Answers (systemOf k (bookIn d) (d .team) (d .make) (learnIn d)) (startNumber (d .known) (d .values)) plan a plan′)
           (sound-one (v .sound) (desk-valid .sound) .0) s
 
-  -- what the finder answered, once it is known to be a refusal or a plan
+  -- what the finder answered, once its case is known
   module _ (plan plan′ : List ℕ) (r : Answer) (answered : Answers (systemIn d) (startIn d) plan r plan′) where
     refused-none : (why : Refusal) → length plan ≡ 2016 → Answers (systemIn d) (startIn d) plan (Refused why) plan′ → ⊥
     refused-none (Book y) size a = a
@@ -124,13 +124,12 @@ module _ {d : Desk} (x : Whole d) where
 
       plan-bytes : take size plan′ ≡ encode tree
       unfolding tree
-      plan-bytes = ap (take size) (reached .1 .4) ∙ take-at (encode (reached .1 .0)) (drop size plan) size (sym (reached .1 .2))
+      plan-bytes = ap (take size) (reached .1 .4) ∙ take-at (encode tree) (drop size plan) size (sym (reached .1 .2))
 
       lettered : Lettered tree
       unfolding tree
       lettered =
-          permitted-lettered desk-lawful few (reached .1 .0) (startIn d)
-          (works-permitted (systemIn d) (reached .1 .0) (startIn d) (written-works (systemIn d) (reached .1 .0) (startIn d) (reached .1 .1)))
+          permitted-lettered desk-lawful few tree (startIn d) (works-permitted (systemIn d) tree (startIn d) (written-works (systemIn d) tree (startIn d) (reached .1 .1)))
 
       pub plan-fits : size ≤ length plan′
       plan-fits = omega (arith, ap length (reached .1 .4), length-append (encode (reached .1 .0)) (drop size plan), reached .1 .2)
@@ -138,7 +137,7 @@ module _ {d : Desk} (x : Whole d) where
       -- the plan's bytes can be printed
       pub plan-readable : ((p : Plan) × (take size plan′ ≡ encode p) × Lettered p) × (length (take size plan′) ≤ 32640)
       unfolding tree
-      plan-readable = ((tree, plan-bytes, lettered), omega (arith, ap length plan-bytes, plan-most (reached .1 .0) (reached .1 .1)))
+      plan-readable = ((tree, plan-bytes, lettered), omega (arith, ap length plan-bytes, plan-most tree (reached .1 .1)))
 
       pub plan-told : (old : List ℕ) (x : ℕ) (new : List ℕ) → ((p : Plan) → take size plan′ ≡ encode p → Lettered p → Prints old (reachText height p) x new)
           → Tells (systemIn d) (startIn d) old x new
