@@ -4,10 +4,11 @@ use crate::book;
 use crate::rng::Rng;
 
 const N: usize = 7;
-const M: usize = 8;
+pub const M: usize = 8;
 
 pub struct Asked {
     pub book: Vec<u8>,
+    pub team: u8,
     pub make: [u8; 16],
 }
 
@@ -44,14 +45,15 @@ fn book_of(mut rule: impl FnMut(usize, usize, bool) -> u128) -> Vec<u8> {
     book::write(N as u64, M as u64, &rights, usize::MAX).unwrap_or_else(|_| panic!("rights of a sound book"))
 }
 
-/// Most rules are closed or ask for the values of many settings; the goal is a few values.
-pub fn random(rng: &mut Rng) -> Asked {
+/// A team of the first posts; this percentage of the rules is closed, the others ask for the values of many settings,
+/// and some looks are open; the goal is a few values.
+pub fn random(rng: &mut Rng, posts: usize, closed: u32) -> Asked {
     let book = book_of(|_, _, look| match rng.below(10) {
-        _ if rng.chance(85) => 0,
+        _ if rng.chance(closed) => 0,
         0..=2 if look => u128::MAX,
         _ => conjunction(rng, 60),
     });
-    Asked { book, make: conjunction(rng, 50).to_le_bytes() }
+    Asked { book, team: u8::MAX >> (M - posts), make: conjunction(rng, 50).to_le_bytes() }
 }
 
 /// The book of the greatest rank, 254: setting j may be looked at where all settings before it are true; it may be set
@@ -63,5 +65,5 @@ pub fn hard() -> Asked {
         (true, false, 0) => !all_true(0..N),
         (true, false, _) => all_true(0..j - 1) & !letter(j - 1) & !all_true(j..N),
     });
-    Asked { book, make: all_true(0..N).to_le_bytes() }
+    Asked { book, team: u8::MAX, make: all_true(0..N).to_le_bytes() }
 }

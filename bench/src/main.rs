@@ -1,5 +1,5 @@
-//! The proved finder beside tests/second's plain one of the same design, in one run: seven settings, eight posts, the
-//! whole team, nothing known. Answers, ranks and plans have to be the same. Before each call, outside the time taken,
+//! The proved finder beside tests/second's plain one of the same design, in one run: seven settings, eight posts,
+//! teams of every size, nothing known. Answers, ranks and plans have to be the same. Before each call, outside the time taken,
 //! the rank table and the plan room are filled with 170, so both are in memory and neither holds a rank.
 
 mod asked;
@@ -24,7 +24,8 @@ use rng::Rng;
 
 const STATES: usize = 823_543;
 const PLAN: usize = 32_640;
-const BOOKS: usize = 20;
+/// How many rules in a hundred are closed: dense, middling and sparse books.
+const CLOSED: [u32; 3] = [15, 50, 85];
 const TURNS: usize = 7;
 
 type Finder = fn(&Asked, &mut [u8], &mut [u8]) -> u64;
@@ -38,7 +39,7 @@ struct Found {
 }
 
 fn plain(asked: &Asked, ranks: &mut [u8], plan: &mut [u8]) -> u64 {
-    fast::find(&asked.book, u8::MAX, 0, 0, &asked.make, &[], ranks, plan)
+    fast::find(&asked.book, asked.team, 0, 0, &asked.make, &[], ranks, plan)
 }
 
 fn timed(finder: Finder, asked: &Asked) -> Found {
@@ -63,15 +64,20 @@ fn least(finders: &[Finder], asked: &Asked) -> Vec<Duration> {
     times
 }
 
-/// A line for some questions: the sum of the least times of each finder, and the ratio.
-fn line(name: &str, finders: &[Finder], questions: &[Asked]) {
+/// The sum of the least times of each finder over some questions.
+fn total(finders: &[Finder], questions: &[Asked]) -> Vec<Duration> {
     let mut sums = vec![Duration::ZERO; finders.len()];
     for asked in questions {
         for (sum, time) in sums.iter_mut().zip(least(finders, asked)) {
             *sum += time;
         }
     }
-    let milliseconds = |time: &Duration| time.as_secs_f64() * 1e3 / questions.len() as f64;
+    sums
+}
+
+/// A line for the times of some questions: a question's mean, and the ratio.
+fn line(name: &str, count: usize, sums: &[Duration]) {
+    let milliseconds = |time: &Duration| time.as_secs_f64() * 1e3 / count as f64;
     let plain = milliseconds(&sums[0]);
     match sums.get(1).map(milliseconds) {
         Some(proved) => println!("{name}: plain {plain:.2} ms, proved {proved:.2} ms, ratio {:.2}", proved / plain),
@@ -89,7 +95,15 @@ fn main() {
     }
     println!("n = 7, m = 8; a question's mean of the least of {TURNS} turns");
     let mut rng = Rng::named(1, "bench");
-    let random: Vec<Asked> = (0..BOOKS).map(|_| asked::random(&mut rng)).collect();
-    line(&format!("{BOOKS} random books"), finders, &random);
-    line("the book of rank 254", finders, &[asked::hard()]);
+    let mut random = vec![Duration::ZERO; finders.len()];
+    for closed in CLOSED {
+        let questions: Vec<Asked> = (1..=asked::M).map(|posts| asked::random(&mut rng, posts, closed)).collect();
+        let sums = total(finders, &questions);
+        line(&format!("{} random books, {closed} % of the rules closed, teams of 1 to 8", asked::M), asked::M, &sums);
+        for (all, sum) in random.iter_mut().zip(sums) {
+            *all += sum;
+        }
+    }
+    line("all random books", CLOSED.len() * asked::M, &random);
+    line("the book of rank 254", 1, &total(finders, &[asked::hard()]));
 }

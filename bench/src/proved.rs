@@ -21,13 +21,13 @@ extern "C" {
 }
 
 pub fn find(asked: &Asked, ranks: &mut [u8], plan: &mut [u8]) -> u64 {
-    let Asked { book, make } = asked;
+    let Asked { book, team, make } = asked;
     let learn: [u8; 0] = [];
     unsafe {
         pj_find(
             book.as_ptr(),
             book.len() as u64,
-            u8::MAX,
+            *team,
             0,
             0,
             make.as_ptr(),
