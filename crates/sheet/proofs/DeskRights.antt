@@ -3,17 +3,16 @@ use mathlib.Core.Path.{_≡_, refl, sym, ap, ap₂, _∙_, subst}
 use mathlib.Core.Logic.{inl, inr}
 use mathlib.Core.Bool.{Bool, true, false, _||_, cond}
 use mathlib.Core.List.{List, [], _∷_}
-use Prim.Native.Nat.{ℕ, zero, suc, _+_, _*_, _≤_, _<_}
+use Prim.Native.Nat.{ℕ, _+_, _*_, _≤_, _<_}
 use native.Mathlib.Nat.{add-assoc}
 use native.Mathlib.Omega.{arith}
-use lib.Dec.{eqb→eq, lit<, lit≤}
+use lib.Dec.{eqb→eq}
 use lib.ListN.{length, getD, take, replicate}
 use lib.Seq.{length-take-le, getD-take}
-use Rattle.ground.specs.Table.{Within}
 use Rattle.ground.specs.Text.{bytes}
 use Rattle.ground.proofs.Bools.{decide, and-right, T→false}
-use Rattle.formula.specs.Grammar.{text, meaning, nought, one-unit, one-product}
-use Rattle.formula.specs.Read.{isLetter, isSign, isStray, isPast, Foreign, Accepts}
+use Rattle.formula.specs.Grammar.{text}
+use Rattle.formula.specs.Read.{Accepts}
 use Rattle.book.specs.Rule.{tablePlace, table}
 use Rattle.book.specs.Sound.{tablesOf}
 use Rattle.book.specs.declared.rule.Right.{Right}
@@ -26,29 +25,7 @@ use Rattle.sheet.specs.Grammar.{RulesFit, WellFormed}
 use Rattle.sheet.specs.Answer.{TablesOf, Question}
 use Rattle.sheet.specs.Inner.{slotOf, tableIn, Slot, Holds, rightsIn, learnIn}
 use Rattle.sheet.specs.declared.desk.Desk.{Desk}
-use Rattle.sheet.proofs.SheetQuestion.{zero-byte, zero-truth}
-
--- ---- sixteen zeros are the table of `0`
-
-zero-clean : (n j : ℕ) → Foreign n (bytes "0") j → ⊥
-unfolding isStray isPast isLetter isSign
-zero-clean n zero x = x .1
-zero-clean n (suc j) x = omega (arith, x .0)
-
-zero-accepted : (n : ℕ) → 1 ≤ n → n ≤ 7 → Accepts n (bytes "0") (replicate 16 0)
-unfolding text meaning Within
-zero-accepted n least most = record {
-  settings = (least, most);
-  size = (lit≤ tt, lit≤ tt);
-  clean = zero-clean n;
-  parsed = record { sentence = one-product (one-unit nought); written = refl };
-  table = record {
-    sixteen = refl;
-    bytes = λ j. subst (λ (x : ℕ). x < 256) (sym (zero-byte j)) (lit< tt);
-    tells = λ v h. zero-truth v;
-    within = λ v l h. zero-truth v;
-  };
-}
+use Rattle.sheet.proofs.HoldLaws.{nought-accepts}
 
 -- ---- a right that is not stated
 
@@ -81,7 +58,7 @@ post-unstated n m (r ∷ rs) right i q f l = ap₂ _||_ (other-post r right i q 
 slot-accepts : (n : ℕ) (stated : Bool) (F : List ℕ) (mark : ℕ) (t : List ℕ) → 1 ≤ n → n ≤ 7 → (stated ≡ false → F ≡ bytes "0") → Slot n stated F mark t → Accepts n F t
 slot-accepts n true F mark t least most f s = s .1
 slot-accepts n false F mark t least most f s =
-    subst (λ (x : List ℕ). Accepts n x t) (sym (f refl)) (subst (Accepts n (bytes "0")) (sym (s .1)) (zero-accepted n least most))
+    subst (λ (x : List ℕ). Accepts n x t) (sym (f refl)) (subst (Accepts n (bytes "0")) (sym (s .1)) (nought-accepts n least most))
 
 slot-zeros : (n : ℕ) (stated : Bool) (F : List ℕ) (mark : ℕ) (t : List ℕ) → stated ≡ false → Slot n stated F mark t → t ≡ replicate 16 0
 slot-zeros n true F mark t e s = let z : _≡_ {A = ℕ} 0 1 = cc in absurd (omega arith)

@@ -2,17 +2,17 @@
 use mathlib.Core.Path.{_≡_, refl, sym, ap, _∙_, subst}
 use mathlib.Core.Bool.{Bool, true, false, not, cond}
 use mathlib.Core.List.{List, [], _∷_, _++_, append-nil, append-assoc}
-use Prim.Native.Nat.{ℕ, _+_, _*_, _<_}
+use Prim.Native.Nat.{ℕ, _+_, _*_, _≤_, _<_}
 use native.Mathlib.Omega.{arith}
 use lib.ListN.{length, take, drop, length-append}
 use lib.Seq.{sets, sets-eq, length-sets, length-take-le, take-at}
 use Rattle.ground.specs.Digits.{bit}
 use Rattle.formula.specs.Read.{Accepts}
-use Rattle.sheet.specs.Sheet.{Sheet, member, knownSettings, knownTrue}
+use Rattle.sheet.specs.Sheet.{Known, Sheet, member, knownSettings, knownTrue}
 use Rattle.sheet.specs.Words.{isFalse, indexOf, indexes, teamOf, knownBy, knownOf}
-use Rattle.sheet.specs.Reading.{withTeam, withKnown, withMake, withAsk}
+use Rattle.sheet.specs.Reading.{stating, withTeam, withKnown, withMake, withAsk}
 use Rattle.sheet.specs.Answer.{TablesOf}
-use Rattle.sheet.specs.Inner.{trueIndexes, Holds, askedDesk}
+use Rattle.sheet.specs.Inner.{trueIndexes, Holds, laid, teamDesk, knownDesk, makeDesk, askedDesk}
 use Rattle.sheet.specs.declared.desk.Desk.{Desk}
 
 -- the words of `known` as they are marked, and as they are read
@@ -36,10 +36,13 @@ tables-snoc n [] F t u e a = (u, [], a, refl, ap (λ (x : List ℕ). x ++ u) e �
 tables-snoc n (G ∷ Fs) F t u (x, y, b, c, e) a = (x, y ++ u, b, tables-snoc n Fs F y u c a, ap (λ (z : List ℕ). z ++ u) e ∙ append-assoc x y u)
 
 module _ (sheet : Sheet) (d : Desk) (h : Holds sheet d) where
-  pub holds-team : (line : List ℕ) (mask : ℕ) → ((q : ℕ) → bit mask q ≡ member q (teamOf line))
-      → Holds (withTeam sheet line) (record { settings = d .settings; posts = d .posts; rights = d .rights; stated = d .stated; team = mask; known = d .known; values = d .values; make = d .make; asks = d .asks; learn = d .learn })
-  unfolding withTeam
-  holds-team line mask m = record {
+  -- the rights stay; team, what is known, make and learn formulas may be others
+  holds-goal : (team : List ℕ) (mask : ℕ) → ((q : ℕ) → bit mask q ≡ member q team)
+      → (known : List Known) (is-known values : ℕ) → ((i : ℕ) → bit is-known i ≡ member i (knownSettings known)) → ((i : ℕ) → bit values i ≡ member i (knownTrue known))
+      → (make t : List ℕ) → Accepts (d .settings) make t
+      → (asks : List (List ℕ)) (count : ℕ) (learn : List ℕ) → count ≡ length asks → count ≤ 4 → length learn ≡ 64 → TablesOf (d .settings) asks (take (16 * count) learn)
+      → Holds (stating sheet (sheet .rules) team known make asks) (laid d (d .rights) (d .stated) mask is-known values t count learn)
+  holds-goal team mask m known is-known values k v make t a asks count learn c few size l = record {
     settings = h .settings;
     posts = h .posts;
     settings-least = h .settings-least;
@@ -50,60 +53,30 @@ module _ (sheet : Sheet) (d : Desk) (h : Holds sheet d) where
     stated-size = h .stated-size;
     slots = h .slots;
     team = m;
-    known = h .known;
-    values = h .values;
-    make = h .make;
-    asks = h .asks;
-    asks-most = h .asks-most;
-    learn-size = h .learn-size;
-    learn = h .learn;
+    known = k;
+    values = v;
+    make = a;
+    asks = c;
+    asks-most = few;
+    learn-size = size;
+    learn = l;
   }
+
+  pub holds-team : (line : List ℕ) (mask : ℕ) → ((q : ℕ) → bit mask q ≡ member q (teamOf line)) → Holds (withTeam sheet line) (teamDesk d mask)
+  unfolding withTeam
+  holds-team line mask m =
+      holds-goal (teamOf line) mask m (sheet .known) (d .known) (d .values) (h .known) (h .values) (sheet .make) (d .make) (h .make) (sheet .asks) (d .asks) (d .learn) (h .asks) (h .asks-most) (h .learn-size) (h .learn)
 
   pub holds-known : (line : List ℕ) (mask values : ℕ) → ((i : ℕ) → bit mask i ≡ member i (knownSettings (knownOf line))) → ((i : ℕ) → bit values i ≡ member i (knownTrue (knownOf line)))
-      → Holds (withKnown sheet line) (record { settings = d .settings; posts = d .posts; rights = d .rights; stated = d .stated; team = d .team; known = mask; values = values; make = d .make; asks = d .asks; learn = d .learn })
+      → Holds (withKnown sheet line) (knownDesk d mask values)
   unfolding withKnown
-  holds-known line mask values m v = record {
-    settings = h .settings;
-    posts = h .posts;
-    settings-least = h .settings-least;
-    settings-most = h .settings-most;
-    posts-least = h .posts-least;
-    posts-most = h .posts-most;
-    rights-size = h .rights-size;
-    stated-size = h .stated-size;
-    slots = h .slots;
-    team = h .team;
-    known = m;
-    values = v;
-    make = h .make;
-    asks = h .asks;
-    asks-most = h .asks-most;
-    learn-size = h .learn-size;
-    learn = h .learn;
-  }
+  holds-known line mask values m v =
+      holds-goal (sheet .team) (d .team) (h .team) (knownOf line) mask values m v (sheet .make) (d .make) (h .make) (sheet .asks) (d .asks) (d .learn) (h .asks) (h .asks-most) (h .learn-size) (h .learn)
 
-  pub holds-make : (F t : List ℕ) → Accepts (d .settings) F t
-      → Holds (withMake sheet F) (record { settings = d .settings; posts = d .posts; rights = d .rights; stated = d .stated; team = d .team; known = d .known; values = d .values; make = t; asks = d .asks; learn = d .learn })
+  pub holds-make : (F t : List ℕ) → Accepts (d .settings) F t → Holds (withMake sheet F) (makeDesk d t)
   unfolding withMake
-  holds-make F t a = record {
-    settings = h .settings;
-    posts = h .posts;
-    settings-least = h .settings-least;
-    settings-most = h .settings-most;
-    posts-least = h .posts-least;
-    posts-most = h .posts-most;
-    rights-size = h .rights-size;
-    stated-size = h .stated-size;
-    slots = h .slots;
-    team = h .team;
-    known = h .known;
-    values = h .values;
-    make = a;
-    asks = h .asks;
-    asks-most = h .asks-most;
-    learn-size = h .learn-size;
-    learn = h .learn;
-  }
+  holds-make F t a =
+      holds-goal (sheet .team) (d .team) (h .team) (sheet .known) (d .known) (d .values) (h .known) (h .values) F t a (sheet .asks) (d .asks) (d .learn) (h .asks) (h .asks-most) (h .learn-size) (h .learn)
 
   module _ (F t : List ℕ) (few : d .asks < 4) (sixteen : length t ≡ 16) (a : Accepts (d .settings) F t) where
     learn-more : take (16 * (d .asks + 1)) (sets (d .learn) (16 * d .asks) t) ≡ take (16 * d .asks) (d .learn) ++ t
@@ -114,22 +87,9 @@ module _ (sheet : Sheet) (d : Desk) (h : Holds sheet d) where
 
     pub holds-ask : Holds (withAsk sheet F) (askedDesk d t)
     unfolding withAsk askedDesk
-    holds-ask = record {
-      settings = h .settings;
-      posts = h .posts;
-      settings-least = h .settings-least;
-      settings-most = h .settings-most;
-      posts-least = h .posts-least;
-      posts-most = h .posts-most;
-      rights-size = h .rights-size;
-      stated-size = h .stated-size;
-      slots = h .slots;
-      team = h .team;
-      known = h .known;
-      values = h .values;
-      make = h .make;
-      asks = sym (length-append (sheet .asks) (F ∷ []) ∙ omega (arith, h .asks));
-      asks-most = omega arith;
-      learn-size = length-sets (d .learn) (16 * d .asks) t ∙ h .learn-size;
-      learn = subst (TablesOf (d .settings) (sheet .asks ++ (F ∷ []))) (sym learn-more) (tables-snoc (d .settings) (sheet .asks) F (take (16 * d .asks) (d .learn)) t (h .learn) a);
-    }
+    holds-ask =
+        holds-goal (sheet .team) (d .team) (h .team) (sheet .known) (d .known) (d .values) (h .known) (h .values) (sheet .make) (d .make) (h .make) (sheet .asks ++ (F ∷ [])) (d .asks + 1) (sets (d .learn) (16 * d .asks) t)
+        (sym (length-append (sheet .asks) (F ∷ []) ∙ omega (arith, h .asks)))
+        (omega arith)
+        (length-sets (d .learn) (16 * d .asks) t ∙ h .learn-size)
+        (subst (TablesOf (d .settings) (sheet .asks ++ (F ∷ []))) (sym learn-more) (tables-snoc (d .settings) (sheet .asks) F (take (16 * d .asks) (d .learn)) t (h .learn) a))

@@ -19,7 +19,7 @@ use Rattle.book.specs.declared.rule.Right.the-variants.{Look, Set}
 use Rattle.sheet.specs.Sheet.{Sheet, member, knownSettings, knownTrue}
 use Rattle.sheet.specs.Words.{split, space, begins, isRule, ruleOf, allNames, indexes, postWords, isTeam, teamOf, settingWords, isKnown, knownBy, knownOf, twice}
 use Rattle.sheet.specs.Reading.{Step, fault, next, unlessRefused, withAsk, ruleStep, teamStep, knownStep, makeStep, askStep, oneOf, rightsStep}
-use Rattle.sheet.specs.Inner.{number, trueIndexes, Marked, Holds, askedDesk, Steps}
+use Rattle.sheet.specs.Inner.{number, teamDesk, knownDesk, makeDesk, trueIndexes, Marked, Holds, askedDesk, Steps}
 use Rattle.sheet.specs.declared.desk.Due.{Due}
 use Rattle.sheet.specs.declared.desk.Due.the-variants.{Known, Make, Asks}
 use Rattle.sheet.specs.declared.desk.Desk.{Desk}
@@ -69,7 +69,7 @@ module _ (sheet : Sheet) (d : Desk) (h : Holds sheet d) (line : List ℕ) where
     team-twice t = team-by sheet line true true (is-team true true e f) (again ∙ t)
 
     pub team-taken : marks .twice ≡ false
-        → Steps (teamStep sheet line) (Next Known) (record { settings = d .settings; posts = d .posts; rights = d .rights; stated = d .stated; team = marks .named; known = d .known; values = d .values; make = d .make; asks = d .asks; learn = d .learn })
+        → Steps (teamStep sheet line) (Next Known) (teamDesk d (marks .named))
     team-taken t = taken (team-by sheet line true false (is-team true true e f) (again ∙ t)) (holds-team sheet d h line (marks .named) (λ q. k .named q ∙ ap (member q) (sym named)))
 
 -- ---- `known`
@@ -119,7 +119,7 @@ module _ (sheet : Sheet) (d : Desk) (h : Holds sheet d) (line : List ℕ) where
   none-known e = ap knownBy (words-none line e)
 
   pub known-alone : isKnown (d .settings) line ≡ true → length line ≡ 5
-      → Steps (knownStep sheet line) (Next Make) (record { settings = d .settings; posts = d .posts; rights = d .rights; stated = d .stated; team = d .team; known = 0; values = 0; make = d .make; asks = d .asks; learn = d .learn })
+      → Steps (knownStep sheet line) (Next Make) (knownDesk d 0 0)
   unfolding knownSettings knownTrue twice member
   known-alone e l =
       taken (known-by sheet line true false (known-test true e) (ap (λ ks. twice (λ i. false) (knownSettings ks)) (none-known l)))
@@ -139,7 +139,7 @@ module _ (sheet : Sheet) (d : Desk) (h : Holds sheet d) (line : List ℕ) where
     known-twice t = known-by sheet line true true (known-test true e) (again-known ∙ t)
 
     pub known-taken : marks .twice ≡ false
-        → Steps (knownStep sheet line) (Next Make) (record { settings = d .settings; posts = d .posts; rights = d .rights; stated = d .stated; team = d .team; known = marks .named; values = marks .values; make = d .make; asks = d .asks; learn = d .learn })
+        → Steps (knownStep sheet line) (Next Make) (knownDesk d (marks .named) (marks .values))
     unfolding knownOf
     known-taken t =
         taken (known-by sheet line true false (known-test true e) (again-known ∙ t))
@@ -168,7 +168,7 @@ module _ (sheet : Sheet) (d : Desk) (h : Holds sheet d) (line : List ℕ) where
     make-refused why r = make-by sheet line true e ∙ refused-step (sheet .settings) (drop 5 line) t _ why (read-behind 5 (Refused why) t r)
 
     pub make-taken : Reads (d .settings) (take (length line - 5) (drop 5 line)) Accepted t
-        → Steps (makeStep sheet line) (Next Asks) (record { settings = d .settings; posts = d .posts; rights = d .rights; stated = d .stated; team = d .team; known = d .known; values = d .values; make = t; asks = d .asks; learn = d .learn })
+        → Steps (makeStep sheet line) (Next Asks) (makeDesk d t)
     make-taken r =
         taken (make-by sheet line true e ∙ accepted-step (sheet .settings) (drop 5 line) t _ (read-behind 5 Accepted t r))
         (holds-make sheet d h (drop 5 line) t (subst (λ (F : List ℕ). Accepts (d .settings) F t) (tail line 5) r))

@@ -100,34 +100,36 @@ pub record Holds (sheet : Sheet) (d : Desk) : Type 0 where
   pub learn-size : length (d .learn) ≡ 64
   pub learn : TablesOf (d .settings) (sheet .asks) (take (16 * d .asks) (d .learn))
 
--- the desk with one right more, and with one more formula to learn
-unfoldable pub ruledDesk : Desk → ℕ → List ℕ → Desk
-ruledDesk d slot t = record {
+-- the desk with these for its own
+abbrev pub laid : Desk → List ℕ → List ℕ → ℕ → ℕ → ℕ → List ℕ → ℕ → List ℕ → Desk
+laid d rights marks team known values make asks learn = record {
   settings = d .settings;
   posts = d .posts;
-  rights = sets (d .rights) (16 * slot) t;
-  stated = set (d .stated) slot 1;
-  team = d .team;
-  known = d .known;
-  values = d .values;
-  make = d .make;
-  asks = d .asks;
-  learn = d .learn;
+  rights = rights;
+  stated = marks;
+  team = team;
+  known = known;
+  values = values;
+  make = make;
+  asks = asks;
+  learn = learn;
 }
 
+-- and the desk with one line more
+unfoldable pub ruledDesk : Desk → ℕ → List ℕ → Desk
+ruledDesk d slot t = laid d (sets (d .rights) (16 * slot) t) (set (d .stated) slot 1) (d .team) (d .known) (d .values) (d .make) (d .asks) (d .learn)
+
+abbrev pub teamDesk : Desk → ℕ → Desk
+teamDesk d team = laid d (d .rights) (d .stated) team (d .known) (d .values) (d .make) (d .asks) (d .learn)
+
+abbrev pub knownDesk : Desk → ℕ → ℕ → Desk
+knownDesk d known values = laid d (d .rights) (d .stated) (d .team) known values (d .make) (d .asks) (d .learn)
+
+abbrev pub makeDesk : Desk → List ℕ → Desk
+makeDesk d t = laid d (d .rights) (d .stated) (d .team) (d .known) (d .values) t (d .asks) (d .learn)
+
 unfoldable pub askedDesk : Desk → List ℕ → Desk
-askedDesk d t = record {
-  settings = d .settings;
-  posts = d .posts;
-  rights = d .rights;
-  stated = d .stated;
-  team = d .team;
-  known = d .known;
-  values = d .values;
-  make = d .make;
-  asks = d .asks + 1;
-  learn = sets (d .learn) (16 * d .asks) t;
-}
+askedDesk d t = laid d (d .rights) (d .stated) (d .team) (d .known) (d .values) (d .make) (d .asks + 1) (sets (d .learn) (16 * d .asks) t)
 
 -- what a line does, on the desk
 abbrev pub Steps : Step → Taken → Desk → Type 0

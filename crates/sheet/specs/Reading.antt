@@ -7,7 +7,7 @@ use lib.ListN.{length, drop}
 use Rattle.ground.specs.Text.{bytes}
 use Rattle.formula.specs.Numbered.{formulaNumber}
 use Rattle.book.specs.declared.rule.Right.the-variants.{Look, Set}
-use Rattle.sheet.specs.Sheet.{Rule, Sheet, isStated, knownSettings}
+use Rattle.sheet.specs.Sheet.{Rule, Known as KnownSetting, Sheet, isStated, knownSettings}
 use Rattle.sheet.specs.Words.{split, newline, begins, isSize, digitAt, isRule, ruleOf, isTeam, teamOf, isKnown, knownOf, twice}
 use Rattle.sheet.specs.declared.desk.Due.{Due}
 use Rattle.sheet.specs.declared.desk.Due.the-variants.{Rights, Known, Make, Asks}
@@ -34,61 +34,25 @@ unlessRefused n F later = unlessNumbered (formulaNumber n F) later
 unfoldable pub sized : ℕ → ℕ → Sheet
 sized n m = record { settings = n; posts = m; rules = []; team = []; known = []; make = bytes "0"; asks = [] }
 
+-- the sheet with these lists for its own
+abbrev pub stating : Sheet → List Rule → List ℕ → List KnownSetting → List ℕ → List (List ℕ) → Sheet
+stating sheet rules team known make asks = record { settings = sheet .settings; posts = sheet .posts; rules = rules; team = team; known = known; make = make; asks = asks }
+
 -- and the sheet with one line more
 unfoldable pub withRule : Sheet → Rule → Sheet
-withRule sheet r = record {
-  settings = sheet .settings;
-  posts = sheet .posts;
-  rules = sheet .rules ++ (r ∷ []);
-  team = sheet .team;
-  known = sheet .known;
-  make = sheet .make;
-  asks = sheet .asks;
-}
+withRule sheet r = stating sheet (sheet .rules ++ (r ∷ [])) (sheet .team) (sheet .known) (sheet .make) (sheet .asks)
 
 unfoldable pub withTeam : Sheet → List ℕ → Sheet
-withTeam sheet line = record {
-  settings = sheet .settings;
-  posts = sheet .posts;
-  rules = sheet .rules;
-  team = teamOf line;
-  known = sheet .known;
-  make = sheet .make;
-  asks = sheet .asks;
-}
+withTeam sheet line = stating sheet (sheet .rules) (teamOf line) (sheet .known) (sheet .make) (sheet .asks)
 
 unfoldable pub withKnown : Sheet → List ℕ → Sheet
-withKnown sheet line = record {
-  settings = sheet .settings;
-  posts = sheet .posts;
-  rules = sheet .rules;
-  team = sheet .team;
-  known = knownOf line;
-  make = sheet .make;
-  asks = sheet .asks;
-}
+withKnown sheet line = stating sheet (sheet .rules) (sheet .team) (knownOf line) (sheet .make) (sheet .asks)
 
 unfoldable pub withMake : Sheet → List ℕ → Sheet
-withMake sheet F = record {
-  settings = sheet .settings;
-  posts = sheet .posts;
-  rules = sheet .rules;
-  team = sheet .team;
-  known = sheet .known;
-  make = F;
-  asks = sheet .asks;
-}
+withMake sheet F = stating sheet (sheet .rules) (sheet .team) (sheet .known) F (sheet .asks)
 
 unfoldable pub withAsk : Sheet → List ℕ → Sheet
-withAsk sheet F = record {
-  settings = sheet .settings;
-  posts = sheet .posts;
-  rules = sheet .rules;
-  team = sheet .team;
-  known = sheet .known;
-  make = sheet .make;
-  asks = sheet .asks ++ (F ∷ []);
-}
+withAsk sheet F = stating sheet (sheet .rules) (sheet .team) (sheet .known) (sheet .make) (sheet .asks ++ (F ∷ []))
 
 -- `size N M`; "25 n above 5 in the program"
 unfoldable pub sizeStep : List ℕ → Step
