@@ -1,5 +1,7 @@
 -- The marked examples, proved.
 pub mod FormulaRows
 pub mod BookRows
+pub mod Valid
+pub mod ByTests
 pub mod FindRows
 pub mod Marked
