@@ -169,7 +169,7 @@ unfolding every well startNumber sumOf firstAt firstDigit elem entry ranked writ
 shows c h k = every (shown c h k)
 
 module _ (c : Case) (h : ℕ) (k : Certificate) (t : T (shows c h k)) where
-  shown-well : Well c
+  pub shown-well : Well c
   unfolding shows
   shown-well = tested c (pick (shown c h k) 0 t)
 
@@ -208,7 +208,7 @@ unfolding every well startNumber sumOf firstAt firstDigit elem trap systemOf set
 catches c states = every (caught c states)
 
 module _ (c : Case) (states : List ℕ) (t : T (catches c states)) where
-  caught-well : Well c
+  pub caught-well : Well c
   unfolding catches
   caught-well = tested c (pick (caught c states) 0 t)
 

@@ -4,4 +4,5 @@ pub mod BookRows
 pub mod Valid
 pub mod ByTests
 pub mod FindRows
+pub mod SheetRows
 pub mod Marked

@@ -1,12 +1,13 @@
 -- A question over a written book is valid: the book is sound since it is written, and the rest is a test that the checker computes.
-use mathlib.Core.Path.{_≡_, refl}
+use mathlib.Core.Path.{_≡_, refl, sym, _∙_}
 use mathlib.Core.Logic.{inl, inr}
 use mathlib.Core.List.{List, [], _∷_}
 use mathlib.Core.Bool.{Bool, true, not, _&&_, _||_}
 use Prim.Native.Nat.{ℕ, zero, suc, _*_, _/_, _%_, _^_, _≤_, _<_}
 use native.Mathlib.Omega.{arith}
 use lib.Dec.{T, eqb, ltb, leb, eqb→eq, ltb→lt, leb→le, lit<}
-use lib.ListN.{length, getD}
+use lib.ListN.{length, getD, replicate, getD-replicate}
+use lib.Seq.{ext-getD}
 use Rattle.ground.specs.Digits.{digit, bit}
 use Rattle.ground.specs.Search.{all}
 use Rattle.ground.specs.Table.{truth, Within}
@@ -17,6 +18,9 @@ use Rattle.book.specs.Sound.{Tables, tablesOf}
 use Rattle.book.specs.Rule.{table, tablePlace}
 use Rattle.book.specs.declared.rule.Right.{Right}
 use Rattle.book.specs.declared.rule.Right.the-variants.{Look as look-rule, Set as set-rule}
+use Rattle.book.proofs.Lists.{length-part}
+use Rattle.book.proofs.RuleLaws.{place-most}
+use Rattle.book.proofs.WriteLaws.{length-tables}
 use Rattle.book.proofs.RoundTrip.{written-sound}
 use Rattle.sides.specs.Over.{learnTable}
 use Rattle.finder.specs.Finds.{ValidQuestion}
@@ -142,14 +146,28 @@ tested c h = record {
 abbrev pub Valid : Case → Type 0
 Valid c = ValidQuestion (bookFor c) (c .asked) (first (c .make)) (tables (c .learn)) (c .n) (c .m)
 
-pub valid : (c : Case) → Well c → Valid c
+good-tables : (c : Case) → Well c → (i : ℕ) → i < c .n → Tables (c .n) (c .m) (tablesOf (tables (c .rules)) i)
 unfolding rights-fit
+good-tables c w i l =
+    fits-out (c .n) (c .m) (tablesOf (tables (c .rules)) i) (all-at (c .n) (λ i. setting-fits (c .n) (c .m) (tablesOf (tables (c .rules)) i)) (w .rights) i l)
+
+-- the tables of posts that do not exist
+pub nobody-zeros : (c : Case) → Well c → (right : Right) (i q : ℕ) → i < c .n → c .m ≤ q → q < 8 → table (tablesOf (tables (c .rules)) i) q right ≡ replicate 16 0
+unfolding table Zeros
+nobody-zeros c w right i q l past h =
+    let bytes = tablesOf (tables (c .rules)) i in
+    let size : length bytes ≡ 256 = length-tables (tables (c .rules)) i (omega (arith, w .size)) in
+    let sixteen : length (table bytes q right) ≡ 16 = length-part bytes (tablePlace q right) 16 (omega (arith, size, place-most q right h)) in
+    ext-getD 0 (table bytes q right) (replicate 16 0) sixteen
+    (λ j k. good-tables c w i l .nobody q right past h j (omega arith) (omega (arith, sixteen)) ∙ sym (getD-replicate 16 j 0 0 (omega (arith, sixteen))))
+
+pub valid : (c : Case) → Well c → Valid c
 valid c w = record {
   sound = written-sound (record {
     settings = record { least = w .some-settings; most = w .few-settings };
     posts = record { least = w .some-posts; most = w .few-posts };
     size = w .size;
-    tables = λ i l. fits-out (c .n) (c .m) (tablesOf (tables (c .rules)) i) (all-at (c .n) (λ i. setting-fits (c .n) (c .m) (tablesOf (tables (c .rules)) i)) (w .rights) i l);
+    tables = good-tables c w;
   });
   team = record { someone = λ e. omega (arith, w .someone); posts = bits-low (c .m) (c .asked .team) (w .team) };
   known = record {
