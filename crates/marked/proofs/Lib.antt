@@ -2,6 +2,7 @@
 pub mod FormulaRows
 pub mod BookRows
 pub mod Valid
+pub mod OneAnswer
 pub mod ByTests
 pub mod FindRows
 pub mod SheetRows

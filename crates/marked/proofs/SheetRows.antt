@@ -35,7 +35,8 @@ use Rattle.sheet.proofs.Theorems.{answer-unique}
 use Rattle.marked.specs.Row.{Case, first, tables, Holds, prints}
 use Rattle.marked.specs.Table.{sixth, p6, p7, p8a, p8c, p6-sheet, p6-printed, p7-sheet, p8a-sheet, p8c-sheet}
 use Rattle.marked.proofs.Valid.{Well, nobody-zeros}
-use Rattle.marked.proofs.ByTests.{Certificate, systemFor, startFor, shows, shown-well, shown-written, shown-least, catches, caught-well, caught-none}
+use Rattle.marked.proofs.OneAnswer.{systemFor, startFor}
+use Rattle.marked.proofs.ByTests.{Certificate, shows, shown-well, shown-written, shown-least, catches, caught-well, caught-none}
 use Rattle.marked.proofs.FindRows.{by-look, p6-shown, stuck, p7-caught, unseen, p8a-caught, p8c-shown}
 
 -- ---- a row, from the meaning of its sheet

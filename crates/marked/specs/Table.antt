@@ -1,4 +1,5 @@
--- Paper 01, "Marked examples and near misses", as one table. It grows with the crates; the theorem is `marked` of proofs/Marked.
+-- Paper 01, "Marked examples and near misses", as one table, and two refusals of the sheet program; the theorem is `marked` of proofs/Marked. P6 to P8
+-- stand in it twice: as questions over a book, with the plan's bytes, and as sheets, with all that is printed.
 use mathlib.Core.List.{List, [], _∷_, _++_}
 use Prim.Native.Nat.{ℕ}
 use Prim.Native.String.{String}
@@ -33,7 +34,7 @@ p8a-sheet = "size 3 2\nwrite a 2 ~c\nwrite b 1 a\nread c 2 1\nwrite c 2 c\nteam 
 abbrev pub p8c-sheet : String
 p8c-sheet = "size 3 2\nwrite a 2 ~c\nwrite b 1 a\nread c 2 1\nwrite c 2 c\nteam 1 2\nknown\nmake b\nask c\n"
 
--- and the questions of these sheets, with the mask of the team
+-- the questions of these sheets: their rules and their make formula, by the team with this mask, with these learn formulas
 abbrev pub sixth : ℕ → List ℕ → Case
 sixth team learn = record {
   n = 3;
@@ -82,13 +83,15 @@ examples =
     ∷ refuses 2 "c" 3 0
     -- P6 the sheet: bytes 130, 58, 65, 0, 18, 58, 65, 0
     ∷ reaches p6 4 (130 ∷ 58 ∷ 65 ∷ 0 ∷ 18 ∷ 58 ∷ 65 ∷ 0 ∷ [])
+    -- "Input", "Output, whole"
     ∷ prints p6-sheet p6-printed
     -- P7 the same with team 1: cannot
     ∷ cannot p7
     ∷ prints p7-sheet "cannot\n"
-    -- P8 P6 with `ask a`: cannot; with `ask c` in its place: reach 4
+    -- P8 P6 with `ask a`: cannot
     ∷ cannot p8a
     ∷ prints p8a-sheet "cannot\n"
+    -- with `ask c` in its place: reach 4
     ∷ reaches p8c 4 (130 ∷ 58 ∷ 65 ∷ 0 ∷ 18 ∷ 58 ∷ 65 ∷ 0 ∷ [])
     ∷ prints p8c-sheet p6-printed
     -- P9: reach 2, bytes 113, 0, 1, 0
