@@ -1,5 +1,5 @@
 -- The rows on the book: the check's two sums, computed.
-use mathlib.Core.Path.{_≡_, ap, _∙_}
+use mathlib.Core.Path.{ap, _∙_}
 use lib.ListN.{replicate}
 use Rattle.book.specs.declared.sums.Sums.{Sums}
 use Rattle.book.proofs.Theorems.{p13-zeros, p13-ones}

@@ -1,6 +1,6 @@
 -- The rows on formulas: a sentence for the texts that are taken, a verdict for those that break; `read-unique` says that there is no other answer.
-use mathlib.Core.Path.{_≡_, refl}
-use mathlib.Core.List.{List, [], _∷_}
+use mathlib.Core.Path.{refl}
+use mathlib.Core.List.{List}
 use Prim.Native.Nat.{ℕ}
 use lib.Dec.{T, ltb, ltb→lt, lit<}
 use lib.ListN.{replicate}
@@ -8,7 +8,7 @@ use Rattle.ground.specs.Digits.{bit, digit}
 use Rattle.ground.specs.Search.{all}
 use Rattle.ground.specs.Table.{truth}
 use Rattle.ground.specs.Text.{bytes}
-use Rattle.formula.specs.Grammar.{letter, negated, one-unit, unit-and, one-product, product-or, text, meaning, Sentence, sum, unit}
+use Rattle.formula.specs.Grammar.{letter, negated, one-unit, unit-and, one-product, product-or, text, meaning, Sentence, unit}
 use Rattle.formula.specs.Read.{Reads, Refuses, number, place, isLetter, isSign, isStray, isPast}
 use Rattle.formula.specs.Automaton.{isAtom, step, verdict}
 use Rattle.formula.specs.declared.Refusal.{Refusal}
@@ -17,7 +17,7 @@ use Rattle.formula.specs.declared.Answer.{Answer}
 use Rattle.formula.specs.declared.Answer.the-variants.{Accepted, Refused}
 use Rattle.formula.proofs.Computed.{foreign, bounds, clean, tabled, accepted, broken-at, letter-past-at}
 use Rattle.formula.proofs.Unique.{read-unique}
-use Rattle.marked.specs.Row.{Only, Holds, reads, refuses}
+use Rattle.marked.specs.Row.{first, Only, Holds, reads, refuses}
 
 only : {n : ℕ} {s : List ℕ} (a : Answer) (t : List ℕ) → Reads n s a t → Only n s a t
 only {n} {s} a t r = record { allowed = r; no-other = λ b u q. read-unique n s b a u t q r }
@@ -29,12 +29,8 @@ only-refused r q = only (Refused r) (replicate 16 0) (q, refl)
 at : (i : ℕ) → T (ltb i 7) → Sentence unit
 at i h = letter i (ltb→lt i 7 h)
 
--- a table of which only byte 0 is not 0
-first : ℕ → List ℕ
-first b = b ∷ replicate 15 0
-
 pub p1 : Holds (reads 3 "a|b&~c" 174)
-unfolding bounds clean foreign isStray isPast isLetter isSign all tabled truth bit digit meaning text at first
+unfolding bounds clean foreign isStray isPast isLetter isSign all tabled truth bit digit meaning text at
 p1 = (
   first 174,
   only Accepted (first 174) (accepted 3 (bytes "a|b&~c") tt tt (product-or (one-unit (at 0 tt)) (one-product (unit-and (at 1 tt) (one-unit (negated (at 2 tt)))))) refl (first 174) refl tt),
@@ -42,7 +38,7 @@ p1 = (
 )
 
 pub p2 : Holds (reads 2 "~a&b" 4)
-unfolding bounds clean foreign isStray isPast isLetter isSign all tabled truth bit digit meaning text at first
+unfolding bounds clean foreign isStray isPast isLetter isSign all tabled truth bit digit meaning text at
 p2 = (first 4, only Accepted (first 4) (accepted 2 (bytes "~a&b") tt tt (one-product (unit-and (negated (at 0 tt)) (one-unit (at 1 tt)))) refl (first 4) refl tt), refl)
 
 pub p3 : Holds (refuses 1 "a&" 4 2)

@@ -18,6 +18,8 @@ use Rattle.plancheck.specs.Refusals as P
 use Rattle.plancheck.specs.declared.answer.Refusal as N
 use Rattle.plancheck.specs.declared.answer.CheckAnswer.{CheckAnswer}
 use Rattle.plancheck.specs.declared.answer.CheckAnswer.the-variants.{Refused as No}
+use Rattle.printing.specs.Printed.{fitted}
+use Rattle.sheet.specs.Answer.{Answers}
 use Rattle.formula.specs.Read.{Reads, number, place}
 use Rattle.formula.specs.declared.Refusal.{Refusal}
 use Rattle.formula.specs.declared.Answer.{Answer}
@@ -63,6 +65,8 @@ pub data Row : Type 0 where
   cannot : (c : Case) → Row
   -- a question, a plan for it, and the number and the place of the plan check's refusal
   faults : (c : Case) (plan : List ℕ) (number place : ℕ) → Row
+  -- a sheet, and all that is printed for it
+  prints : (sheet printed : String) → Row
 
 -- `formula::read` gives this answer with this table, and no other
 pub record Only (n : ℕ) (s : List ℕ) (answer : Answer) (table : List ℕ) : Type 0 where
@@ -87,6 +91,11 @@ Holds (faults c plan x p) =
     (r : N.Refusal) × (P.number r ≡ x) × (P.place r ≡ p)
     × Checks (bookFor c) (c .asked) (first (c .make)) (tables (c .learn)) plan (No r)
     × ((answer : CheckAnswer) → Checks (bookFor c) (c .asked) (first (c .make)) (tables (c .learn)) plan answer → answer ≡ No r)
+-- whatever the room held: `sheet::answer` gives the length of this text and writes as much of it as fits, and not otherwise
+Holds (prints sheet printed) =
+    (old : List ℕ)
+    → Answers (bytes sheet) old (length (bytes printed)) (fitted old (bytes printed))
+    × ((r : ℕ) (new : List ℕ) → Answers (bytes sheet) old r new → (r ≡ length (bytes printed)) × (new ≡ fitted old (bytes printed)))
 
 -- every row of a table
 abbrev pub All : List Row → Type 0

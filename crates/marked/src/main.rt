@@ -1,9 +1,10 @@
-// The marked examples of paper 01 and its list "Run by a program", run: a line for each, held to
+// The marked examples of paper 01 and its list "Run by a program", run: what each gives is held to
 // crates/marked/stdout. That the marked examples are so is proved in proofs/Marked.
 mod books;
 mod formulas;
 mod questions;
 mod say;
+mod sheets;
 
 fn main() {
     formulas::marked();
@@ -13,4 +14,6 @@ fn main() {
     questions::plan_rooms();
     questions::rank_rooms();
     questions::greatest();
+    sheets::marked();
+    sheets::without_read();
 }

@@ -1,5 +1,5 @@
-// The finder's examples: P6 with rooms that do and do not hold its plan and without its `read` line, a
-// rank room of 48 and of 49 bytes at n = 2, and a book with the greatest rank that three settings have.
+// The finder's examples: P6 with rooms that do and do not hold its plan, a rank room of 48 and of 49
+// bytes at n = 2, and a book with the greatest rank that three settings have.
 use crate::say::say;
 use crate::say::say_number;
 use finder::Answer;
@@ -75,20 +75,20 @@ fn show(name: &[u8], answer: Answer, plan: &[u8]) {
     say(b"\n");
 }
 
-// The rights of P6: `write a 2 ~c`, `write b 1 a`, `write c 2 c`, and the rule of `read c 2`.
-fn sixth(read_c: &[u8], book: &mut [u8]) {
+// The rights of P6: `write a 2 ~c`, `write b 1 a`, `read c 2 1`, `write c 2 c`.
+fn sixth(book: &mut [u8]) {
     let mut rights = [0u8; 768];
     rule(3, &mut rights, set_rule(0, 1), b"~c");
     rule(3, &mut rights, set_rule(1, 0), b"a");
-    rule(3, &mut rights, look_rule(2, 1), read_c);
+    rule(3, &mut rights, look_rule(2, 1), b"1");
     rule(3, &mut rights, set_rule(2, 1), b"c");
     book::write(3, 2, &rights, book);
 }
 
-// P6 by this `read c 2` rule, with this plan room.
-fn show_sixth(name: &[u8], read_c: &[u8], plan: &mut [u8]) {
+// P6 with this plan room.
+fn show_sixth(name: &[u8], plan: &mut [u8]) {
     let mut book = [0u8; 2048];
-    sixth(read_c, &mut book);
+    sixth(&mut book);
     let make = formula::read(3, b"b").table;
     let mut ranks = [0u8; 343];
     let question = Question {
@@ -101,9 +101,8 @@ fn show_sixth(name: &[u8], read_c: &[u8], plan: &mut [u8]) {
 }
 
 pub(crate) fn plan_rooms() {
-    show_sixth(b"P6, plan room 8:", b"1", &mut [0u8; 8]);
-    show_sixth(b"P6, plan room 7:", b"1", &mut [0u8; 7]);
-    show_sixth(b"P6 without its read line:", b"0", &mut [0u8; 8]);
+    show_sixth(b"P6, plan room 8:", &mut [0u8; 8]);
+    show_sixth(b"P6, plan room 7:", &mut [0u8; 7]);
 }
 
 // P11 with this rank room.

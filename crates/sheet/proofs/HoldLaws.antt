@@ -23,10 +23,10 @@ use Rattle.sheet.specs.Inner.{kindOf, slotOf, tableIn, Holds}
 
 -- ---- zeros
 
-zero-at : (k i : ℕ) → _≡_ {A = ℕ} (getD (replicate k 0) i 0) 0
+pub zero-at : (k i : ℕ) → _≡_ {A = ℕ} (getD (replicate k 0) i 0) 0
 zero-at k i = elim (lt-or-ge i k) [ inl h ↦ getD-replicate k i 0 0 h | inr h ↦ List·getD-eq-default (replicate {A = ℕ} k 0) 0 (omega (arith, length-replicate {A = ℕ} k 0)) ]
 
-zero-truth : (v : ℕ) → truth (replicate 16 0) v ≡ false
+pub zero-truth : (v : ℕ) → truth (replicate 16 0) v ≡ false
 unfolding truth
 zero-truth v = ap (λ (x : ℕ). bit x (v % 8)) (zero-at 16 (v / 8)) ∙ bit-of-zero (v % 8)
 

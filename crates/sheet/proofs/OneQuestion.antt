@@ -2,7 +2,7 @@
 -- bit by bit. So one thing alone is printed for it.
 use mathlib.Core.Path.{_≡_, sym, ap, ap₂, _∙_, subst₂}
 use mathlib.Core.Logic.{inl, inr}
-use mathlib.Core.List.{List, [], _∷_}
+use mathlib.Core.List.{List, [], _∷_, _++_}
 use Prim.Native.Nat.{ℕ, _+_, _-_, _*_, _/_, _%_, _≤_, _<_}
 use native.Mathlib.Omega.{arith}
 use lib.ListN.{length, getD}

@@ -4,11 +4,11 @@ use mathlib.Core.Path.{_≡_, sym, ap, _∙_, subst}
 use mathlib.Core.Logic.{inl, inr}
 use mathlib.Core.Bool.{Bool, true, false, cond}
 use mathlib.Core.List.{List, [], _∷_, _++_}
-use Prim.Native.Nat.{ℕ, zero, suc, _+_, _*_, _/_, _%_, _^_, _≤_, _<_}
+use Prim.Native.Nat.{ℕ, zero, suc, _+_, _*_, _^_, _≤_, _<_}
 use native.Mathlib.Nat.{le-trans, mul-le-mul}
 use native.Mathlib.Omega.{arith}
 use lib.Dec.{T, eqb, eqb→eq, eqb-refl}
-use lib.ListN.{length, getD, take, drop, replicate, length-append, getD-replicate, List·getD-eq-default}
+use lib.ListN.{length, getD, take, drop, length-append}
 use lib.Pow.{pow-mono}
 use lib.Seq.{take-at, drop-append-add}
 use Rattle.ground.specs.Digits.{bit}
@@ -37,6 +37,7 @@ use Rattle.finder.proofs.Theorems.{lawful}
 use Rattle.sheet.specs.Sheet.{Known, Sheet, member, knownSettings, knownTrue}
 use Rattle.sheet.specs.Grammar.{PostsFit, KnownFit, WellFormed}
 use Rattle.sheet.specs.Answer.{TablesOf, Question}
+use Rattle.sheet.proofs.HoldLaws.{zero-at, zero-truth}
 
 -- ---- what is named
 
@@ -94,13 +95,6 @@ tables-within n (F ∷ Fs) t (suc j) (a, b, x, y, e) l =
 
 -- ---- sixteen zeros
 
-pub zero-byte : (j : ℕ) → _≡_ {A = ℕ} (getD (replicate 16 0) j 0) 0
-zero-byte j = elim (lt-or-ge j 16) [ inl l ↦ getD-replicate 16 j 0 0 l | inr l ↦ List·getD-eq-default (replicate 16 0) 0 l ]
-
-pub zero-truth : (v : ℕ) → truth (replicate 16 0) v ≡ false
-unfolding truth
-zero-truth v = ap (λ (x : ℕ). bit x (v % 8)) (zero-byte (v / 8)) ∙ bit-of-zero (v % 8)
-
 -- ---- the question
 
 module _ {sheet : Sheet} {rights make learn : List ℕ} {team known values : ℕ} (w : WellFormed sheet) (q : Question sheet rights make learn team known values) where
@@ -143,7 +137,7 @@ module _ {sheet : Sheet} {rights make learn : List ℕ} {team known values : ℕ
     posts = record { least = w .posts-least; most = w .posts-most };
     size = q .size;
     tables = λ i hi. record {
-      nobody = λ p right l hp j from to. ap (λ (t : List ℕ). getD t j 0) (q .nobody right i p hi l hp) ∙ zero-byte j;
+      nobody = λ p right l hp j from to. ap (λ (t : List ℕ). getD t j 0) (q .nobody right i p hi l hp) ∙ zero-at 16 j;
       within = λ p right hp. asked-within right i p hi hp;
     };
   }

@@ -1,0 +1,123 @@
+-- The contract of `find` leaves one answer to a valid question with room for the ranks: no refusal of 6 to 13 is its due, the least height and the plan
+-- written are unique, and every state has a rank to fill the table with.
+use mathlib.Core.Path.{_≡_, refl, sym, ap, ap₂, _∙_, subst}
+use mathlib.Core.Logic.{inl, inr}
+use mathlib.Core.List.{List, _++_}
+use Prim.Native.Nat.{ℕ, zero, suc, _^_, _≤_, _<_}
+use native.Mathlib.Omega.{arith}
+use lib.ListN.{length, getD, set, drop, length-set}
+use lib.Pow.{pow-mono}
+use lib.Seq.{getD-set-same, getD-set-other}
+use Rattle.ground.specs.Search.{Least}
+use Rattle.ground.proofs.Bools.{lt-or-ge}
+use Rattle.ground.proofs.Search.{least-unique}
+use Rattle.book.specs.Order.{Clear}
+use Rattle.book.proofs.OrderLaws.{first-clear, clear-append, none-only}
+use Rattle.book.proofs.SoundLaws.{sound-settings}
+use Rattle.book.proofs.Theorems.{sound-one}
+use Rattle.plan.specs.Plans.{System, Lawful, Plan}
+use Rattle.plan.specs.Ranks.{Reach as ReachIn, Cannot as CannotFrom, IsRank, Written}
+use Rattle.plan.specs.Bytes.{encode}
+use Rattle.plan.proofs.Ranks.{has-rank}
+use Rattle.plan.proofs.Written.{written-works, written-unique}
+use Rattle.plan.proofs.Team.{team-lawful}
+use Rattle.finder.specs.Question.{settled, systemOf, startNumber}
+use Rattle.finder.specs.Rows.{number, place, findRows, questionRows}
+use Rattle.finder.specs.Finds.{RanksFilled, Answers, Finds}
+use Rattle.finder.specs.declared.question.Refusal.the-variants.{Book, Team, Known, Goal, Ranks, PlanRoom}
+use Rattle.finder.specs.declared.finding.Answer.{Answer}
+use Rattle.finder.specs.declared.finding.Answer.the-variants.{Reach, Cannot, Refused}
+use Rattle.finder.proofs.RowLaws.{question-clear}
+use Rattle.marked.specs.Row.{Case, bookFor, first, tables}
+use Rattle.marked.proofs.Valid.{Well, Valid}
+
+abbrev pub systemFor : Case → System
+systemFor c = systemOf (c .n) (bookFor c) (c .asked .team) (first (c .make)) (tables (c .learn))
+
+abbrev pub startFor : Case → ℕ
+startFor c = startNumber (c .asked .known) (c .asked .values)
+
+pub law : (c : Case) → Well c → Lawful (c .n) (systemFor c)
+unfolding systemOf
+law c w =
+    team-lawful (c .n) (bookFor c) (c .asked .team) (settled (c .n) (first (c .make)) (tables (c .learn)))
+    (omega (arith, w .team, pow-mono {i = c .m} {j = 8} (w .few-posts)))
+
+clear : (c : Case) → Valid c → (ranks : List ℕ) → 7 ^ (c .n) ≤ length ranks
+    → Clear (findRows (bookFor c) (c .asked .team) (c .asked .known) (c .asked .values) (first (c .make)) (tables (c .learn)) ranks)
+unfolding findRows
+clear c v ranks h =
+    clear-append (questionRows (bookFor c) (c .asked .team) (c .asked .known) (c .asked .values) (first (c .make)) (tables (c .learn))) _
+    (question-clear (bookFor c) (c .asked .team) (c .asked .known) (c .asked .values) (first (c .make)) (tables (c .learn)) (v .sound) (v .team) (v .known) (v .goal))
+    (none-only (λ l. omega (arith, subst (λ (x : ℕ). length ranks < 7 ^ x) (sound-settings (v .sound)) l)), tt)
+
+-- every result allowed answers the question
+pub answers : (c : Case) → Valid c → (ranks room : List ℕ) → 7 ^ (c .n) ≤ length ranks → (a : Answer) (ranks′ room′ : List ℕ)
+    → Finds (bookFor c) (c .asked) (first (c .make)) (tables (c .learn)) ranks room a ranks′ room′ → Answers (systemFor c) (startFor c) room a room′
+answers c v ranks room l a ranks′ room′ (inl u) =
+    absurd (first-clear (findRows (bookFor c) (c .asked .team) (c .asked .known) (c .asked .values) (first (c .make)) (tables (c .learn)) ranks) (number (u .why)) (place (u .why)) (u .first) (clear c v ranks l))
+answers c v ranks room l a ranks′ room′ (inr (k, o, d, e, f, g)) =
+    let same : k ≡ c .n = sound-one (d .sound) (v .sound) .0 in
+    subst (λ (j : ℕ). Answers (systemOf j (bookFor c) (c .asked .team) (first (c .make)) (tables (c .learn))) (startFor c) room a room′) same g
+
+module _ {n : ℕ} {S : System} (law : Lawful n S) (few : n ≤ 7) (k : ℕ) (room room′ : List ℕ) where
+  pub one-reach : (h : ℕ) (p : Plan) → Least (ReachIn S k) h → Written S k p → length (encode p) ≤ length room
+      → (a : Answer) → Answers S k room a room′ → (a ≡ Reach h (length (encode p))) × (room′ ≡ encode p ++ drop (length (encode p)) room)
+  one-reach h p least w big (Reach j size) (m, (s, t, e, f, g)) =
+      let z : s ≡ p = written-unique law few s p k t w in
+      let y : size ≡ length (encode p) = e ∙ ap (λ (x : Plan). length (encode x)) z in
+      (ap₂ Reach (least-unique m least) y, g ∙ ap₂ (λ (x : Plan) (i : ℕ). encode x ++ drop i room) z y)
+  one-reach h p least w big Cannot (m, s) = absurd (m p (written-works S p k w))
+  one-reach h p least w big (Refused (Book r)) m = absurd m
+  one-reach h p least w big (Refused Team) m = absurd m
+  one-reach h p least w big (Refused Known) m = absurd m
+  one-reach h p least w big (Refused Goal) m = absurd m
+  one-reach h p least w big (Refused Ranks) m = absurd m
+  one-reach h p least w big (Refused PlanRoom) (m, s) =
+      let z : m .0 ≡ p = written-unique law few (m .0) p k (m .1) w in
+      absurd (omega (arith, m .2, ap (λ (x : Plan). length (encode x)) z))
+
+  pub one-cannot : CannotFrom S k → (a : Answer) → Answers S k room a room′ → (a ≡ Cannot) × (room′ ≡ room)
+  one-cannot none (Reach j size) (m, (s, t, e, f, g)) = absurd (none s (written-works S s k t))
+  one-cannot none Cannot m = (refl, m .1)
+  one-cannot none (Refused (Book r)) m = absurd m
+  one-cannot none (Refused Team) m = absurd m
+  one-cannot none (Refused Known) m = absurd m
+  one-cannot none (Refused Goal) m = absurd m
+  one-cannot none (Refused Ranks) m = absurd m
+  one-cannot none (Refused PlanRoom) (m, s) = absurd (none (m .0) (written-works S (m .0) k (m .1)))
+
+-- a rank table with all ranks in it
+unfoldable fill : (ℕ → ℕ) → ℕ → List ℕ → List ℕ
+fill f zero l = l
+fill f (suc i) l = set (fill f i l) i (f i)
+
+fill-length : (f : ℕ → ℕ) (i : ℕ) (l : List ℕ) → length (fill f i l) ≡ length l
+unfolding fill
+fill-length f zero l = refl
+fill-length f (suc i) l = length-set (fill f i l) i (f i) ∙ fill-length f i l
+
+fill-later : (f : ℕ → ℕ) (i : ℕ) (l : List ℕ) (j : ℕ) → i ≤ j → getD (fill f i l) j 0 ≡ getD l j 0
+unfolding fill
+fill-later f zero l j h = refl
+fill-later f (suc i) l j h = getD-set-other (fill f i l) i j (f i) 0 (λ e. omega arith) ∙ fill-later f i l j (omega arith)
+
+fill-at : (f : ℕ → ℕ) (i : ℕ) (l : List ℕ) → i ≤ length l → (j : ℕ) → j < i → getD (fill f i l) j 0 ≡ f j
+unfolding fill
+fill-at f zero l b j h = absurd (omega arith)
+fill-at f (suc i) l b j h = elim (lt-or-ge j i) [
+  | inl x ↦ getD-set-other (fill f i l) i j (f i) 0 (λ e. omega arith) ∙ fill-at f i l (omega arith) j x
+  | inr x ↦ (let e : j ≡ i = omega arith in
+      rw e (getD-set-same (fill f i l) i (f i) 0 (omega (arith, fill-length f i l))))
+]
+
+pub all-ranks : {n : ℕ} {S : System} → Lawful n S → (old : List ℕ) → 7 ^ n ≤ length old → (new : List ℕ) × RanksFilled n S old new
+all-ranks {n} {S} law old l =
+    let f : ℕ → ℕ = λ k. has-rank law k .0 in (
+      fill f (7 ^ n) old,
+      record {
+        size = fill-length f (7 ^ n) old;
+        ranks = λ k h. subst (IsRank S k) (sym (fill-at f (7 ^ n) old l k h)) (has-rank law k .1);
+        later = λ j h. fill-later f (7 ^ n) old j h;
+      },
+    )
