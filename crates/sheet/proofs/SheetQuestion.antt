@@ -93,8 +93,6 @@ tables-within n (F ∷ Fs) t (suc j) (a, b, x, y, e) l =
     (sym (ap (drop (16 * suc j)) e ∙ ap (λ (k : ℕ). drop k (a ++ b)) past ∙ drop-append-add a b (16 * j)))
     (tables-within n Fs b j y (omega arith))
 
--- ---- sixteen zeros
-
 -- ---- the question
 
 module _ {sheet : Sheet} {rights make learn : List ℕ} {team known values : ℕ} (w : WellFormed sheet) (q : Question sheet rights make learn team known values) where
