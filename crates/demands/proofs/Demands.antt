@@ -30,7 +30,8 @@ use Rattle.finder.specs.declared.question.Question.{Question}
 use Rattle.finder.specs.declared.question.Refusal.{Refusal}
 use Rattle.finder.specs.declared.finding.Answer.{Answer}
 use Rattle.finder.specs.declared.finding.Answer.the-variants.{Reach, Cannot, Refused}
-use Rattle.finder.proofs.Theorems.{System-of, Start-of, NoMaking, find-unique, find-refused, reach-works, cannot-none, works-reach, none-cannot, cannot-secret}
+use Rattle.finder.proofs.Unique.{find-unique, find-refused}
+use Rattle.finder.proofs.Theorems.{System-of, Start-of, NoMaking, reach-works, cannot-none, works-reach, none-cannot, cannot-secret}
 use Rattle.plancheck.specs.Checks.{Checks}
 use Rattle.plancheck.specs.declared.answer.CheckAnswer.{CheckAnswer}
 use Rattle.plancheck.specs.declared.answer.CheckAnswer.the-variants.{Yes}

@@ -1,29 +1,26 @@
 -- From the ranks and the plan written to what `find` answers: one law for each return.
 use mathlib.Core.Path.{_≡_, refl, sym, ap, _∙_, subst}
-use mathlib.Core.Logic.{_⊎_, inl, inr}
-use mathlib.Core.List.{List, [], _∷_, _++_}
-use mathlib.Core.Bool.{Bool, true, false}
+use mathlib.Core.Logic.{inl, inr}
+use mathlib.Core.List.{List, [], _++_}
 use Prim.Native.Nat.{ℕ, _+_, _^_, _≤_, _<_}
 use native.Mathlib.Omega.{arith}
-use lib.Dec.{T, lit<}
+use lib.Dec.{lit<}
 use lib.ListN.{length, getD, drop}
 use lib.Seq.{sets}
 use Rattle.ground.specs.Digits.{bit}
 use Rattle.ground.specs.Search.{Least}
 use Rattle.ground.proofs.Bools.{T→false, decide}
-use Rattle.knowledge.specs.Number.{numberOf, sumOf, digitIn, firstAt, firstDigits}
+use Rattle.knowledge.specs.Number.{numberOf, digitIn, firstAt, firstDigits}
 use Rattle.knowledge.specs.Seven.{firstDigit}
 use Rattle.knowledge.proofs.Number.{sum-lt, sum-short, sum-ext}
 use Rattle.knowledge.proofs.Seven.{first-lt}
 use Rattle.knowledge.proofs.States.{first-in}
-use Rattle.book.specs.Sound.{Sound}
-use Rattle.book.specs.Order.{First, only}
-use Rattle.book.specs.Refusals.{settingsOf}
+use Rattle.book.specs.Order.{First}
 use Rattle.book.proofs.Lists.{sets-front}
 use Rattle.book.proofs.OrderLaws.{least-only, first-left, first-right}
 use Rattle.book.proofs.SoundLaws.{sound-settings}
 use Rattle.plan.specs.Plans.{System, Plan}
-use Rattle.plan.specs.Ranks.{Reach as ReachIn, Cannot as CannotFrom, IsRank, Written}
+use Rattle.plan.specs.Ranks.{Reach as ReachIn, Cannot as CannotFrom, Written}
 use Rattle.plan.specs.Bytes.{encode}
 use Rattle.plan.proofs.Ranks.{rank-small}
 use Rattle.plan.proofs.Written.{written-unique}
@@ -33,8 +30,7 @@ use Rattle.finder.specs.Question.{startNumber}
 use Rattle.finder.specs.Rows.{number, place, KnownFits, questionRows, findRows}
 use Rattle.finder.specs.Finds.{ValidQuestion, Asks, RanksFilled, Answers}
 use Rattle.finder.specs.Told.{Told, Room}
-use Rattle.finder.specs.declared.finding.Answer.{Answer}
-use Rattle.finder.specs.declared.finding.Answer.the-variants.{Reach, Cannot, Refused}
+use Rattle.finder.specs.declared.finding.Answer.the-variants.{Reach}
 use Rattle.finder.specs.declared.question.Refusal.{Refusal}
 use Rattle.finder.specs.declared.question.Question.{Question}
 use Rattle.finder.specs.declared.question.Asked.{Asked}

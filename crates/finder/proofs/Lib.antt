@@ -6,4 +6,5 @@ pub mod PlanLaws
 pub mod Tables
 pub mod FindLaws
 pub mod Small
+pub mod Unique
 pub mod Theorems

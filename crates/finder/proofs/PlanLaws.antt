@@ -1,18 +1,18 @@
 -- The plan written, from the step chosen at a state and the plans written from its outcomes; and where the step is a stop, the rank is 0.
-use mathlib.Core.Path.{_≡_, refl, sym, ap, ap₂, _∙_, subst}
+use mathlib.Core.Path.{_≡_, sym, ap₂, _∙_, subst}
 use mathlib.Core.List.{List, [], _∷_, _++_}
 use mathlib.Core.Bool.{Bool, true, false}
-use Prim.Native.Nat.{ℕ, suc, _+_, _^_, _≤_, _<_}
+use Prim.Native.Nat.{ℕ, _+_, _^_, _≤_, _<_}
 use native.Mathlib.Numerals.{add-one}
 use native.Mathlib.Omega.{arith}
-use lib.ListN.{length, getD, set, length-append, length-set}
+use lib.ListN.{length, getD, set, length-append}
 use lib.Seq.{sets}
 use Rattle.book.proofs.Lists.{sets-append}
 use Rattle.knowledge.specs.Acts.{setTo, lookAt, byteOf, planByte, settingOf}
 use Rattle.knowledge.proofs.Acts.{plan-byte}
 use Rattle.knowledge.specs.declared.act.Act.{Act}
 use Rattle.knowledge.specs.declared.act.Act.the-variants.{Set, Look}
-use Rattle.plan.specs.Plans.{System, may, Outcome, after-set, after-look, Plan, stop, set-then, look-then}
+use Rattle.plan.specs.Plans.{System, after-set, after-look, Plan, stop, set-then, look-then}
 use Rattle.plan.specs.Ranks.{IsRank, Chosen, Written}
 use Rattle.plan.specs.Bytes.{encode}
 use Rattle.plan.specs.Certificate.{Leads}
@@ -22,8 +22,7 @@ use Rattle.plan.proofs.Table.{lowers-out}
 use Rattle.plan.proofs.Written.{written-exists}
 use Rattle.plan.proofs.Accepted.{written-most}
 use Rattle.finder.specs.Told.{Told, Lower, Chooses, Ranked, Room}
-use Rattle.finder.specs.declared.steps.Step.{Step}
-use Rattle.finder.specs.declared.steps.Step.the-variants.{Stop, Do}
+use Rattle.finder.specs.declared.steps.Step.the-variants.{Stop}
 
 module _ {n : ℕ} {sets′ looks : List (List ℕ)} {ranks : List ℕ} where
   -- the act chosen leads to lower entries

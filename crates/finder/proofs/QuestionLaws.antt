@@ -1,8 +1,8 @@
 -- The tests on a question, against what refusals 10 to 12 deny: by the bits of the masks, and table by table.
-use mathlib.Core.Path.{_≡_, refl, sym, ap, _∙_, subst}
-use mathlib.Core.Logic.{_⊎_, inl, inr}
+use mathlib.Core.Path.{_≡_, sym, ap, _∙_, subst}
+use mathlib.Core.Logic.{inl, inr}
 use mathlib.Core.List.{List}
-use mathlib.Core.Bool.{Bool, true, false, not, _||_}
+use mathlib.Core.Bool.{Bool, true, false, _||_}
 use Prim.Native.Nat.{ℕ, _+_, _*_, _/_, _%_, _^_, _≤_, _<_}
 use native.Mathlib.Nat.{mod-lt, mod-eq-of-lt, div-eq-of-lt, le-div-iff-mul-le, one-mul}
 use native.Mathlib.Omega.{arith}
@@ -11,14 +11,14 @@ use lib.Dec.{T, eqb, eqb→eq}
 use lib.ListN.{length, take, drop}
 use lib.Pow.{pow-pos, pow-mono}
 use Rattle.ground.specs.Digits.{bit}
-use Rattle.ground.specs.Table.{truth, Within}
+use Rattle.ground.specs.Table.{Within}
 use Rattle.ground.specs.Tells.{Tells}
-use Rattle.ground.proofs.Bools.{T→true, T→false, true→T, false→T, both, decide, or-left, or-right, T-iff, or-out, eq→eqb, lt-or-ge}
+use Rattle.ground.proofs.Bools.{T→false, false→T, both, decide, or-left, or-right, T-iff, or-out, eq→eqb, lt-or-ge}
 use Rattle.ground.proofs.Bits.{same-bits, bit-mod, bit-or}
 use Rattle.ground.proofs.Table.{truth-take}
 use Rattle.knowledge.proofs.Bytes.{bit-above}
-use Rattle.sides.specs.Over.{learnCount, learnTable}
-use Rattle.finder.specs.Rows.{TeamFits, KnownFits, LearnWithin, GoalFits}
+use Rattle.sides.specs.Over.{learnTable}
+use Rattle.finder.specs.Rows.{TeamFits, KnownFits, LearnWithin}
 
 -- a test tells what it is equivalent to
 pub tells-by : {A : Type 0} (t : Bool) → (T t → A) → (A → T t) → Tells t A

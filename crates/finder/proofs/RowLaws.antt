@@ -1,10 +1,10 @@
 -- Which refusal a question meets, from what the code found: a sound book leaves its rows behind, and each row after it the ones before.
 use mathlib.Core.Path.{_≡_, refl, sym, subst}
-use mathlib.Core.Logic.{_⊎_, inl, inr}
+use mathlib.Core.Logic.{inl, inr}
 use mathlib.Core.List.{List, [], _∷_, _++_}
 use Prim.Native.Nat.{ℕ}
 use Rattle.book.specs.Sound.{Sound}
-use Rattle.book.specs.Order.{Row, only, First, Clear}
+use Rattle.book.specs.Order.{only, First, Clear}
 use Rattle.book.specs.Refusals.{settingsOf, postsOf, bookRows}
 use Rattle.book.specs.Refusals.{number, place}
 use Rattle.book.specs.Promise.{Judges}

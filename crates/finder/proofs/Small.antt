@@ -1,8 +1,8 @@
 -- What a refusal of the finder or its plan can be at most: for those who pack the answer into one number.
-use mathlib.Core.Path.{_≡_, refl, sym, ap, subst}
-use mathlib.Core.Logic.{_⊎_, inl, inr}
-use mathlib.Core.List.{List, [], _∷_, _++_}
-use Prim.Native.Nat.{ℕ, _^_, _≤_, _<_}
+use mathlib.Core.Path.{_≡_, sym, subst}
+use mathlib.Core.Logic.{inl, inr}
+use mathlib.Core.List.{List, [], _++_}
+use Prim.Native.Nat.{ℕ, _≤_, _<_}
 use native.Mathlib.Omega.{arith}
 use lib.Dec.{lit<}
 use lib.ListN.{length}
@@ -14,12 +14,11 @@ use Rattle.book.proofs.Theorems.{read-place-most}
 use Rattle.book.proofs.Small as B
 use Rattle.plan.specs.Plans.{System}
 use Rattle.finder.specs.Rows.{number, place, questionRows, findRows}
-use Rattle.finder.specs.Finds.{Unmet, Answers, Finds}
+use Rattle.finder.specs.Finds.{Answers, Finds}
 use Rattle.finder.specs.declared.question.Question.{Question}
 use Rattle.finder.specs.declared.question.Refusal.{Refusal}
 use Rattle.finder.specs.declared.question.Refusal.the-variants.{Book, Team, Known, Goal, Ranks, PlanRoom}
-use Rattle.finder.specs.declared.finding.Answer.{Answer}
-use Rattle.finder.specs.declared.finding.Answer.the-variants.{Reach, Cannot, Refused}
+use Rattle.finder.specs.declared.finding.Answer.the-variants.{Reach, Refused}
 
 pub number-small : (r : Refusal) → number r < 256
 number-small (Book r) = B.number-small r

@@ -1,16 +1,16 @@
 -- A step by the tables: which posts may act is a bit of a table, and the plan written takes the smallest byte that leads lower.
 use mathlib.Core.Path.{_≡_, refl, sym, ap, ap₂, _∙_, subst}
-use mathlib.Core.Logic.{_⊎_, inl, inr}
+use mathlib.Core.Logic.{inl, inr}
 use mathlib.Core.List.{List, []}
 use mathlib.Core.Bool.{Bool, true, false}
 use Prim.Native.Nat.{ℕ, zero, suc, _+_, _*_, _/_, _%_, _^_, _≤_, _<_}
 use native.Mathlib.Omega.{arith}
-use lib.Dec.{T, eqb, lit<}
-use lib.ListN.{length, getD, set}
+use lib.Dec.{T, lit<}
+use lib.ListN.{getD, set}
 use borrow.Author.Tests.{eq-eqb, ne-eqb}
 use Rattle.ground.specs.Digits.{digit, bit}
 use Rattle.ground.specs.Search.{Least}
-use Rattle.ground.proofs.Bools.{T→true, T→false, true→T, false→T, both, decide, lt-or-ge}
+use Rattle.ground.proofs.Bools.{T→false, true→T, false→T, both, decide, lt-or-ge}
 use Rattle.ground.proofs.Bits.{same-bits, bit-of-zero}
 use Rattle.knowledge.specs.Number.{digitIn, digitsOf, numberOf}
 use Rattle.knowledge.specs.Seven.{afterSet, afterLook}
@@ -22,9 +22,8 @@ use Rattle.knowledge.proofs.Acts.{of-kind-of, byte-of-kind}
 use Rattle.knowledge.proofs.Number.{digits-are}
 use Rattle.finder.specs.declared.steps.Step.{Step}
 use Rattle.knowledge.proofs.States.{number-state, set-state, look-state}
-use Rattle.plan.specs.Plans.{System, Lawful, may, Outcome, after-set, after-look}
-use Rattle.plan.specs.Ranks.{IsRank, Chosen}
-use Rattle.plan.specs.Certificate.{Leads}
+use Rattle.plan.specs.Plans.{System, may, after-set, after-look}
+use Rattle.plan.specs.Ranks.{Chosen}
 use native.Mathlib.Nat.{pow-le-pow-right}
 use Rattle.sides.proofs.Numbers.{now-number-lt}
 use Rattle.plan.proofs.Acts.{after-a-set, after-a-look}
@@ -32,7 +31,7 @@ use Rattle.plan.proofs.Certificate.{setTo-lt, lookAt-lt, numbers-closed}
 use Rattle.plan.proofs.Table.{chosen}
 use Rattle.sides.specs.Sides.{nowNumber}
 use Rattle.sides.specs.Over.{entry}
-use Rattle.finder.specs.Told.{Told, Lower, Tries, family, Chooses}
+use Rattle.finder.specs.Told.{Told, Lower, Tries, family}
 
 -- ---- the state after an act, as the knowledge type computes it
 

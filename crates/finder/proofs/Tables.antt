@@ -1,16 +1,16 @@
 -- The finder's tables tell the question's system: a bit of the two tables is a post that may act, a mark is the goal, and what the spread leaves is a
 -- certified table, so its bytes are the ranks.
-use mathlib.Core.Path.{_≡_, refl, sym, ap, ap₂, _∙_, subst}
+use mathlib.Core.Path.{_≡_, refl, sym, ap, _∙_, subst}
 use mathlib.Core.Logic.{_⊎_, inl, inr}
 use mathlib.Core.List.{List}
 use mathlib.Core.Bool.{Bool, true, false, not, _&&_}
 use Prim.Native.Nat.{ℕ, zero, suc, _^_, _≤_, _<_}
 use native.Mathlib.Omega.{arith}
-use lib.Dec.{T, ltb, eqb}
+use lib.Dec.{T}
 use lib.ListN.{getD}
 use borrow.Author.Tests.{lt-ltb, eq-eqb}
 use Rattle.ground.specs.Digits.{digit, bit}
-use Rattle.ground.proofs.Bools.{T→true, T→false, true→T, false→T, both}
+use Rattle.ground.proofs.Bools.{T→false, false→T, both}
 use Rattle.ground.proofs.Search.{all-or, all-at}
 use Rattle.ground.proofs.Bits.{bit-of-zero}
 use Rattle.knowledge.specs.Fits.{known}
@@ -19,16 +19,15 @@ use Rattle.knowledge.specs.declared.act.Act.{Act}
 use Rattle.knowledge.specs.declared.act.Act.the-variants.{Set, Look}
 use Rattle.book.specs.Rule.{rule}
 use Rattle.book.specs.declared.rule.Right.the-variants.{Look as look-rule, Set as set-rule}
-use Rattle.plan.specs.Plans.{System, may, Lawful, Outcome, after-set, after-look}
+use Rattle.plan.specs.Plans.{may, Lawful, after-set, after-look}
 use Rattle.plan.specs.Certificate.{Leads, Certified}
-use Rattle.plan.specs.Ranks.{IsRank}
 use Rattle.plan.proofs.Acts.{after-a-set, after-a-look}
 use Rattle.plan.proofs.Certificate.{certified, numbers-closed}
 use Rattle.plan.proofs.Team.{team-lawful}
 use Rattle.sides.specs.Sides.{nowNumber}
-use Rattle.sides.specs.Over.{entry, PostTables, Made, Learnt, Marks, allSettled, rankIf}
+use Rattle.sides.specs.Over.{entry, PostTables, Made, Learnt, Marks, rankIf}
 use Rattle.sides.proofs.Tables.{post-known, goal-marked}
-use Rattle.spread.specs.Spread.{rank, May, Lowers, by-set, by-look, Ready, Spread}
+use Rattle.spread.specs.Spread.{rank, May, Lowers, by-set, by-look, Spread}
 use Rattle.finder.specs.Question.{settled, systemOf}
 use Rattle.finder.specs.Told.{Told}
 use Rattle.finder.proofs.StepLaws.{some-bit}

@@ -29,7 +29,7 @@ use Rattle.finder.specs.declared.question.Refusal.{Refusal}
 use Rattle.finder.specs.declared.question.Refusal.the-variants.{Book, Team, Known, Goal, Ranks, PlanRoom}
 use Rattle.finder.specs.declared.finding.Answer.{Answer}
 use Rattle.finder.specs.declared.finding.Answer.the-variants.{Reach, Cannot, Refused}
-use Rattle.finder.proofs.Theorems.{lawful, find-clear}
+use Rattle.finder.proofs.Unique.{lawful, find-clear}
 use Rattle.printing.specs.Printed.{cannotText, reachText, Lettered, Prints}
 use Rattle.printing.proofs.Theorems.{permitted-lettered}
 use Rattle.sheet.specs.Answer.{Question, Tells}

@@ -25,7 +25,7 @@ use Rattle.book.proofs.RuleLaws.{place-most}
 use Rattle.plan.specs.Plans.{System, Lawful, Plan}
 use Rattle.plan.proofs.Written.{written-works, written-unique}
 use Rattle.finder.specs.Question.{systemOf, startNumber}
-use Rattle.finder.proofs.Theorems.{below-power}
+use Rattle.finder.proofs.Unique.{below-power}
 use Rattle.printing.specs.Printed.{reachText, Prints}
 use Rattle.printing.proofs.Theorems.{prints-unique}
 use Rattle.sheet.specs.Sheet.{Sheet}

@@ -33,7 +33,7 @@ use Rattle.sides.specs.Over.{learnTable}
 use Rattle.finder.specs.Question.{systemOf}
 use Rattle.finder.specs.Rows.{TeamFits, KnownFits, GoalFits}
 use Rattle.finder.specs.Finds.{ValidQuestion}
-use Rattle.finder.proofs.Theorems.{lawful}
+use Rattle.finder.proofs.Unique.{lawful}
 use Rattle.sheet.specs.Sheet.{Known, Sheet, member, knownSettings, knownTrue}
 use Rattle.sheet.specs.Grammar.{PostsFit, KnownFit, WellFormed}
 use Rattle.sheet.specs.Answer.{TablesOf, Question}

@@ -1,0 +1,162 @@
+-- What `find` and `ask` give is settled: any two results that their contracts allow are equal, both rooms included; and what a refusal leaves.
+use mathlib.Core.Path.{_≡_, refl, sym, ap, ap₂, _∙_, subst}
+use mathlib.Core.Logic.{_⊎_, inl, inr}
+use mathlib.Core.List.{List, [], _++_}
+use mathlib.Core.Bool.{cond}
+use Prim.Native.Nat.{ℕ, zero, suc, _^_, _≤_, _<_}
+use native.Mathlib.Nat.{two-pow-succ}
+use lib.Pow.{pow-mono}
+use native.Mathlib.Omega.{arith}
+use lib.Dec.{eqb, lit<}
+use lib.ListN.{length, drop}
+use lib.Seq.{ext-getD}
+use Rattle.ground.proofs.Bools.{lt-or-ge}
+use Rattle.ground.proofs.Search.{least-unique}
+use Rattle.knowledge.specs.Fits.{known}
+use Rattle.book.specs.Order.{First, Clear}
+use Rattle.book.proofs.OrderLaws.{first-unique, first-clear, clear-append, none-only}
+use Rattle.book.proofs.SoundLaws.{sound-settings}
+use Rattle.book.proofs.Theorems.{sound-one}
+use Rattle.book.proofs.Theorems as B
+use Rattle.book.specs.declared.refusal.Refusal.the-variants.{Settings, Length, Check, Head, StrayBit, Room}
+use Rattle.plan.specs.Plans.{System, Lawful, Plan}
+use Rattle.plan.specs.Ranks.{Written}
+use Rattle.plan.specs.Bytes.{encode}
+use Rattle.plan.proofs.Ranks.{rank-unique}
+use Rattle.plan.proofs.Written.{written-works, written-unique}
+use Rattle.plan.proofs.Team.{team-lawful}
+use Rattle.finder.specs.Question.{settled, systemOf, startNumber}
+use Rattle.finder.specs.Rows.{number, place, TeamFits, questionRows, findRows}
+use Rattle.finder.proofs.QuestionLaws.{low-bits}
+use Rattle.finder.specs.Finds.{ValidQuestion, Asks, RanksFilled, Answers, Finds}
+use Rattle.finder.specs.declared.question.Question.{Question}
+use Rattle.finder.specs.declared.question.Refusal.{Refusal}
+use Rattle.finder.specs.declared.question.Refusal.the-variants.{Book, Team, Known, Goal, Ranks, PlanRoom}
+use Rattle.finder.specs.declared.question.Asked.{Asked}
+use Rattle.finder.specs.declared.question.Asked.the-variants.{Valid, Not}
+use Rattle.finder.specs.declared.finding.Answer.{Answer}
+use Rattle.finder.specs.declared.finding.Answer.the-variants.{Reach, Cannot, Refused}
+use Rattle.finder.proofs.RowLaws.{question-clear}
+
+-- ---- the answer to a valid question
+
+pub late : (S : System) (k : ℕ) (old new : List ℕ) (r : Refusal) → Answers S k old (Refused r) new
+    → (r ≡ PlanRoom) × ((p : Plan) × Written S k p × (length old < length (encode p))) × (new ≡ old)
+late S k old new (Book r) h = absurd h
+late S k old new Team h = absurd h
+late S k old new Known h = absurd h
+late S k old new Goal h = absurd h
+late S k old new Ranks h = absurd h
+late S k old new PlanRoom h = (refl, h .0, h .1)
+
+module _ {n : ℕ} {S : System} (law : Lawful n S) (few : n ≤ 7) (k : ℕ) (old : List ℕ) where
+  same : (p s : Plan) → Written S k p → Written S k s → length (encode p) ≡ length (encode s)
+  same p s a b = ap (λ (x : Plan). length (encode x)) (written-unique law few p s k a b)
+
+  answers-unique : (a b : Answer) (x y : List ℕ) → Answers S k old a x → Answers S k old b y → (a ≡ b) × (x ≡ y)
+  answers-unique (Reach h r) (Reach j s) x y a b =
+      let e = least-unique (a .0) (b .0) in
+      let p = a .1 in let q = b .1 in
+      let w = written-unique law few (p .0) (q .0) k (p .1) (q .1) in
+      let z : r ≡ s = p .2 ∙ ap (λ (t : Plan). length (encode t)) w ∙ sym (q .2) in
+      (ap₂ Reach e z, p .4 ∙ ap₂ (λ (t : Plan) (i : ℕ). encode t ++ drop i old) w z ∙ sym (q .4))
+  answers-unique (Reach h r) Cannot x y a b = absurd (b .0 (a .1 .0) (written-works S (a .1 .0) k (a .1 .1)))
+  answers-unique (Reach h r) (Refused w) x y a b =
+      let l = late S k old y w b in absurd (omega (arith, a .1 .2, a .1 .3, l .1 .2, same (a .1 .0) (l .1 .0) (a .1 .1) (l .1 .1)))
+  answers-unique Cannot (Reach h r) x y a b = absurd (a .0 (b .1 .0) (written-works S (b .1 .0) k (b .1 .1)))
+  answers-unique Cannot Cannot x y a b = (refl, a .1 ∙ sym (b .1))
+  answers-unique Cannot (Refused w) x y a b = let l = late S k old y w b in absurd (a .0 (l .1 .0) (written-works S (l .1 .0) k (l .1 .1)))
+  answers-unique (Refused w) (Reach h r) x y a b =
+      let l = late S k old x w a in absurd (omega (arith, b .1 .2, b .1 .3, l .1 .2, same (b .1 .0) (l .1 .0) (b .1 .1) (l .1 .1)))
+  answers-unique (Refused w) Cannot x y a b = let l = late S k old x w a in absurd (b .0 (l .1 .0) (written-works S (l .1 .0) k (l .1 .1)))
+  answers-unique (Refused w) (Refused v) x y a b =
+      let l = late S k old x w a in let m = late S k old y v b in (ap Refused (l .0 ∙ sym (m .0)), l .2 ∙ sym (m .2))
+
+ranks-unique : {n : ℕ} {S : System} {old new other : List ℕ} → RanksFilled n S old new → RanksFilled n S old other → new ≡ other
+ranks-unique {n} {S} {old} {new} {other} a b =
+    ext-getD 0 new other (a .size ∙ sym (b .size))
+    (λ j h. elim (lt-or-ge j (7 ^ n)) [ inl l ↦ rank-unique S j (a .ranks j l) (b .ranks j l) | inr l ↦ a .later j l ∙ sym (b .later j l) ])
+
+-- ---- any two results that the contract allows are equal, the rank table and the plan room included
+
+pub below-power : (x : ℕ) → x < 2 ^ x
+below-power zero = lit< tt
+below-power (suc x) = rw two-pow-succ (omega (arith, below-power x))
+
+-- a team of the book's posts is a byte
+team-byte : {m team : ℕ} → m ≤ 8 → TeamFits m team → team < 256
+team-byte {m} {team} h t = omega (arith, low-bits team m team (below-power team) (t .posts), pow-mono {i = m} {j = 8} h)
+
+module _ {book : List ℕ} {q : Question} {make learn : List ℕ} {n m : ℕ} (v : ValidQuestion book q make learn n m) where
+  pub lawful : Lawful n (systemOf n book (q .team) make learn)
+  unfolding systemOf
+  lawful = team-lawful n book (q .team) (settled n make learn) (team-byte (v .sound .posts .most) (v .team))
+
+  pub few : n ≤ 7
+  few = v .sound .settings .most
+
+  pub find-clear : (ranks : List ℕ) → 7 ^ n ≤ length ranks → Clear (findRows book (q .team) (q .known) (q .values) make learn ranks)
+  unfolding findRows
+  find-clear ranks h =
+      clear-append (questionRows book (q .team) (q .known) (q .values) make learn) _
+      (question-clear book (q .team) (q .known) (q .values) make learn (v .sound) (v .team) (v .known) (v .goal))
+      (none-only (λ l. omega (arith, subst (λ (x : ℕ). length ranks < 7 ^ x) (sound-settings (v .sound)) l)), tt)
+
+-- a refusal is known by its number and place
+named : ℕ → ℕ → Refusal
+named x p = cond (eqb x 10) Team (cond (eqb x 11) Known (cond (eqb x 12) Goal (cond (eqb x 13) Ranks (cond (eqb x 14) PlanRoom (Book (B.named x p))))))
+
+named-back : (r : Refusal) → named (number r) (place r) ≡ r
+unfolding named B.named
+named-back (Book Settings) = refl
+named-back (Book Length) = refl
+named-back (Book (Check k)) = refl
+named-back (Book Head) = refl
+named-back (Book (StrayBit k)) = refl
+named-back (Book Room) = refl
+named-back Team = refl
+named-back Known = refl
+named-back Goal = refl
+named-back Ranks = refl
+named-back PlanRoom = refl
+
+refusal-same : (r s : Refusal) → number r ≡ number s → place r ≡ place s → r ≡ s
+refusal-same r s e f = sym (named-back r) ∙ ap₂ named e f ∙ named-back s
+
+module _ (book : List ℕ) (q : Question) (make learn ranks plan : List ℕ) where
+  pub find-unique : (a b : Answer) (r s x y : List ℕ) → Finds book q make learn ranks plan a r x → Finds book q make learn ranks plan b s y → (a ≡ b) × (r ≡ s) × (x ≡ y)
+  find-unique a b r s x y (inl u) (inl w) =
+      let e = first-unique (findRows book (q .team) (q .known) (q .values) make learn ranks) (number (u .why)) (number (w .why)) (place (u .why)) (place (w .why)) (u .first) (w .first) in
+      (u .answered ∙ ap Refused (refusal-same (u .why) (w .why) (e .0) (e .1)) ∙ sym (w .answered), u .ranks-kept ∙ sym (w .ranks-kept), u .plan-kept ∙ sym (w .plan-kept))
+  find-unique a b r s x y (inl u) (inr (n, m, v, l, f, g)) =
+      absurd (first-clear (findRows book (q .team) (q .known) (q .values) make learn ranks) (number (u .why)) (place (u .why)) (u .first) (find-clear v ranks l))
+  find-unique a b r s x y (inr (n, m, v, l, f, g)) (inl u) =
+      absurd (first-clear (findRows book (q .team) (q .known) (q .values) make learn ranks) (number (u .why)) (place (u .why)) (u .first) (find-clear v ranks l))
+  find-unique a b r s x y (inr (n, m, v, l, f, g)) (inr (k, o, w, d, h, i)) =
+      let e : k ≡ n = sound-one (w .sound) (v .sound) .0 in
+      let filled = subst (λ (j : ℕ). RanksFilled j (systemOf j book (q .team) make learn) ranks s) e h in
+      let answered = subst (λ (j : ℕ). Answers (systemOf j book (q .team) make learn) (startNumber (q .known) (q .values)) plan b y) e i in
+      let z = answers-unique (lawful v) (few v) (startNumber (q .known) (q .values)) plan a b x y g answered in
+      (z .0, ranks-unique f filled, z .1)
+
+-- a refusal leaves the plan room as it was, and the rank table too but for 14
+pub find-refused : (book : List ℕ) (q : Question) (make learn ranks plan : List ℕ) (w : Refusal) (r x : List ℕ)
+    → Finds book q make learn ranks plan (Refused w) r x → (x ≡ plan) × ((r ≡ ranks) ⊎ (number w ≡ 14))
+find-refused book q make learn ranks plan w r x (inl u) = (u .plan-kept, inl (u .ranks-kept))
+find-refused book q make learn ranks plan w r x (inr (n, m, v, l, f, a)) =
+    let z = late (systemOf n book (q .team) make learn) (startNumber (q .known) (q .values)) plan x w a in (z .2, inr (ap number (z .0)))
+
+-- and of `ask`
+module _ (book : List ℕ) (q : Question) (make learn : List ℕ) where
+  not-both : {n m : ℕ} (r : Refusal) → ValidQuestion book q make learn n m → First (questionRows book (q .team) (q .known) (q .values) make learn) (number r) (place r) → ⊥
+  not-both r v f =
+      first-clear (questionRows book (q .team) (q .known) (q .values) make learn) (number r) (place r) f
+      (question-clear book (q .team) (q .known) (q .values) make learn (v .sound) (v .team) (v .known) (v .goal))
+
+  pub ask-unique : (a b : Asked) → Asks book q make learn a → Asks book q make learn b → a ≡ b
+  ask-unique (Valid n m) (Valid k o) v w = let e = sound-one (v .sound) (w .sound) in ap₂ Valid (e .0) (e .1)
+  ask-unique (Valid n m) (Not r) v f = absurd (not-both r v f)
+  ask-unique (Not r) (Valid n m) f v = absurd (not-both r v f)
+  ask-unique (Not r) (Not s) f g =
+      let e = first-unique (questionRows book (q .team) (q .known) (q .values) make learn) (number r) (number s) (place r) (place s) f g in
+      ap Not (refusal-same r s (e .0) (e .1))
