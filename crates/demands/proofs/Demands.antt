@@ -1,17 +1,20 @@
 -- The three demands, each said of what the public functions' contracts allow. The functions have no `requires`: they take every input there is,
 -- and the gate proves that each returns and meets its contract. The contracts are `Formula` (of `formula::read`), `BookRead` and `BookWritten` (of
 -- `book::read` and `write`), `Finds` (of `finder::find`), `Checks` (of `plancheck::check`) and `Answers` (of `sheet::answer`).
-use mathlib.Core.Path.{_≡_}
+use mathlib.Core.Path.{_≡_, subst}
 use mathlib.Core.Logic.{_⊎_, _↔_}
 use mathlib.Core.List.{List, [], _∷_, _++_}
 use Prim.Native.Nat.{ℕ, _+_, _*_, _^_, _≤_, _<_}
 use lib.ListN.{length, getD, take, drop, replicate}
-use Rattle.ground.specs.Text.{byte, bytes}
-use Rattle.formula.specs.Read.{Accepts, Reads as Formula}
+use Rattle.formula.specs.Read.{Accepts, Refuses, Reads as Formula, number as formula-number, place as formula-place}
+use Rattle.formula.specs.Numbered.{formulaNumber, numberIn}
+use Rattle.formula.proofs.Numbered.{read-number}
 use Rattle.formula.specs.declared.Answer.{Answer as FormulaAnswer}
 use Rattle.formula.specs.declared.Answer.the-variants.{Refused as NoFormula}
 use Rattle.formula.specs.declared.Refusal.{Refusal as FormulaRefusal}
 use Rattle.formula.proofs.Unique.{read-unique}
+use Rattle.book.specs.Order.{First}
+use Rattle.book.specs.Refusals.{readRows, writeRows, number as book-number, place as book-place}
 use Rattle.book.specs.Promise.{Reads as BookRead, Writes as BookWritten}
 use Rattle.book.specs.declared.refusal.Refusal.{Refusal as BookRefusal}
 use Rattle.book.specs.declared.reading.ReadAnswer.{ReadAnswer}
@@ -23,24 +26,29 @@ use Rattle.plan.specs.Plans.{Plan, Permitted, Works, height}
 use Rattle.plan.specs.Bytes.{encode}
 use Rattle.plan.specs.Secret.{Twins}
 use Rattle.sides.specs.Over.{learnCount, learnTable}
-use Rattle.finder.specs.Rows.{number}
-use Rattle.finder.specs.Question.{startNumber}
-use Rattle.finder.specs.Finds.{ValidQuestion, Finds}
+use Rattle.finder.specs.Rows.{number, place, findRows}
+use Rattle.finder.specs.Question.{startNumber, NoMaking}
+use Rattle.finder.specs.Finds.{ValidQuestion, RanksFilled, Finds}
+use Rattle.finder.specs.declared.question.Refusal.the-variants.{PlanRoom}
 use Rattle.finder.specs.declared.question.Question.{Question}
 use Rattle.finder.specs.declared.question.Refusal.{Refusal}
 use Rattle.finder.specs.declared.finding.Answer.{Answer}
 use Rattle.finder.specs.declared.finding.Answer.the-variants.{Reach, Cannot, Refused}
-use Rattle.finder.proofs.Unique.{find-unique, find-refused}
-use Rattle.finder.proofs.Theorems.{System-of, Start-of, NoMaking, reach-works, cannot-none, works-reach, none-cannot, cannot-secret}
-use Rattle.plancheck.specs.Checks.{Checks}
+use Rattle.finder.proofs.Unique.{find-unique, find-refused, find-ranks}
+use Rattle.finder.proofs.Theorems.{System-of, Start-of, reach-works, cannot-none, works-reach, none-cannot, cannot-secret}
+use Rattle.plancheck.specs.Checks.{Checks, Refuses as CheckRefuses}
+use Rattle.plancheck.specs.Refusals.{number as check-number, place as check-place}
+use Rattle.plancheck.specs.declared.answer.Refusal.{Refusal as CheckRefusal}
 use Rattle.plancheck.specs.declared.answer.CheckAnswer.{CheckAnswer}
-use Rattle.plancheck.specs.declared.answer.CheckAnswer.the-variants.{Yes}
+use Rattle.plancheck.specs.declared.answer.CheckAnswer.the-variants.{Yes, Refused as NotAccepted}
 use Rattle.plancheck.proofs.OneAnswer.{checks-one}
 use Rattle.plancheck.proofs.Theorems.{yes-exact}
-use Rattle.printing.specs.Printed.{cannotText, reachText, Prints}
+use Rattle.printing.specs.Printed.{refusedText, cannotText, reachText, Prints}
 use Rattle.sheet.specs.Sheet.{Sheet}
-use Rattle.sheet.specs.Reading.{meaning, stated}
-use Rattle.sheet.specs.Answer.{Answers}
+use Rattle.sheet.specs.Reading.{Outcome, meaning, refused, stated}
+use Rattle.sheet.specs.Place.{MalformedAt}
+use Rattle.sheet.specs.Answer.{Prints-outcome, Answers}
+use Rattle.sheet.proofs.Place.{malformed-line}
 use Rattle.sheet.specs.Answer as Sheet
 use Rattle.sheet.proofs.Theorems.{System-for, answer-unique, answer-most, reach-printed, cannot-printed}
 use Rattle.sheet.proofs.Theorems as Printed
@@ -68,21 +76,44 @@ one-verdict = checks-one
 pub one-sheet-answer : (s old : List ℕ) (r r′ : ℕ) (new new′ : List ℕ) → Answers s old r new → Answers s old r′ new′ → (r ≡ r′) × (new ≡ new′)
 one-sheet-answer = answer-unique
 
--- and what a refusal leaves: zeros beside a formula's, a room for rights or a book as it was, both rooms of a question as they were, but for 14,
--- which fills the ranks; the plan check is lent nothing to write to, and a sheet's refusal is printed
-pub refused-formula : (n : ℕ) (s : List ℕ) (r : FormulaRefusal) (t : List ℕ) → Formula n s (NoFormula r) t → t ≡ replicate 16 0
-refused-formula n s r t x = x .1
+-- "in the written order", with number and place, and what it leaves: a formula's refusal is `Refuses`, whose cases deny those before them, with zeros
+-- beside it; a book's, rights' and a question's is the `First` of its rows, and leaves the rooms as they were, but for 14, which fills the ranks
+pub refused-formula : (n : ℕ) (s : List ℕ) (r : FormulaRefusal) (t : List ℕ) → Formula n s (NoFormula r) t → Refuses n s (formula-number r) (formula-place r) × (t ≡ replicate 16 0)
+refused-formula n s r t x = x
 
-pub refused-book : (book room : List ℕ) (r : BookRefusal) (after : List ℕ) → BookRead book room (NoBook r) after → after ≡ room
-refused-book book room r after x = x .1
+pub refused-book : (book room : List ℕ) (r : BookRefusal) (after : List ℕ) → BookRead book room (NoBook r) after
+    → First (readRows book room) (book-number r) (book-place r) × (after ≡ room)
+refused-book book room r after x = x
 
-pub refused-rights : (n m : ℕ) (rights room : List ℕ) (r : BookRefusal) (after : List ℕ) → BookWritten n m rights room (NotWritten r) after → after ≡ room
-refused-rights n m rights room r after x = x .1
+pub refused-rights : (n m : ℕ) (rights room : List ℕ) (r : BookRefusal) (after : List ℕ) → BookWritten n m rights room (NotWritten r) after
+    → First (writeRows n m rights room) (book-number r) (book-place r) × (after ≡ room)
+refused-rights n m rights room r after x = x
 
-pub refused-question : (book : List ℕ) (q : Question) (make learn ranks plan : List ℕ) (w : Refusal) (r x : List ℕ)
-    → Finds book q make learn ranks plan (Refused w) r x → (x ≡ plan) × ((r ≡ ranks) ⊎ (number w ≡ 14))
+pub refused-question : (book : List ℕ) (q : Question) (make learn ranks plan : List ℕ) (w : Refusal) (r x : List ℕ) → Finds book q make learn ranks plan (Refused w) r x
+    → (x ≡ plan) × ((First (findRows book (q .team) (q .known) (q .values) make learn ranks) (number w) (place w) × (r ≡ ranks))
+    ⊎ ((w ≡ PlanRoom) × ((n : ℕ) × RanksFilled n (System-of book q make learn n) ranks r)))
 refused-question = find-refused
 
+pub refused-plan : (book : List ℕ) (q : Question) (make learn plan : List ℕ) (r : CheckRefusal) → Checks book q make learn plan (NotAccepted r)
+    → CheckRefuses book q make learn plan (check-number r) (check-place r)
+refused-plan book q make learn plan r x = x
+
+-- a sheet's is printed; 22 and its line are told by the grammar alone, and the formula's number is the one that `formula::read` answers
+pub refused-sheet : (s old : List ℕ) (r : ℕ) (new : List ℕ) (x L : ℕ) → meaning s ≡ refused x L → Answers s old r new → Prints old (refusedText x L) r new
+refused-sheet s old r new x L m a = subst (λ (o : Outcome). Prints-outcome o old r new) m a
+
+pub malformed : (s : List ℕ) (L : ℕ) → meaning s ≡ refused 22 L → MalformedAt s L
+malformed = malformed-line
+
+pub sheet-formula : (n : ℕ) (F : List ℕ) (a : FormulaAnswer) (t : List ℕ) → Formula n F a t → formulaNumber n F ≡ numberIn a
+sheet-formula = read-number
+
+-- "After success, "cannot" or 14 the first 7^n bytes of the rank table hold all ranks"
+pub ranks-filled : (book : List ℕ) (q : Question) (make learn ranks plan : List ℕ) {n m : ℕ} (a : Answer) (r x : List ℕ) → ValidQuestion book q make learn n m → 7 ^ n ≤ length ranks
+    → Finds book q make learn ranks plan a r x → RanksFilled n (System-of book q make learn n) ranks r
+ranks-filled = find-ranks
+
+-- and a room of 28,234 bytes holds every answer to a sheet
 pub sheet-room : (s old : List ℕ) (r : ℕ) (new : List ℕ) → Answers s old r new → r ≤ 28234
 sheet-room = answer-most
 
@@ -116,6 +147,7 @@ pub check : (book : List ℕ) (q : Question) (make learn plan : List ℕ) {n m :
 check book q make learn plan v a c = yes-exact v plan a c
 
 -- "A book read and written back is the same bytes; rights written and read back are the same rights."
+-- (`getD book j 0 < 256`: a list of numbers stands for bytes)
 pub book-again : (book room after out : List ℕ) (n m : ℕ) (answer : WriteAnswer) (out′ : List ℕ) → ((j : ℕ) → getD book j 0 < 256)
     → BookRead book room (Book n m) after → BookWritten n m (take (256 * n) after) out answer out′ → 512 * (1 + n) ≤ length out
     → (answer ≡ Written) × (out′ ≡ book ++ drop (512 * (1 + n)) out)
@@ -146,7 +178,13 @@ module _ (s old : List ℕ) (r : ℕ) (new : List ℕ) {sheet : Sheet} {rights m
   pub sheet-cannot : ((p : Plan) → Works (System-for sheet rights make learn team) (startNumber known values) p → ⊥) → Prints old cannotText r new
   sheet-cannot = cannot-printed s old r new m q a
 
-  pub sheet-secret : 1 ≤ length old → getD new 0 0 ≡ byte "c" → sheet .make ≡ bytes "1" → (F : List ℕ) → sheet .asks ≡ F ∷ []
+  pub sheet-reach-means : (h : ℕ) (p : Plan) → Prints old (reachText h p) r new → (t : Plan) × Works (System-for sheet rights make learn team) (startNumber known values) t
+  sheet-reach-means = Printed.reach-means s old r new m q a
+
+  pub sheet-cannot-means : Prints old cannotText r new → (p : Plan) → Works (System-for sheet rights make learn team) (startNumber known values) p → ⊥
+  sheet-cannot-means = Printed.cannot-means s old r new m q a
+
+  pub sheet-secret : Prints old cannotText r new → NoMaking (sheet .settings) make → (F : List ℕ) → sheet .asks ≡ F ∷ []
       → (p : Plan) → Permitted (System-for sheet rights make learn team) (startNumber known values) p
       → (t : List ℕ) × Accepts (sheet .settings) F t × Twins (sheet .settings) t (startNumber known values) p
   sheet-secret = Printed.cannot-secret s old r new m q a

@@ -26,7 +26,7 @@ use Rattle.plan.proofs.Written.{written-works, written-height}
 use Rattle.plan.proofs.Accepted.{written-most}
 use Rattle.plan.proofs.Secret.{secret}
 use Rattle.sides.specs.Over.{learnCount, learnTable, allSettled}
-use Rattle.finder.specs.Question.{settled, systemOf, startNumber}
+use Rattle.finder.specs.Question.{settled, systemOf, startNumber, NoMaking}
 use Rattle.finder.specs.Rows.{number, place, findRows}
 use Rattle.finder.specs.Finds.{ValidQuestion, RanksFilled, Finds}
 use Rattle.finder.specs.declared.question.Question.{Question}
@@ -109,11 +109,7 @@ module _ (book : List ℕ) (q : Question) (make learn ranks plan : List ℕ) (r 
 
 -- ---- demand 3: what "cannot" means for a secret
 
--- "No making: the make formula is `1`"
-abbrev pub NoMaking : ℕ → List ℕ → Type 0
-NoMaking n make = (v : ℕ) → v < 2 ^ n → truth make v ≡ true
-
--- there the goal is settled where the learn formula is
+-- with no making the goal is settled where the learn formula is
 module _ (book : List ℕ) (q : Question) (make learn : List ℕ) where
   pub enough : (n : ℕ) → NoMaking n make → learnCount learn ≡ 1 → (k : ℕ) → T (learnSettled n (digit 7 k) (learnTable learn 0)) → T (System-of book q make learn n .goal k)
   unfolding systemOf settled allSettled all

@@ -139,12 +139,23 @@ module _ (book : List ℕ) (q : Question) (make learn ranks plan : List ℕ) whe
       let z = answers-unique (lawful v) (few v) (startNumber (q .known) (q .values)) plan a b x y g answered in
       (z .0, ranks-unique f filled, z .1)
 
--- a refusal leaves the plan room as it was, and the rank table too but for 14
-pub find-refused : (book : List ℕ) (q : Question) (make learn ranks plan : List ℕ) (w : Refusal) (r x : List ℕ)
-    → Finds book q make learn ranks plan (Refused w) r x → (x ≡ plan) × ((r ≡ ranks) ⊎ (number w ≡ 14))
-find-refused book q make learn ranks plan w r x (inl u) = (u .plan-kept, inl (u .ranks-kept))
+-- a refusal leaves the plan room as it was; it is the first of 6 to 13 and leaves the rank table too, or 14, which fills it
+pub find-refused : (book : List ℕ) (q : Question) (make learn ranks plan : List ℕ) (w : Refusal) (r x : List ℕ) → Finds book q make learn ranks plan (Refused w) r x
+    → (x ≡ plan) × ((First (findRows book (q .team) (q .known) (q .values) make learn ranks) (number w) (place w) × (r ≡ ranks))
+    ⊎ ((w ≡ PlanRoom) × ((n : ℕ) × RanksFilled n (systemOf n book (q .team) make learn) ranks r)))
+find-refused book q make learn ranks plan w r x (inl u) =
+    let same : u .why ≡ w = let e = u .answered in cc in
+    (u .plan-kept, inl (subst (λ (y : Refusal). First (findRows book (q .team) (q .known) (q .values) make learn ranks) (number y) (place y)) same (u .first), u .ranks-kept))
 find-refused book q make learn ranks plan w r x (inr (n, m, v, l, f, a)) =
-    let z = late (systemOf n book (q .team) make learn) (startNumber (q .known) (q .values)) plan x w a in (z .2, inr (ap number (z .0)))
+    let z = late (systemOf n book (q .team) make learn) (startNumber (q .known) (q .values)) plan x w a in (z .2, inr (z .0, (n, f)))
+
+-- whatever the answer to a valid question with room for the ranks, they are filled in
+pub find-ranks : (book : List ℕ) (q : Question) (make learn ranks plan : List ℕ) {n m : ℕ} (a : Answer) (r x : List ℕ) → ValidQuestion book q make learn n m → 7 ^ n ≤ length ranks
+    → Finds book q make learn ranks plan a r x → RanksFilled n (systemOf n book (q .team) make learn) ranks r
+find-ranks book q make learn ranks plan a r x v l (inl u) =
+    absurd (first-clear (findRows book (q .team) (q .known) (q .values) make learn ranks) (number (u .why)) (place (u .why)) (u .first) (find-clear v ranks l))
+find-ranks book q make learn ranks plan a r x v l (inr (k, o, w, d, f, g)) =
+    subst (λ (j : ℕ). RanksFilled j (systemOf j book (q .team) make learn) ranks r) (sound-one (w .sound) (v .sound) .0) f
 
 -- and of `ask`
 module _ (book : List ℕ) (q : Question) (make learn : List ℕ) where

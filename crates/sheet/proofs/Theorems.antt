@@ -2,25 +2,27 @@
 -- that is stated demands 2 and 3, over the plans of the question that it asks.
 use mathlib.Core.Path.{_≡_, refl, ap, _∙_, subst, subst₂}
 use mathlib.Core.Logic.{inl, inr}
-use mathlib.Core.List.{List, [], _∷_}
-use Prim.Native.Nat.{ℕ, _≤_}
+use mathlib.Core.List.{List, [], _∷_, _++_}
+use Prim.Native.Nat.{ℕ, _+_, _≤_}
 use native.Mathlib.Omega.{arith}
-use lib.ListN.{length, getD, take, drop}
+use lib.ListN.{length, take, length-append}
 use lib.Seq.{take-at}
-use Rattle.ground.specs.Text.{byte, bytes}
+use Rattle.ground.specs.Text.{bytes}
 use Rattle.formula.specs.Grammar.{text, meaning as truthOf, one, one-unit, one-product}
 use Rattle.formula.specs.Read.{Accepts}
 use Rattle.formula.proofs.Meaning.{unambiguous}
 use Rattle.book.specs.Written.{bookOf}
-use Rattle.plan.specs.Plans.{System, Plan, Permitted, Works, height}
+use Rattle.plan.specs.Plans.{System, Plan, stop, set-then, look-then, Permitted, Works, height}
 use Rattle.plan.specs.Secret.{Twins}
 use Rattle.plan.proofs.Ranks.{rank-least}
 use Rattle.plan.proofs.Written.{written-works, written-height}
 use Rattle.plan.proofs.Secret.{secret}
 use Rattle.sides.specs.Over.{learnTable}
-use Rattle.finder.specs.Question.{systemOf, startNumber}
-use Rattle.finder.proofs.Theorems.{NoMaking, enough}
-use Rattle.printing.specs.Printed.{cannotText, reachText, fitted, Prints}
+use Rattle.finder.specs.Question.{systemOf, startNumber, NoMaking}
+use Rattle.finder.proofs.Theorems.{enough}
+use Rattle.knowledge.specs.declared.act.Act.the-variants.{Set, Look}
+use Rattle.printing.specs.Decimal.{decimal}
+use Rattle.printing.specs.Printed.{line, numbered, actText, planText, cannotText, reachText, Prints}
 use Rattle.printing.proofs.Theorems.{prints-unique, refused-length, reach-length}
 use Rattle.sheet.specs.Sheet.{Sheet}
 use Rattle.sheet.specs.Reading.{Outcome, refused, stated, meaning}
@@ -62,10 +64,16 @@ answer-most s old r new a = by-outcome (meaning s) refl (small-meaning s) a
 abbrev pub System-for : Sheet → List ℕ → List ℕ → List ℕ → ℕ → System
 System-for sheet rights make learn team = systemOf (sheet .settings) (bookOf (sheet .settings) (sheet .posts) rights) team make learn
 
--- the first byte of what is printed, where the room has one
-first-byte : (old : List ℕ) (c : ℕ) (text : List ℕ) → 1 ≤ length old → getD (fitted old (c ∷ text)) 0 0 ≡ c
-first-byte [] c text l = absurd (omega arith)
-first-byte (x ∷ old) c text l = refl
+-- what is printed for "reach" has at least 8 bytes, and `cannot` has 7
+some-line : (d : ℕ) (p : Plan) → 1 ≤ length (planText d p)
+some-line d stop = omega (arith, length-append (decimal d ++ bytes " " ++ bytes "stop") (10 ∷ []))
+some-line d (set-then i q b p) = omega (arith, length-append (numbered d (actText (Set i q b))) (planText (d + 1) p), some-line (d + 1) p)
+some-line d (look-then i q p r) =
+    omega (arith, length-append (numbered d (actText (Look i q)) ++ planText (d + 1) p) (planText (d + 1) r), some-line (d + 1) r)
+
+reach-long : (h : ℕ) (p : Plan) → 8 ≤ length (reachText h p)
+reach-long h p =
+    omega (arith, length-append (line (bytes "reach " ++ decimal h)) (planText 0 p), length-append (bytes "reach " ++ decimal h) (10 ∷ []), length-append (bytes "reach ") (decimal h), some-line 0 p)
 
 module _ (s old : List ℕ) (r : ℕ) (new : List ℕ) {sheet : Sheet} {rights make learn : List ℕ} {team known values : ℕ}
     (m : meaning s ≡ stated sheet) (q : Question sheet rights make learn team known values) (a : Answers s old r new) where
@@ -92,34 +100,34 @@ module _ (s old : List ℕ) (r : ℕ) (new : List ℕ) {sheet : Sheet} {rights m
     | inr (also, x) ↦ x
   ]
 
-  -- and the first byte in the room tells which
-  pub reach-means : 1 ≤ length old → getD new 0 0 ≡ byte "r" → (p : Plan) × Works (System-for sheet rights make learn team) (startNumber known values) p
-  reach-means l e = elim told [
-    | inl (h, t, least, w, x) ↦ (t, written-works (System-for sheet rights make learn team) t (startNumber known values) w)
-    | inr (none, x) ↦ absurd (omega (arith, ap (λ (n : List ℕ). getD n 0 0) (x .room) ∙ first-byte old (byte "c") (bytes "annot\n") l, e))
+  -- and the other way: what is printed tells which, by its length alone
+  pub reach-means : (h : ℕ) (p : Plan) → Prints old (reachText h p) r new → (t : Plan) × Works (System-for sheet rights make learn team) (startNumber known values) t
+  reach-means h p printed = elim told [
+    | inl (j, t, least, w, x) ↦ (t, written-works (System-for sheet rights make learn team) t (startNumber known values) w)
+    | inr (none, x) ↦ absurd (omega (arith, x .count, printed .count, reach-long h p))
   ]
 
-  pub cannot-means : 1 ≤ length old → getD new 0 0 ≡ byte "c" → (p : Plan) → Works (System-for sheet rights make learn team) (startNumber known values) p → ⊥
-  cannot-means l e p works = elim told [
-    | inl (h, t, least, w, x) ↦ omega (arith, ap (λ (n : List ℕ). getD n 0 0) (x .room) ∙ first-byte old (byte "r") (drop 1 (reachText h t)) l, e)
+  pub cannot-means : Prints old cannotText r new → (p : Plan) → Works (System-for sheet rights make learn team) (startNumber known values) p → ⊥
+  cannot-means printed p works = elim told [
+    | inl (h, t, least, w, x) ↦ omega (arith, x .count, printed .count, reach-long h t)
     | inr (none, x) ↦ none p works
   ]
 
   -- ---- demand 3: what "cannot" means for a secret
 
   -- "No making: the make formula is `1`"
-  no-making : sheet .make ≡ bytes "1" → NoMaking (sheet .settings) make
+  pub no-making : sheet .make ≡ bytes "1" → NoMaking (sheet .settings) make
   unfolding text truthOf
   no-making e v h =
       q .made .table .tells v h ∙ unambiguous (q .made .parsed .sentence) (one-product (one-unit one)) (q .made .parsed .written ∙ e) v
 
   -- for a sheet with no making that asks one formula F and is answered `cannot`: for every permitted plan there are two starting valuations, both agreeing
   -- with what the team knew, that give F different values, and on which the plan does the same acts and sees the same readings
-  pub cannot-secret : 1 ≤ length old → getD new 0 0 ≡ byte "c" → sheet .make ≡ bytes "1" → (F : List ℕ) → sheet .asks ≡ F ∷ []
+  pub cannot-secret : Prints old cannotText r new → NoMaking (sheet .settings) make → (F : List ℕ) → sheet .asks ≡ F ∷ []
       → (p : Plan) → Permitted (System-for sheet rights make learn team) (startNumber known values) p
       → (t : List ℕ) × Accepts (sheet .settings) F t × Twins (sheet .settings) t (startNumber known values) p
   unfolding learnTable
-  cannot-secret l e making F asks p permitted =
+  cannot-secret printed making F asks p permitted =
       let w : WellFormed sheet = stated-written s sheet m .0 in
       let n : ℕ = sheet .settings in
       let b = subst (λ (Fs : List (List ℕ)). TablesOf n Fs learn) asks (q .learnt) in
@@ -127,7 +135,7 @@ module _ (s old : List ℕ) (r : ℕ) (new : List ℕ) {sheet : Sheet} {rights m
       let same : learnTable learn 0 ≡ b .0 = ap (take 16) (b .4) ∙ take-at (b .0) (b .1) 16 (b .2 .table .sixteen) in
       let twins =
       secret n (learnTable learn 0) (asked-lawful w q)
-      (enough (bookOf n (sheet .posts) rights) (record { team = team; known = known; values = values }) make learn n (no-making making) (omega arith))
-      (startNumber known values) (cannot-means l e) p permitted
+      (enough (bookOf n (sheet .posts) rights) (record { team = team; known = known; values = values }) make learn n making (omega arith))
+      (startNumber known values) (cannot-means printed) p permitted
       in
       (b .0, b .2, subst (λ (t : List ℕ). Twins n t (startNumber known values) p) same twins)
