@@ -1,4 +1,4 @@
--- Inside: where a text stops being the beginning of a sentence. After each byte a unit is due (`wants`) or done (`has`), with a count of open
+-- Where a text stops being the beginning of a sentence, computed. After each byte a unit is due (`wants`) or done (`has`), with a count of open
 -- brackets; a byte that fits neither leaves it dead. The readers' promises speak of this; proofs/Begins shows that it is the grammar.
 use mathlib.Core.Path.{_≡_}
 use mathlib.Core.List.{List, [], _∷_, _++_}

@@ -1,6 +1,6 @@
 // What a team knows: one of seven digits for each setting, the acts that change one of them, which
-// valuations fit, and when a rule is known to hold. A question about more settings than seven is
-// answered with no. Nothing is written to what a caller lends.
+// valuations fit, and when a rule is known to hold. A rule over more settings than seven is not known
+// to hold. Nothing is written to what a caller lends.
 mod act;
 mod bits;
 mod digit;

@@ -11,7 +11,7 @@ use Rattle.knowledge.specs.declared.act.Act.the-variants.{Set, Look}
 use Rattle.plan.specs.Plans.{Plan, stop, set-then, look-then}
 use Rattle.printing.specs.Decimal.{decimal}
 
--- "Lines .. end in byte 10"
+-- every line ends in byte 10, as a sheet's lines do
 abbrev pub line : List ℕ → List ℕ
 line text = text ++ 10 ∷ []
 

@@ -22,11 +22,12 @@ pub record IsSheet (s : List ℕ) : Type 0 where
   pub well-formed : WellFormed sheet
   pub written : text sheet ≡ s
 
--- the first L lines of s, each with its byte 10
+-- lines, each with its byte 10
 unfoldable pub allEnded : List (List ℕ) → List ℕ
 allEnded [] = []
 allEnded (line ∷ more) = ended line ++ allEnded more
 
+-- the first L lines of s
 unfoldable pub firstLines : ℕ → List ℕ → List ℕ
 firstLines L s = allEnded (take L (split newline s))
 

@@ -114,7 +114,7 @@ ending Make sheet rest L = refused 22 L
 ending Asks sheet [] L = stated sheet
 ending Asks sheet (c ∷ rest) L = refused 22 L
 
--- the lines from number L on
+-- the lines from number L on; `split` gives at least one piece, so the first case is never met
 unfoldable pub lines : ℕ → Due → Sheet → List (List ℕ) → Outcome
 lines L due sheet [] = refused 22 L
 lines L due sheet (rest ∷ []) = ending due sheet rest L

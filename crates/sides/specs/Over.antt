@@ -52,7 +52,7 @@ Made n make t = SideTable n (λ s. always true n (digit 3 s) make) t
 unfoldable pub settled : ℕ → (ℕ → ℕ) → List ℕ → Bool
 settled n side table = always true n side table || always false n side table
 
--- "learn tables 0 to 4 times 16 bytes": how many there are, and the one with index j
+-- "learn tables not 0 to 4 times 16 bytes" are refused: how many there are, and the one with index j
 abbrev pub learnCount : List ℕ → ℕ
 learnCount learn = length learn / 16
 
@@ -75,7 +75,7 @@ rankIf false = 255
 unfoldable pub markOf : ℕ → ℕ → ℕ
 markOf done known = rankIf (not (eqb done 0) && not (eqb known 0))
 
--- the first 7^n bytes of the rank table are marked, each by the present and the start side of its knowledge number; "later bytes keep what they held"
+-- the first 7^n bytes of the rank table are marked, each by the present and the start side of its knowledge number; later bytes keep what they held
 pub record Marks (n : ℕ) (made learnt old new : List ℕ) : Type 0 where
   pub long : length new ≡ length old
   pub marked : (k : ℕ) → k < 7 ^ n → getD new k 0 ≡ markOf (getD made (nowNumber n k) 0) (getD learnt (startNumber n k) 0)
