@@ -52,6 +52,12 @@ use Rattle.sheet.proofs.Place.{malformed-line}
 use Rattle.sheet.specs.Answer as Sheet
 use Rattle.sheet.proofs.Theorems.{System-for, answer-unique, answer-most, reach-printed, cannot-printed}
 use Rattle.sheet.proofs.Theorems as Printed
+use Rattle.formula.proofs.read.Reads as read-contract
+use Rattle.book.proofs.read.Reads as book-read-contract
+use Rattle.book.proofs.write.Reads as book-write-contract
+use Rattle.finder.proofs.find.Reads as find-contract
+use Rattle.plancheck.proofs.check.Reads as check-contract
+use Rattle.sheet.proofs.answer.Reads as answer-contract
 
 -- ---- Demand 1. "Every sheet, book, question or plan, of any length and content, gets its result or a numbered refusal in the written order. The
 -- caller need check nothing first, and what each refusal leaves in lent tables is stated."
@@ -188,3 +194,23 @@ module _ (s old : List ℕ) (r : ℕ) (new : List ℕ) {sheet : Sheet} {rights m
       → (p : Plan) → Permitted (System-for sheet rights make learn team) (startNumber known values) p
       → (t : List ℕ) × Accepts (sheet .settings) F t × Twins (sheet .settings) t (startNumber known values) p
   sheet-secret = Printed.cannot-secret s old r new m q a
+
+-- ---- and these contracts are the functions' own: two results that the `ensures` of each allows are equal
+
+pub tied-read : (κs : _) (a : _) (x y : _) (s t : _) → read-contract.Post κs a x s → read-contract.Post κs a y t → (x .answer ≡ y .answer) × (x .table ≡ y .table)
+tied-read κs a x y s t p q = read-unique _ _ _ _ _ _ p q
+
+pub tied-book-read : (κs : _) (a : _) (x y : _) (s t : _) → book-read-contract.Post κs a x s → book-read-contract.Post κs a y t → x ≡ y
+tied-book-read κs a x y s t p q = reads-one _ _ x y _ _ p q .0
+
+pub tied-book-write : (κs : _) (a : _) (x y : _) (s t : _) → book-write-contract.Post κs a x s → book-write-contract.Post κs a y t → x ≡ y
+tied-book-write κs a x y s t p q = writes-one _ _ _ _ x y _ _ p q .0
+
+pub tied-find : (κs : _) (a : _) (x y : _) (s t : _) → find-contract.Post κs a x s → find-contract.Post κs a y t → x ≡ y
+tied-find κs a x y s t p q = find-unique _ _ _ _ _ _ x y _ _ _ _ p q .0
+
+pub tied-check : (κs : _) (a : _) (x y : _) (s t : _) → check-contract.Post κs a x s → check-contract.Post κs a y t → x ≡ y
+tied-check κs a x y s t p q = checks-one _ _ _ _ _ x y p q
+
+pub tied-answer : (κs : _) (a : _) (x y : _) (s t : _) → answer-contract.Post κs a x s → answer-contract.Post κs a y t → x ≡ y
+tied-answer κs a x y s t p q = answer-unique _ _ x y _ _ p q .0
