@@ -108,10 +108,6 @@ mask-holds : (n : ℕ) → n < 6 → Holds (words (getD masks n 0) 0) (below n)
 unfolding masks all has bit digit mask-test
 mask-holds n h = by-test (words (getD masks n 0) 0) (below n) (all-at 6 mask-test tt n h)
 
-low-mask-holds : Holds (words every 0) (below 6)
-unfolding all has bit digit
-low-mask-holds = by-test (words every 0) (below 6) tt
-
 and-false : (x : Bool) → x && false ≡ false
 and-false true = refl
 and-false false = refl
