@@ -1,21 +1,20 @@
 -- The laws of what fits and what is judged, for any side: from the test at every valuation, and at every setting.
-use mathlib.Core.Path.{_≡_, refl, sym, ap, ap₂, subst, _∙_}
+use mathlib.Core.Path.{_≡_, refl, ap, _∙_}
 use mathlib.Core.Logic.{_⊎_, inl, inr}
-use mathlib.Core.Bool.{Bool, true, false, not, _&&_, _||_}
+use mathlib.Core.Bool.{Bool, true, false, not, _&&_}
 use mathlib.Core.List.{List}
 use Prim.Native.Nat.{ℕ, _/_, _^_, _≤_, _<_}
 use native.Mathlib.Decide.{ℕ-discrete}
 use native.Mathlib.Omega.{arith}
-use lib.Dec.{T, eqb, leb}
+use lib.Dec.{T, leb}
 use lib.ListN.{take}
 use lib.Pow.{pow-mono}
 use lib.Seq.{getD-take}
 use borrow.Author.Tests.{leb-true}
 use Rattle.ground.specs.Digits.{bit}
-use Rattle.ground.specs.Search.{all}
 use Rattle.ground.specs.Table.{truth}
 use Rattle.ground.proofs.Bits.{same-bits}
-use Rattle.ground.proofs.Bools.{and-in, and-left, and-right, decide, T-iff, T→true, T→false, true→T, false→T}
+use Rattle.ground.proofs.Bools.{and-in, and-left, and-right, decide, T-iff, T→true, T→false}
 use Rattle.ground.proofs.Search.{all-at, all-intro, all-or, all-ext}
 use Rattle.knowledge.specs.Seven.{unknown, told}
 use Rattle.knowledge.specs.Fits.{agrees, fits, implies, is, always}

@@ -1,16 +1,16 @@
 -- The laws of what is known and what is settled, from those of sides.
-use mathlib.Core.Path.{_≡_, refl, sym, ap₂, _∙_}
+use mathlib.Core.Path.{_≡_, ap₂}
 use mathlib.Core.Logic.{_⊎_, inl, inr}
-use mathlib.Core.Bool.{Bool, true, false, not, _||_}
+use mathlib.Core.Bool.{true, false, _||_}
 use mathlib.Core.List.{List}
 use Prim.Native.Nat.{ℕ, _^_, _≤_, _<_}
 use lib.Dec.{T}
 use lib.ListN.{take}
 use Rattle.ground.specs.Table.{truth}
-use Rattle.ground.proofs.Bools.{or-left, or-right, or-out, T→true, T→false}
+use Rattle.ground.proofs.Bools.{or-left, or-right, or-out}
 use Rattle.knowledge.specs.Seven.{unknown}
-use Rattle.knowledge.specs.Fits.{fits, always, nowSide, startSide, fitsNow, fitsStart, known, learnSettled}
-use Rattle.knowledge.proofs.Fits.{always-at, always-intro, always-or, always-ext, always-take, always-more}
+use Rattle.knowledge.specs.Fits.{always, nowSide, startSide, fitsNow, known, learnSettled}
+use Rattle.knowledge.proofs.Fits.{always-at, always-intro, always-ext, always-take, always-more}
 
 module _ (n : ℕ) (d : ℕ → ℕ) (t : List ℕ) where
   -- "true at every fitting present valuation"
@@ -21,35 +21,6 @@ module _ (n : ℕ) (d : ℕ → ℕ) (t : List ℕ) where
   pub known-intro : ((v : ℕ) → v < 2 ^ n → T (fitsNow n d v) → T (truth t v)) → T (known n d t)
   unfolding known fitsNow
   known-intro h = always-intro true n (nowSide d) t h
-
-  -- "one same value at all fitting start valuations": any two that fit have the same value, and the other way round
-  pub learn-same : T (learnSettled n d t) → (v w : ℕ) → v < 2 ^ n → w < 2 ^ n → T (fitsStart n d v) → T (fitsStart n d w) → truth t v ≡ truth t w
-  unfolding learnSettled fitsStart
-  learn-same h v w hv hw fv fw =
-      elim (or-out (always true n (startSide d) t) (always false n (startSide d) t) h) [
-        | inl a ↦ T→true (truth t v) (always-at true n (startSide d) t a v hv fv)
-            ∙ sym (T→true (truth t w) (always-at true n (startSide d) t a w hw fw))
-        | inr a ↦ T→false (truth t v) (always-at false n (startSide d) t a v hv fv)
-            ∙ sym (T→false (truth t w) (always-at false n (startSide d) t a w hw fw))
-      ]
-
-  -- the finite search: settled, or two fitting start valuations of which the one makes the formula false and the other true
-  pub learn-or :
-      T (learnSettled n d t)
-      ⊎ ((v : ℕ) × (w : ℕ) × (v < 2 ^ n) × (w < 2 ^ n) × T (fitsStart n d v) × T (fitsStart n d w) × T (not (truth t v)) × T (truth t w))
-  unfolding learnSettled fitsStart
-  learn-or =
-      elim (always-or true n (startSide d) t) [
-        | inl a ↦ inl (or-left (always true n (startSide d) t) (always false n (startSide d) t) a)
-        | inr r ↦ elim (always-or false n (startSide d) t) [
-          | inl a ↦ inl (or-right (always true n (startSide d) t) (always false n (startSide d) t) a)
-          | inr u ↦ inr (r .0, u .0, r .1, u .1, r .2, u .2, r .3, not-not (truth t (u .0)) (u .3))
-        ]
-      ]
-    where
-      not-not : (a : Bool) → T (not (not a)) → T a
-      not-not true h = tt
-      not-not false h = h
 
   pub known-take : n ≤ 7 → known n d (take 16 t) ≡ known n d t
   unfolding known
