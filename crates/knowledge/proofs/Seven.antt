@@ -11,7 +11,7 @@ use Rattle.ground.specs.Search.{all}
 use Rattle.ground.proofs.Bools.{lt-or-ge}
 use Rattle.ground.proofs.Search.{all-at}
 use Rattle.knowledge.specs.Fits.{implies}
-use Rattle.knowledge.specs.Seven.{unknown, told, rows, startOf, nowOf, afterSet, afterLook, firstDigit}
+use Rattle.knowledge.specs.Seven.{told, rows, startOf, nowOf, afterSet, afterLook, firstDigit}
 
 -- an equation of two numbers that the table gives holds at each digit if antt computes it at all seven
 pub at-digit : (f g : ℕ → ℕ) → T (all 7 (λ d. eqb (f d) (g d))) → (d : ℕ) → d < 7 → f d ≡ g d
@@ -84,12 +84,7 @@ unfolding startOf afterLook
 start-look false = refl
 start-look true = refl
 
--- digit 0 alone leaves the present value unknown, and a set never leaves it so
-pub now-unknown : (d : ℕ) → d < 7 → nowOf d ≡ unknown → d ≡ 0
-unfolding all nowOf
-now-unknown d h e =
-    eqb→eq d 0 (rw e at (all-at 7 (λ d. implies (eqb (nowOf d) 0) (eqb d 0)) tt d h))
-
+-- neither a set nor a look leaves digit 0, the one that leaves the present value unknown
 pub set-known : (d : ℕ) (b : Bool) → d < 7 → afterSet d b ≡ 0 → ⊥
 unfolding nowOf
 set-known d false h e = let z : _≡_ {A = ℕ} 0 1 = sym (ap nowOf e) ∙ now-set d false h in omega arith
