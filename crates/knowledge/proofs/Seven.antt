@@ -73,16 +73,11 @@ start-lt d = elim (lt-or-ge d 7) [
   | inr h ↦ rw (start-past d h) (lit< tt)
 ]
 
--- after a look both values are known to be what was seen
+-- after a look the present value is known to be what was seen
 pub now-look : (b : Bool) → nowOf (afterLook b) ≡ told b
 unfolding nowOf afterLook
 now-look false = refl
 now-look true = refl
-
-pub start-look : (b : Bool) → startOf (afterLook b) ≡ told b
-unfolding startOf afterLook
-start-look false = refl
-start-look true = refl
 
 -- neither a set nor a look leaves digit 0, the one that leaves the present value unknown
 pub set-known : (d : ℕ) (b : Bool) → d < 7 → afterSet d b ≡ 0 → ⊥
