@@ -4,7 +4,7 @@ use mathlib.Core.Bool.{false}
 use Prim.Native.Nat.{ℕ, zero, suc, _+_, _/_, _%_, _^_, _≤_, _<_}
 use native.Mathlib.Nat.{add-zero, add-suc, div-eq-of-lt, div-lt-iff-lt-mul, lt-of-lt-of-le, pow-le-pow-right, pow-suc, mul-comm, one-mul}
 use native.Mathlib.Omega.{arith}
-use lib.Dec.{eqb, lit<}
+use lib.Dec.{lit<}
 use lib.Pow.{pow-pos}
 use borrow.Author.Tests.{eqb-false}
 use Rattle.ground.specs.Digits.{digit, bit}

@@ -1,8 +1,7 @@
 -- A block with a right check is its first 508 bytes, sealed; and what is sealed has a right check. The two ways between a block and its bytes.
 use mathlib.Core.Path.{_≡_, sym, ap, ap₂, _∙_, subst}
 use mathlib.Core.List.{List, [], _∷_, _++_}
-use Prim.Native.Nat.{ℕ, zero, suc, _+_, _*_, _-_, _/_, _%_, _^_, _≤_, _<_}
-use native.Mathlib.Nat.{mod-lt}
+use Prim.Native.Nat.{ℕ, zero, suc, _+_, _*_, _-_, _/_, _%_, _≤_, _<_}
 use native.Mathlib.Omega.{arith}
 use lib.Dec.{lit<, lit≤}
 use lib.ListN.{length, getD, take, drop, replicate, take-append-drop, length-append, length-replicate, getD-replicate, drop-of-length-le, List·getD-append}
@@ -11,7 +10,7 @@ use Rattle.ground.specs.Digits.{bit}
 use Rattle.ground.specs.Table.{truth, Within}
 use Rattle.book.specs.declared.rule.Right.{Right}
 use Rattle.book.specs.declared.sums.Sums.{Sums}
-use Rattle.book.specs.Block.{Zeros, added, sumsAfter, check, number16, RightCheck}
+use Rattle.book.specs.Block.{Zeros, check, number16, RightCheck}
 use Rattle.book.specs.Rule.{tablePlace, table}
 use Rattle.book.specs.Sound.{Head, Tables, SettingBlock}
 use Rattle.book.specs.Written.{bytes16, sealed, headBlock, settingBlock}
@@ -78,11 +77,6 @@ module _ (x : List ℕ) (e : length x ≡ 512) where
       ∙ ap sealed (take-add 256 252 x ∙ ap (λ l. take 256 x ++ l) (zeros-run x 256 252 (omega arith) (b .rest)))
 
 -- ---- from bytes to a block
-
-sums-small : (bytes : List ℕ) (i : ℕ) → (sumsAfter bytes i .s < 2 ^ 16) × (sumsAfter bytes i .t < 2 ^ 16)
-unfolding sumsAfter added
-sums-small bytes zero = (lit< tt, lit< tt)
-sums-small bytes (suc i) = (mod-lt _ (lit< tt), mod-lt _ (lit< tt))
 
 module _ (body : List ℕ) (e : length body ≡ 508) where
   pub sealed-byte : (j : ℕ) → j < 508 → getD (sealed body) j 0 ≡ getD body j 0

@@ -5,7 +5,7 @@ use Prim.Native.Nat.{ℕ, zero, suc, _+_, _*_, _<_}
 use native.Mathlib.Omega.{arith}
 use native.Mathlib.Numerals.{add-one}
 use lib.Dec.{lit<}
-use lib.ListN.{getD, take, drop}
+use lib.ListN.{getD, drop}
 use lib.Seq.{getD-take}
 use Rattle.book.specs.declared.sums.Sums.{Sums}
 use Rattle.book.specs.Block.{added, sumsAfter, check, number16, block, RightCheck}

@@ -1,11 +1,11 @@
 -- From a book to its rights and back, and from rights to their book and back: block by block, by the laws of one block.
 use mathlib.Core.Path.{_≡_, sym, ap, ap₂, _∙_, subst}
 use mathlib.Core.List.{List, _++_}
-use Prim.Native.Nat.{ℕ, zero, suc, _+_, _-_, _*_, _<_}
+use Prim.Native.Nat.{ℕ, zero, suc, _+_, _*_, _<_}
 use native.Mathlib.Omega.{arith}
 use lib.ListN.{length, getD, take, drop, take-append-drop, length-drop}
 use lib.Seq.{take-all, take-at, drop-drop, drop-append-add, getD-take}
-use Rattle.book.specs.Block.{block, RightCheck, inOrder}
+use Rattle.book.specs.Block.{block, RightCheck}
 use Rattle.book.specs.Sound.{Head, Tables, SettingBlock, Sound, rightsOf, tablesOf}
 use Rattle.book.specs.Written.{headBlock, settingBlock, settingBlocks, bookOf, Writable}
 use Rattle.book.proofs.Lists.{getD-part, length-part, part-inOrder, inOrder-same, inOrder-parts}

@@ -1,18 +1,15 @@
--- The rules of a book: each is a table of its setting's block, so a sound book's rules are clean, and a written book's rules are the rights'.
-use mathlib.Core.Path.{_≡_, sym, ap, _∙_, subst}
+-- The rules of a book: each is a table of its setting's block, so a written book's rules are the rights'.
+use mathlib.Core.Path.{_≡_, sym, ap, _∙_}
 use mathlib.Core.List.{List}
-use Prim.Native.Nat.{ℕ, _+_, _*_, _/_, _%_, _≤_, _<_}
+use Prim.Native.Nat.{ℕ, _+_, _*_, _≤_, _<_}
 use native.Mathlib.Nat.{add-assoc}
 use native.Mathlib.Omega.{arith}
 use lib.ListN.{length, getD, take, drop}
-use lib.Seq.{getD-take}
-use Rattle.ground.specs.Digits.{bit}
-use Rattle.ground.specs.Table.{truth, Within}
 use Rattle.book.specs.declared.rule.Right.{Right}
 use Rattle.book.specs.declared.rule.Right.the-variants.{Look, Set}
-use Rattle.book.specs.Block.{block, Zeros}
+use Rattle.book.specs.Block.{block}
 use Rattle.book.specs.Rule.{tablePlace, table, rulePlace, rule}
-use Rattle.book.specs.Sound.{Sound, tablesOf}
+use Rattle.book.specs.Sound.{tablesOf}
 use Rattle.book.specs.Written.{settingBlock, bookOf, Writable}
 use Rattle.book.proofs.Lists.{getD-part, length-part, part-same}
 use Rattle.book.proofs.WriteLaws.{length-setting, length-tables}
@@ -25,12 +22,6 @@ unfolding tablePlace
 place-most q Look h = omega arith
 place-most q Set h = omega arith
 
--- what a table says is said by its 16 bytes, wherever the list goes on after them
-pub rule-truth : (book : List ℕ) (i q : ℕ) (right : Right) (v : ℕ) → v < 128 → truth (drop (rulePlace i q right) book) v ≡ truth (rule book i q right) v
-unfolding truth rule
-rule-truth book i q right v h =
-    ap (λ x. bit x (v % 8)) (sym (getD-take 16 (drop (rulePlace i q right) book) (v / 8) 0 (omega arith)))
-
 -- the rule of setting i is a table of block 1 + i
 pub rule-table : (book : List ℕ) (i q : ℕ) (right : Right) → q < 8 → 512 * (2 + i) ≤ length book → rule book i q right ≡ table (block book (1 + i)) q right
 unfolding rule rulePlace table block
@@ -41,27 +32,6 @@ rule-table book i q right h l =
     (λ o k.
     ap (λ n. getD book n 0) (add-assoc (512 * (1 + i)) (tablePlace q right) o)
     ∙ sym (getD-part book (512 * (1 + i)) 512 (tablePlace q right + o) (omega arith)))
-
-module _ {book : List ℕ} {n m : ℕ} (sound : Sound book n m) (i q : ℕ) (right : Right) (hi : i < n) (hq : q < 8) where
-  same-table : rule book i q right ≡ table (block book (1 + i)) q right
-  same-table = rule-table book i q right hq (omega (arith, sound .size))
-
-  -- 16 bytes, all of them in the book
-  pub rule-there : rulePlace i q right + 16 ≤ length book
-  unfolding rulePlace
-  rule-there = omega (arith, sound .size, place-most q right hq)
-
-  pub rule-length : length (rule book i q right) ≡ 16
-  unfolding rule
-  rule-length = length-part book (rulePlace i q right) 16 rule-there
-
-  -- no bit past 2^n
-  pub rule-within : Within n (rule book i q right)
-  rule-within = subst (Within n) (sym same-table) (sound .setting i hi .tables .within q right hq)
-
-  -- nothing for a post that does not exist
-  pub rule-nobody : m ≤ q → Zeros 0 16 (rule book i q right)
-  rule-nobody h = subst (Zeros 0 16) (sym same-table) (sound .setting i hi .tables .nobody q right h hq)
 
 -- a written book has the rules that the rights have
 pub rule-written : {n m : ℕ} {rights : List ℕ} → Writable n m rights → (i q : ℕ) (right : Right) → i < n → q < 8 → rule (bookOf n m rights) i q right ≡ table (tablesOf rights i) q right

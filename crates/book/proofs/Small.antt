@@ -1,5 +1,5 @@
 -- A refusal's number is small: for those who pack it with its place (Theorems has the places).
-use Prim.Native.Nat.{ℕ, _<_}
+use Prim.Native.Nat.{_<_}
 use lib.Dec.{lit<}
 use Rattle.book.specs.declared.refusal.Refusal.{Refusal}
 use Rattle.book.specs.declared.refusal.Refusal.the-variants.{Settings, Length, Check, Head, StrayBit, Room}

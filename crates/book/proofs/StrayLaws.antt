@@ -2,12 +2,12 @@
 use mathlib.Core.Path.{_≡_, sym, ap, ap₂, _∙_, subst}
 use mathlib.Core.List.{List}
 use mathlib.Core.Bool.{Bool, false}
-use mathlib.Core.Logic.{_⊎_, ⊎-elim}
+use mathlib.Core.Logic.{⊎-elim}
 use Prim.Native.Nat.{ℕ, _+_, _-_, _*_, _/_, _%_, _^_, _≤_, _<_, min}
 use native.Mathlib.Nat.{one-mul, mod-eq-of-lt, lt-of-le-of-lt, pow-le-pow-right}
 use native.Mathlib.Omega.{arith}
 use lib.Arith.{lt-one}
-use lib.Dec.{leb, lit<}
+use lib.Dec.{lit<}
 use lib.Pow.{pow-pos}
 use lib.ListN.{getD, drop}
 use lib.Seq.{getD-drop}

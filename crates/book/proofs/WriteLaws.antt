@@ -1,12 +1,12 @@
 -- What the stores of the writer and the copies of the reader add up to: each is a run of bytes that goes on where the last one ended.
-use mathlib.Core.Path.{_≡_, refl, sym, ap, ap₂, _∙_}
+use mathlib.Core.Path.{_≡_, sym, ap, ap₂, _∙_}
 use mathlib.Core.List.{List, _++_}
-use Prim.Native.Nat.{ℕ, zero, suc, _+_, _*_, _≤_}
+use Prim.Native.Nat.{ℕ, suc, _+_, _*_, _≤_}
 use native.Mathlib.Nat.{zero-add}
 use native.Mathlib.Numerals.{add-one}
 use native.Mathlib.Omega.{arith}
 use lib.Dec.{lit≤}
-use lib.ListN.{length, getD, take, drop, replicate, length-append, length-replicate}
+use lib.ListN.{length, take, drop, length-append, length-replicate}
 use lib.Seq.{sets, take-take, getD-drop}
 use Rattle.book.specs.declared.sums.Sums.{Sums}
 use Rattle.book.specs.Block.{check, block, inOrder}
@@ -19,10 +19,6 @@ use Rattle.book.proofs.CheckLaws.{check-same}
 pub run-on : (l r₁ r₂ a b : List ℕ) (i k : ℕ) → i + length a ≡ k → r₁ ≡ sets l i a → r₂ ≡ sets r₁ k b → r₂ ≡ sets l i (a ++ b)
 run-on l r₁ r₂ a b i k e p q =
     q ∙ ap₂ (λ (s : List ℕ) (n : ℕ). sets s n b) p (sym e) ∙ sym (sets-append l i a b)
-
-pub length-bytes16 : (x : ℕ) → length (bytes16 x) ≡ 2
-unfolding bytes16
-length-bytes16 x = refl
 
 -- ---- a block
 

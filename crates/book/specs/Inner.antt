@@ -1,6 +1,6 @@
 -- What the private functions mean. No public promise rests on a definition of this file.
 use mathlib.Core.List.{List}
-use mathlib.Core.Bool.{Bool, true, false}
+use mathlib.Core.Bool.{true, false}
 use Prim.Native.Nat.{ℕ, _+_, _-_, _*_, _%_, _^_, _≤_, _<_, min}
 use lib.Dec.{leb}
 use lib.ListN.{length, getD}

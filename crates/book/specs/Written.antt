@@ -1,7 +1,7 @@
 -- The bytes of a book, made from its numbers and rights.
 use mathlib.Core.Path.{_≡_}
 use mathlib.Core.List.{List, [], _∷_, _++_}
-use Prim.Native.Nat.{ℕ, _+_, _*_, _/_, _%_, _<_}
+use Prim.Native.Nat.{ℕ, _*_, _/_, _%_, _<_}
 use lib.ListN.{length, replicate}
 use Rattle.book.specs.Block.{check, inOrder}
 use Rattle.book.specs.Sound.{SettingsFit, PostsFit, Tables, tablesOf}

@@ -2,17 +2,15 @@
 use mathlib.Core.Path.{_≡_, sym, subst}
 use mathlib.Core.List.{List}
 use mathlib.Core.Bool.{_&&_}
-use Prim.Native.Nat.{ℕ, _≤_, _<_}
+use Prim.Native.Nat.{ℕ, _≤_}
 use native.Mathlib.Omega.{arith}
 use lib.ListN.{length, replicate}
-use Rattle.ground.specs.Digits.{bit}
-use Rattle.formula.specs.Grammar.{sum, meaning, IsSentence}
-use Rattle.formula.specs.Read.{number, place, SettingsFit, LengthFits, Foreign, Refuses, five, one, two, three, four, Reads}
+use Rattle.formula.specs.Grammar.{sum}
+use Rattle.formula.specs.Read.{number, place, SettingsFit, LengthFits, Foreign, Refuses, two, three, four, Reads}
 use Rattle.formula.specs.Words.{Holds, BytesOf, has}
 use Rattle.formula.specs.Automaton.{wants, breaks, verdict, Parsed}
 use Rattle.formula.specs.Scans.{Scans}
 use Rattle.formula.specs.declared.Refusal.{Refusal}
-use Rattle.formula.specs.declared.Refusal.the-variants.{Length, StrayByte, LetterPast, NotSentence, Settings}
 use Rattle.formula.specs.declared.Answer.{Answer}
 use Rattle.formula.specs.declared.Answer.the-variants.{Accepted, Refused}
 use Rattle.formula.specs.declared.scan.Scanned.{Scanned}

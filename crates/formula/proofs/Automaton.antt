@@ -1,15 +1,15 @@
 -- The automaton from state to state: a sentence takes it from `wants` to `has`, whatever follows, and a verdict tells where it died.
 use mathlib.Core.Path.{_≡_, refl, sym, ap, _∙_, subst}
 use mathlib.Core.Logic.{_⊎_, inl, inr}
-use mathlib.Core.List.{List, [], _∷_, _++_, append-nil}
+use mathlib.Core.List.{List, [], _∷_, _++_}
 use mathlib.Core.Bool.{Bool, true, false}
 use Prim.Native.Nat.{ℕ, zero, suc, _+_, _<_}
 use native.Mathlib.Omega.{arith}
 use lib.Dec.{T}
 use lib.ListN.{length, take}
-use Rattle.formula.specs.Grammar.{Kind, sum, product, unit, Sentence, letter, nought, one, negated, bracketed, one-unit, unit-and, one-product, product-or, text}
+use Rattle.formula.specs.Grammar.{Kind, Sentence, letter, nought, one, negated, bracketed, one-unit, unit-and, one-product, product-or, text}
 use Rattle.formula.specs.Read.{isLetter}
-use Rattle.formula.specs.Automaton.{State, wants, has, dead, isAtom, step, Verdict, whole, breaks, ends, verdict}
+use Rattle.formula.specs.Automaton.{State, wants, has, dead, isAtom, step, Verdict, whole, breaks, verdict}
 
 -- the state after the text
 abbrev pub run : State → List ℕ → State

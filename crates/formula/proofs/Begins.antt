@@ -1,15 +1,14 @@
 -- A text that leaves the automaton alive begins a sentence: each state has a meaning over the grammar, which a step keeps, and a live state is
 -- finished with `0` where a unit is due and then by closing the brackets.
 use mathlib.Core.Path.{_≡_, refl, sym, ap, _∙_, subst}
-use mathlib.Core.Logic.{_⊎_, inl, inr}
+use mathlib.Core.Logic.{inl, inr}
 use mathlib.Core.List.{List, [], _∷_, _++_, append-assoc, append-nil}
-use mathlib.Core.Bool.{Bool, true, false, _&&_, _||_, cond}
-use Prim.Native.Nat.{ℕ, zero, suc, _+_, _-_, _<_, _≤_}
+use mathlib.Core.Bool.{_&&_, _||_, cond}
+use Prim.Native.Nat.{ℕ, zero, suc, _-_}
 use native.Mathlib.Omega.{arith}
 use lib.Dec.{T, eqb, eqb→eq, leb, leb→le}
-use lib.ListN.{length, take}
 use Rattle.ground.proofs.Bools.{decide, T→true, T→false, or-out, and-left, and-right}
-use Rattle.formula.specs.Grammar.{Kind, sum, product, unit, Sentence, letter, nought, one, negated, bracketed, one-unit, unit-and, one-product, product-or, text, Begins, IsSentence}
+use Rattle.formula.specs.Grammar.{sum, product, unit, Sentence, letter, nought, one, negated, bracketed, one-unit, unit-and, one-product, product-or, text, Begins, IsSentence}
 use Rattle.formula.specs.Read.{isLetter}
 use Rattle.formula.specs.Automaton.{State, wants, has, dead, isAtom, close, step, whole, verdict}
 use Rattle.formula.proofs.Automaton.{run, run-append, run-dead, run-text, alive, whole-run}

@@ -1,15 +1,14 @@
 -- A text whose verdict is `breaks p` is no sentence, and p is the place that refusal 4 names: alive means that a sentence begins, dead that none does.
-use mathlib.Core.Path.{_≡_, refl, sym, ap, _∙_, subst}
-use mathlib.Core.Logic.{_⊎_, inl, inr}
-use mathlib.Core.List.{List, [], _∷_, _++_, append-nil}
-use Prim.Native.Nat.{ℕ, zero, suc, _+_, _<_, _≤_}
+use mathlib.Core.Path.{_≡_, sym, ap, _∙_, subst}
+use mathlib.Core.Logic.{inl, inr}
+use mathlib.Core.List.{List, [], _++_, append-nil}
+use Prim.Native.Nat.{ℕ, suc, _≤_}
 use native.Mathlib.Omega.{arith}
-use lib.ListN.{length, take, drop, take-append-drop}
+use lib.ListN.{take, drop, take-append-drop}
 use lib.Seq.{take-take}
-use Rattle.ground.specs.Search.{Least}
 use Rattle.formula.specs.Grammar.{text, Begins, IsSentence}
-use Rattle.formula.specs.Read.{Breaks, BreaksAt, at-byte, at-end}
-use Rattle.formula.specs.Automaton.{wants, has, Verdict, whole, breaks, verdict}
+use Rattle.formula.specs.Read.{BreaksAt, at-byte, at-end}
+use Rattle.formula.specs.Automaton.{wants, whole, breaks, verdict}
 use Rattle.formula.proofs.Automaton.{verdict-text, stopped}
 use Rattle.formula.proofs.Begins.{begins-less, alive-begins, dead-begins}
 

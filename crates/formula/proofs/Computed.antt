@@ -1,20 +1,20 @@
 -- `read` on a text that is written out: each part of what it may answer, from a test that the checker computes.
-use mathlib.Core.Path.{_≡_, refl, sym, ap, _∙_, subst}
-use mathlib.Core.Logic.{_⊎_, inl, inr}
+use mathlib.Core.Path.{_≡_, sym, ap, _∙_, subst}
+use mathlib.Core.Logic.{inl, inr}
 use mathlib.Core.List.{List}
-use mathlib.Core.Bool.{Bool, false, not, _&&_, _||_, Bool·beq}
-use Prim.Native.Nat.{ℕ, _^_, _≤_, _<_}
+use mathlib.Core.Bool.{Bool, not, _&&_, _||_, Bool·beq}
+use Prim.Native.Nat.{ℕ, _^_, _<_}
 use native.Mathlib.Omega.{arith}
 use lib.Dec.{T, ltb, leb, ltb→lt, leb→le, lit<}
 use lib.ListN.{length, getD, List·getD-eq-default}
 use lib.Pow.{pow-mono}
 use borrow.Author.Tests.{lt-ltb, le-ltb}
-use Rattle.ground.specs.Search.{all, Least}
+use Rattle.ground.specs.Search.{all}
 use Rattle.ground.specs.Table.{truth, Within, TableOf}
 use Rattle.ground.proofs.Bools.{and-left, and-right, or-right, beq→eq, both, lt-or-ge}
 use Rattle.ground.proofs.Search.{all-at}
 use Rattle.formula.specs.Grammar.{Sentence, sum, text, meaning}
-use Rattle.formula.specs.Read.{isStray, isPast, SettingsFit, LengthFits, Foreign, Refuses, two, three, four, Accepts}
+use Rattle.formula.specs.Read.{isStray, isPast, SettingsFit, LengthFits, Foreign, Refuses, three, four, Accepts}
 use Rattle.formula.specs.Automaton.{wants, breaks, verdict}
 use Rattle.formula.proofs.Broken.{broken-place, broken-no-sentence}
 

@@ -1,11 +1,10 @@
 -- The grammar is unambiguous in meaning: a unit is delimited by its own bytes, a product ends where no `&` follows and a sum where neither `&` nor
 -- `|` does. So two sentences that begin one text and end at such places end at the same place and mean the same, by recursion on the sentence.
 use mathlib.Core.Path.{_≡_, refl, sym, ap, ap₂, _∙_}
-use mathlib.Core.List.{List, [], _∷_, _++_, append-assoc, append-nil}
-use mathlib.Core.Bool.{Bool, true, false, not, _&&_, _||_}
-use Prim.Native.Nat.{ℕ, _+_, _<_}
+use mathlib.Core.List.{List, [], _∷_, _++_, append-assoc}
+use mathlib.Core.Bool.{not, _&&_, _||_}
+use Prim.Native.Nat.{ℕ}
 use native.Mathlib.Omega.{arith}
-use lib.Dec.{T, eqb}
 use lib.ListN.{getD, drop}
 use Rattle.ground.specs.Digits.{bit}
 use Rattle.formula.specs.Grammar.{Kind, sum, product, unit, Sentence, letter, nought, one, negated, bracketed, one-unit, unit-and, one-product, product-or, text, meaning}

@@ -1,16 +1,16 @@
 -- The computed number is the one that `read` answers: each row of the order is a test, and the first foreign byte is met first.
-use mathlib.Core.Path.{_≡_, refl, sym, ap, _∙_, subst}
-use mathlib.Core.Logic.{_⊎_, inl, inr}
+use mathlib.Core.Path.{_≡_, refl, sym, ap, _∙_}
+use mathlib.Core.Logic.{inl, inr}
 use mathlib.Core.List.{List, [], _∷_, append-nil}
-use mathlib.Core.Bool.{Bool, true, false, not, _&&_, _||_, cond}
-use Prim.Native.Nat.{ℕ, zero, suc, _≤_, _<_}
+use mathlib.Core.Bool.{Bool, true, false, _&&_, _||_, cond}
+use Prim.Native.Nat.{ℕ, zero, suc}
 use native.Mathlib.Omega.{arith}
 use lib.Dec.{T, leb, leb→le, le→leb}
 use lib.ListN.{length, getD}
 use Rattle.ground.specs.Search.{Least}
-use Rattle.ground.proofs.Bools.{decide, T→true, T→false, and-in, and-left, and-right, or-left, or-right, both}
+use Rattle.ground.proofs.Bools.{decide, T→true, T→false, and-in, and-left, and-right, or-left, or-right}
 use Rattle.formula.specs.Grammar.{text, IsSentence}
-use Rattle.formula.specs.Read.{number, isStray, isPast, SettingsFit, LengthFits, Foreign, Refuses, five, one, two, three, four, Accepts, Reads}
+use Rattle.formula.specs.Read.{isStray, isPast, SettingsFit, LengthFits, Foreign, Refuses, five, one, two, three, four, Reads}
 use Rattle.formula.specs.Automaton.{wants, Verdict, whole, breaks, verdict}
 use Rattle.formula.specs.Numbered.{numberIn, sentenceNumber, foreignNumber, formulaNumber}
 use Rattle.formula.specs.declared.Answer.{Answer}

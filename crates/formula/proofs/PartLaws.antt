@@ -1,12 +1,12 @@
 -- What each reader has found, from what its callees found: a part grows by the bytes around it, and a break inside is the break of the whole.
 use mathlib.Core.Path.{_≡_, refl, sym, ap, ap₂, _∙_, subst}
-use mathlib.Core.Logic.{_⊎_, inl, inr}
+use mathlib.Core.Logic.{inl, inr}
 use mathlib.Core.List.{List, [], _∷_, _++_, append-assoc, append-nil}
 use mathlib.Core.Bool.{Bool, true, false, not, _&&_, _||_, cond}
-use Prim.Native.Nat.{ℕ, zero, suc, _+_, _-_, _≤_, _<_}
+use Prim.Native.Nat.{ℕ, suc, _+_, _-_, _≤_, _<_}
 use native.Mathlib.Numerals.{add-one}
 use native.Mathlib.Omega.{arith}
-use lib.Dec.{T, eqb, leb}
+use lib.Dec.{T, eqb}
 use lib.ListN.{length, getD, drop, length-append, drop-of-length-le, List·getD-eq-default}
 use lib.Seq.{drop-cons}
 use borrow.Author.Tests.{ne-eqb}
@@ -16,7 +16,7 @@ use Rattle.formula.specs.Grammar.{Kind, sum, product, unit, Sentence, le
 use Rattle.formula.specs.Read.{isLetter}
 use Rattle.formula.specs.Words.{has, Holds}
 use Rattle.formula.specs.Automaton as A
-use Rattle.formula.specs.Automaton.{State, wants, dead, step, isAtom, close, Verdict, breaks, ends, verdict, stops, Parsed, Parses}
+use Rattle.formula.specs.Automaton.{State, wants, dead, step, isAtom, breaks, ends, verdict, stops, Parsed, Parses}
 use Rattle.formula.specs.declared.parts.Part.{Part}
 use Rattle.formula.specs.declared.parts.Part.the-variants.{Read, Broken}
 use Rattle.formula.specs.declared.words.Words.{Words}

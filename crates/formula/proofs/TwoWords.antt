@@ -1,12 +1,12 @@
 -- The words bit by bit: the constant ones and the masks by one computed test each, the others by the laws of bits.
 use mathlib.Core.Path.{_≡_, refl, sym, ap, ap₂, _∙_, subst}
-use mathlib.Core.Logic.{_⊎_, inl, inr}
+use mathlib.Core.Logic.{inl, inr}
 use mathlib.Core.List.{List, [], _∷_}
 use mathlib.Core.Bool.{Bool, true, false, not, _&&_, _||_, Bool·beq}
-use Prim.Native.Nat.{ℕ, zero, suc, _+_, _*_, _-_, _/_, _%_, _^_, _≤_, _<_}
+use Prim.Native.Nat.{ℕ, _+_, _*_, _-_, _/_, _%_, _^_, _<_}
 use native.Mathlib.Nat.{mod-lt}
 use native.Mathlib.Omega.{arith}
-use lib.Dec.{T, ltb, ltb→lt, nltb→le, lt→ltb, lit<, lit≤}
+use lib.Dec.{T, ltb, lit<}
 use lib.Bits.{bitAnd, bitOr, bitXor}
 use lib.ListN.{length, getD, set, List·getD-eq-default}
 use lib.Seq.{getD-set-same, getD-set-other}
@@ -15,7 +15,7 @@ use borrow.Author.Tests.{lt-ltb, le-ltb}
 use Rattle.ground.specs.Digits.{bit, digit}
 use Rattle.ground.specs.Search.{all}
 use Rattle.ground.specs.Table.{truth, Within, TableOf}
-use Rattle.ground.proofs.Bools.{decide, beq→eq, T→true, T→false, lt-or-ge}
+use Rattle.ground.proofs.Bools.{beq→eq, lt-or-ge}
 use Rattle.ground.proofs.Search.{all-at}
 use Rattle.ground.proofs.Bits.{bit-and, bit-or, bit-xor, bit-shr, bit-mod, bit-of-zero}
 use Rattle.formula.specs.Words.{pick, has, Holds, byteOf, BytesOf}
@@ -107,10 +107,6 @@ mask-test n = all 128 (λ v. Bool·beq (has (words (getD masks n 0) 0) v) (below
 mask-holds : (n : ℕ) → n < 6 → Holds (words (getD masks n 0) 0) (below n)
 unfolding masks all has bit digit mask-test
 mask-holds n h = by-test (words (getD masks n 0) 0) (below n) (all-at 6 mask-test tt n h)
-
-low-mask-holds : Holds (words every 0) (below 6)
-unfolding all has bit digit
-low-mask-holds = by-test (words every 0) (below 6) tt
 
 and-false : (x : Bool) → x && false ≡ false
 and-false true = refl

@@ -1,7 +1,7 @@
 -- What `read` answers is settled: any two results that its contract allows are equal, the answer and the table.
 use mathlib.Core.Path.{_≡_, refl, sym, ap, ap₂, _∙_, subst}
 use mathlib.Core.List.{List}
-use mathlib.Core.Bool.{Bool, not, _&&_, _||_}
+use mathlib.Core.Bool.{_||_}
 use Prim.Native.Nat.{ℕ, zero, suc, _+_}
 use lib.Dec.{T, leb}
 use lib.ListN.{getD}
@@ -9,7 +9,6 @@ use Rattle.ground.specs.Search.{Least}
 use Rattle.ground.proofs.Bools.{both, and-left, or-left}
 use Rattle.ground.proofs.Search.{least-unique}
 use Rattle.ground.proofs.Table.{table-unique}
-use Rattle.formula.specs.Grammar.{meaning}
 use Rattle.formula.specs.Read.{number, place, isLetter, isSign, isStray, isPast, Foreign, BreaksAt, at-byte, at-end, Refuses, five, one, two, three, four, Accepts, Reads}
 use Rattle.formula.specs.declared.Refusal.{Refusal}
 use Rattle.formula.specs.declared.Refusal.the-variants.{Length, StrayByte, LetterPast, NotSentence, Settings}

@@ -2,7 +2,7 @@
 -- brackets; a byte that fits neither leaves it dead. The readers' promises speak of this; proofs/Begins shows that it is the grammar.
 use mathlib.Core.Path.{_≡_}
 use mathlib.Core.List.{List, [], _∷_, _++_}
-use mathlib.Core.Bool.{Bool, true, false, not, _&&_, _||_, cond}
+use mathlib.Core.Bool.{Bool, true, not, _||_, cond}
 use Prim.Native.Nat.{ℕ, zero, suc, _+_}
 use lib.Dec.{T, eqb}
 use lib.ListN.{length, getD, drop}

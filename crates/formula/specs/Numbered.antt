@@ -1,6 +1,6 @@
 -- What `read` answers, computed: the number of the refusal, and 0 for a text that is taken. proofs/Numbered shows that it is the number that
 -- `Reads` gives.
-use mathlib.Core.Bool.{Bool, true, false, not, _&&_, cond}
+use mathlib.Core.Bool.{_&&_, cond}
 use mathlib.Core.List.{List, [], _∷_}
 use Prim.Native.Nat.{ℕ}
 use lib.Dec.{leb}

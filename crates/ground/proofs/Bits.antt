@@ -1,10 +1,10 @@
 -- The bits of a number, lowest first: a bit past the first is a bit of the half, so each law goes by recursion on the place.
-use mathlib.Core.Path.{_≡_, refl, sym, ap, ap₂, _∙_, subst}
+use mathlib.Core.Path.{_≡_, refl, sym, ap, ap₂, _∙_}
 use mathlib.Core.Bool.{Bool, true, false, not, _&&_, _||_, Bool·beq}
-use Prim.Native.Nat.{ℕ, zero, suc, _+_, _*_, _/_, _%_, _^_, _<_, _≤_}
+use Prim.Native.Nat.{ℕ, zero, suc, _+_, _*_, _/_, _%_, _^_, _<_}
 use native.Mathlib.Nat.{pow-zero, pow-suc, pow-succ', div-one, div-div-eq-div-mul, mod-lt, div-add-mod', div-lt-iff-lt-mul, zero-div}
 use native.Mathlib.Omega.{arith}
-use lib.Dec.{T, eqb, lit<}
+use lib.Dec.{eqb, lit<}
 use lib.Bits.{bitAnd, bitOr, bitXor, and-shr, or-shr, xor-shr, and-mod, or-mod, xor-mod}
 use lib.Pow.{shr-shr, field, mod-mod-pow}
 use native.Mathlib.Numerals.{add-one}

@@ -1,10 +1,9 @@
 -- A test over all numbers below n, against the statement over all numbers below n: by recursion on n.
 use mathlib.Core.Path.{_≡_, refl, ap₂}
 use mathlib.Core.Logic.{_⊎_, inl, inr}
-use mathlib.Core.Bool.{Bool, true, false, not, _&&_, _||_}
-use Prim.Native.Nat.{ℕ, zero, suc, _<_, _≤_}
-use native.Mathlib.Nat.{lt-suc-self, le-suc, le-trans}
-use native.Mathlib.Decide.{decLt}
+use mathlib.Core.Bool.{Bool, not, _&&_}
+use Prim.Native.Nat.{ℕ, zero, suc, _<_}
+use native.Mathlib.Nat.{lt-suc-self}
 use native.Mathlib.Omega.{arith}
 use lib.Dec.{T}
 use Rattle.ground.specs.Search.{all, any, Least}

@@ -57,10 +57,6 @@ module _ (kind i q : ℕ) (hi : i < 7) (hq : q < 8) where
   post-part : (1 + (kind * 7 + i) * 8 + q - 1) % 8 ≡ q
   post-part = omega arith
 
-pub byte-most : (a : Act) → settingOf a < 7 → postOf a < 8 → byteOf a ≤ 168
-unfolding byteOf
-byte-most a hi hq = omega (arith, kind-most a)
-
 pub act-of-byte : (a : Act) → settingOf a < 7 → postOf a < 8 → actOf (byteOf a) ≡ One a
 unfolding actOf byteOf
 act-of-byte a hi hq =
@@ -77,12 +73,6 @@ act-of-byte a hi hq =
 pub plan-byte : (a : Act) → settingOf a < 7 → postOf a < 8 → planByte a ≡ byteOf a
 unfolding planByte
 plan-byte a hi hq = rw (lt-ltb (settingOf a) 7 hi, lt-ltb (postOf a) 8 hq)
-
--- two acts with one byte are one act
-pub byte-injective : (a c : Act) → settingOf a < 7 → postOf a < 8 → settingOf c < 7 → postOf c < 8 → byteOf a ≡ byteOf c → a ≡ c
-byte-injective a c hi hq hj hp same =
-    let there = sym (act-of-byte a hi hq) ∙ ap actOf same ∙ act-of-byte c hj hp in
-    cc
 
 -- what a byte names has that byte, a setting below 7 and a post below 8
 named-one : (c : Bool) (x a : Act) → named c x ≡ One a → T c × (x ≡ a)
@@ -103,8 +93,3 @@ byte-of-act byte a e =
       rw (← (p .1), setting-of-kind kind i q) (mod-lt ((byte - 1) / 8) (lit< tt)),
       rw (← (p .1), post-of-kind kind i q) (mod-lt (byte - 1) (lit< tt)),
     )
-
--- every byte from 1 to 168 names an act
-pub byte-names : (byte : ℕ) → 0 < byte → byte ≤ 168 → (a : Act) × (actOf byte ≡ One a)
-unfolding actOf
-byte-names byte h l = (ofKind ((byte - 1) / 56) ((byte - 1) / 8 % 7) ((byte - 1) % 8), rw (lt-ltb 0 byte h, le-leb byte 168 l))

@@ -1,25 +1,22 @@
 -- When an act is allowed: the setting is one of the book's, the post one of the team's, and the judgement of its rule, where that
 -- stands in the book, is that it holds.
-use mathlib.Core.Path.{_≡_, refl, sym, ap, ap₂, _∙_}
+use mathlib.Core.Path.{_≡_, refl, sym, _∙_}
 use mathlib.Core.Bool.{Bool, true, false, _&&_}
 use mathlib.Core.List.{List}
-use Prim.Native.Nat.{ℕ, _≤_, _<_}
-use lib.Dec.{T, eqb, ltb, leb, eqb→eq, ltb→lt, lt→ltb}
+use Prim.Native.Nat.{ℕ, _<_}
+use lib.Dec.{T, eqb, ltb, leb, eqb→eq, ltb→lt}
 use lib.ListN.{drop}
 use borrow.Author.Tests.{eq-eqb, ne-eqb}
 use Rattle.ground.specs.Digits.{bit}
-use Rattle.ground.specs.Search.{all}
-use Rattle.ground.proofs.Bools.{and-in, and-left, and-right, eq→eqb, T-iff}
+use Rattle.ground.proofs.Bools.{and-left, and-right}
 use Rattle.book.specs.Rule.{rule, rulePlace}
 use Rattle.book.specs.declared.rule.Right.the-variants.{Look as look-rule, Set as set-rule}
-use Rattle.knowledge.specs.Seven.{nowOf}
-use Rattle.knowledge.specs.Fits.{known, nowSide}
+use Rattle.knowledge.specs.Fits.{known}
 use Rattle.knowledge.specs.Acts.{settingOf, postOf, offered, permitted, allowed}
 use Rattle.knowledge.specs.declared.act.Act.{Act}
 use Rattle.knowledge.specs.declared.act.Act.the-variants.{Set, Look}
-use Rattle.knowledge.proofs.Seven.{now-unknown}
 use Rattle.knowledge.proofs.Fits.{guarded}
-use Rattle.knowledge.proofs.Known.{known-take, known-ext}
+use Rattle.knowledge.proofs.Known.{known-take}
 
 and-true : (a : Bool) → a && true ≡ a
 and-true true = refl
@@ -45,7 +42,7 @@ module _ (n : ℕ) (book : List ℕ) (d : ℕ → ℕ) (i q : ℕ) where
   unfolding permitted
   look-refused e = sym (rw (ne-eqb (d i) 0 e, and-false (known n d (rule book i q look-rule))) (and-false (leb n 7)))
 
--- an allowed act taken apart and put together
+-- an allowed act taken apart
 module _ (n : ℕ) (book : List ℕ) (team : ℕ) (d : ℕ → ℕ) where
   pub allowed-offered : (a : Act) → T (allowed n book team d a) → (settingOf a < n) × T (bit team (postOf a))
   unfolding allowed offered
@@ -59,12 +56,6 @@ module _ (n : ℕ) (book : List ℕ) (team : ℕ) (d : ℕ → ℕ) where
   unfolding allowed
   allowed-permitted a h = and-right (offered n team a) (permitted n book d a) h
 
-  pub allow : (a : Act) → settingOf a < n → T (bit team (postOf a)) → T (permitted n book d a) → T (allowed n book team d a)
-  unfolding allowed offered
-  allow a hi hq h =
-      and-in (ltb (settingOf a) n && bit team (postOf a)) (permitted n book d a)
-      (and-in (ltb (settingOf a) n) (bit team (postOf a)) (lt→ltb (settingOf a) n hi) hq) h
-
   -- "set .., where its set rule for that post is known to hold"
   pub permitted-set : (i q : ℕ) (b : Bool) → permitted n book d (Set i q b) ≡ known n d (rule book i q set-rule)
   unfolding permitted
@@ -77,24 +68,3 @@ module _ (n : ℕ) (book : List ℕ) (team : ℕ) (d : ℕ → ℕ) where
     and-left (known n d (rule book i q look-rule)) (eqb (d i) 0) h,
     eqb→eq (d i) 0 (and-right (known n d (rule book i q look-rule)) (eqb (d i) 0) h),
   )
-
-  pub permit-look : (i q : ℕ) → T (known n d (rule book i q look-rule)) → d i ≡ 0 → T (permitted n book d (Look i q))
-  unfolding permitted
-  permit-look i q h e = and-in (known n d (rule book i q look-rule)) (eqb (d i) 0) h (eq→eqb e)
-
--- what is allowed depends on the present sides of the n settings alone
-module _ (n : ℕ) (book : List ℕ) (team : ℕ) (d e : ℕ → ℕ)
-    (dsmall : (i : ℕ) → d i < 7) (esmall : (i : ℕ) → e i < 7)
-    (same : (i : ℕ) → i < n → nowSide d i ≡ nowSide e i) where
-  zero-side : (x y : ℕ) → x < 7 → y < 7 → nowOf x ≡ nowOf y → x ≡ 0 → y ≡ 0
-  unfolding nowOf
-  zero-side x y hx hy q z = now-unknown y hy (sym q ∙ ap nowOf z)
-
-  pub permitted-ext : (a : Act) → settingOf a < n → permitted n book d a ≡ permitted n book e a
-  unfolding permitted
-  permitted-ext (Set i q b) h = known-ext n d e (rule book i q set-rule) same
-  permitted-ext (Look i q) h =
-      ap₂ _&&_ (known-ext n d e (rule book i q look-rule) same)
-      (T-iff (eqb (d i) 0) (eqb (e i) 0)
-      (λ t. eq→eqb (zero-side (d i) (e i) (dsmall i) (esmall i) (same i h) (eqb→eq (d i) 0 t)))
-      (λ t. eq→eqb (zero-side (e i) (d i) (esmall i) (dsmall i) (sym (same i h)) (eqb→eq (e i) 0 t))))

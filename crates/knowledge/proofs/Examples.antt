@@ -2,8 +2,7 @@
 -- says it all at n = 1 and n = 2.
 use mathlib.Core.Path.{_≡_, refl}
 use mathlib.Core.Bool.{true, false}
-use mathlib.Core.List.{List, [], _∷_}
-use Prim.Native.Nat.{ℕ}
+use mathlib.Core.List.{[], _∷_}
 use Rattle.ground.specs.Digits.{digit, put, bit}
 use Rattle.ground.specs.Search.{all}
 use Rattle.ground.specs.Table.{truth}

@@ -1,22 +1,21 @@
 -- The laws of what fits and what is judged, for any side: from the test at every valuation, and at every setting.
-use mathlib.Core.Path.{_≡_, refl, sym, ap, ap₂, subst, _∙_}
+use mathlib.Core.Path.{_≡_, refl, ap, _∙_}
 use mathlib.Core.Logic.{_⊎_, inl, inr}
-use mathlib.Core.Bool.{Bool, true, false, not, _&&_, _||_}
+use mathlib.Core.Bool.{Bool, true, false, _&&_}
 use mathlib.Core.List.{List}
 use Prim.Native.Nat.{ℕ, _/_, _^_, _≤_, _<_}
 use native.Mathlib.Decide.{ℕ-discrete}
 use native.Mathlib.Omega.{arith}
-use lib.Dec.{T, eqb, leb}
+use lib.Dec.{T, leb}
 use lib.ListN.{take}
 use lib.Pow.{pow-mono}
 use lib.Seq.{getD-take}
 use borrow.Author.Tests.{leb-true}
 use Rattle.ground.specs.Digits.{bit}
-use Rattle.ground.specs.Search.{all}
 use Rattle.ground.specs.Table.{truth}
 use Rattle.ground.proofs.Bits.{same-bits}
-use Rattle.ground.proofs.Bools.{and-in, and-left, and-right, decide, T-iff, T→true, T→false, true→T, false→T}
-use Rattle.ground.proofs.Search.{all-at, all-intro, all-or, all-ext}
+use Rattle.ground.proofs.Bools.{and-in, and-left, and-right, decide, T-iff, T→true, T→false}
+use Rattle.ground.proofs.Search.{all-at, all-intro, all-ext}
 use Rattle.knowledge.specs.Seven.{unknown, told}
 use Rattle.knowledge.specs.Fits.{agrees, fits, implies, is, always}
 
@@ -27,9 +26,6 @@ implies-in false b f = tt
 
 pub implies-out : (a b : Bool) → T (implies a b) → T a → T b
 implies-out true b h t = h
-
-implies-not : (a b : Bool) → T (not (implies a b)) → T a × T (not b)
-implies-not true b h = (tt, h)
 
 -- what is not known agrees with either value; what is told agrees with itself alone
 pub agrees-unknown : (b : Bool) → T (agrees unknown b)
@@ -68,16 +64,6 @@ module _ (b : Bool) (n : ℕ) (side : ℕ → ℕ) (t : List ℕ) where
   always-intro h =
       all-intro (2 ^ n) (λ v. implies (fits n side v) (is b (truth t v)))
       (λ v l. implies-in (fits n side v) (is b (truth t v)) (h v l))
-
-  -- the finite search: the value at every valuation that fits, or one that fits and has the other value
-  pub always-or :
-      T (always b n side t) ⊎ ((v : ℕ) × (v < 2 ^ n) × T (fits n side v) × T (not (is b (truth t v))))
-  unfolding always
-  always-or =
-      elim (all-or (2 ^ n) (λ v. implies (fits n side v) (is b (truth t v)))) [
-        | inl h ↦ inl h
-        | inr r ↦ (let p = implies-not (fits n side (r .0)) (is b (truth t (r .0))) (r .2) in inr (r .0, r .1, p .0, p .1))
-      ]
 
 -- a judgement reads the side at the n settings alone
 pub fits-ext : (n : ℕ) (s u : ℕ → ℕ) (v : ℕ) → ((i : ℕ) → i < n → s i ≡ u i) → fits n s v ≡ fits n u v

@@ -4,7 +4,6 @@ pub mod Seven
 pub mod Number
 pub mod States
 pub mod Fits
-pub mod Sides
 pub mod Known
 pub mod Unknowns
 pub mod Outcomes

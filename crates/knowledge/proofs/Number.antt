@@ -1,19 +1,18 @@
 -- A knowledge number and its digits: each gives the other back, and a changed digit of the one is a changed digit of the other.
 use mathlib.Core.Path.{_≡_, refl, sym, ap, _∙_, fun-ext}
-use mathlib.Core.Logic.{_⊎_, inl, inr}
-use mathlib.Core.List.{List}
-use Prim.Native.Nat.{ℕ, zero, suc, _+_, _*_, _%_, _^_, _≤_, _<_}
-use native.Mathlib.Nat.{pow-zero, pow-succ', mod-one, mod-lt, mod-eq-of-lt, add-comm, add-zero, zero-mul, pow-le-pow-right, lt-of-lt-of-le}
+use mathlib.Core.Logic.{inl, inr}
+use Prim.Native.Nat.{ℕ, zero, suc, _*_, _%_, _^_, _≤_, _<_}
+use native.Mathlib.Nat.{pow-zero, pow-succ', mod-one, mod-eq-of-lt, add-comm, add-zero, zero-mul, pow-le-pow-right, lt-of-lt-of-le}
 use native.Mathlib.Decide.{ℕ-discrete}
 use native.Mathlib.Omega.{arith}
-use lib.Arith.{digits-lt, digits-div, digits-mod}
+use lib.Arith.{digits-lt}
 use lib.Dec.{lit<}
 use lib.ListN.{length, getD, set, length-set, List·getD-eq-default}
 use lib.Seq.{ext-getD, getD-set-same, getD-set-other}
 use Rattle.ground.specs.Digits.{digit, put}
 use Rattle.ground.proofs.Bools.{lt-or-ge}
 use Rattle.ground.proofs.Search.{below-suc}
-use Rattle.ground.proofs.Digits.{digit-lt, digit-above, digit-mod, high-mod, digit-top, digit-low, put-same, put-other, put-lt, same-digits}
+use Rattle.ground.proofs.Digits.{digit-above, high-mod, digit-top, digit-low, put-same, put-other}
 use Rattle.knowledge.specs.Number.{digitIn, sumOf, digitsOf}
 
 seven : 0 < 7
@@ -67,20 +66,6 @@ module _ {b : ℕ} (pos : 0 < b) where
         (below-suc i n h
         (λ e. rw e (digit-top pos n (sumOf b n d) (d n) low (small n (omega arith))))
         (λ l. digit-low pos n (sumOf b n d) (d n) i low l ∙ digits-sum n (λ j m. small j (omega arith)) i l))
-
-  -- a sum of digits of which one was changed
-  pub sum-put : (n i : ℕ) (d e : ℕ → ℕ) → i < n → ((j : ℕ) → j < n → d j < b) → ((j : ℕ) → j < n → e j < b)
-      → ((j : ℕ) → j < n → (j ≡ i → ⊥) → e j ≡ d j) → sumOf b n e ≡ put b (sumOf b n d) i (e i)
-  sum-put n i d e l dsmall esmall same =
-      same-digits pos n (sumOf b n e) (put b (sumOf b n d) i (e i)) (sum-lt e n esmall)
-      (put-lt pos (sumOf b n d) i n (e i) (sum-lt d n dsmall) l (esmall i l))
-      (λ j h. digits-sum e n esmall j h ∙ sym (changed j h))
-    where
-      changed : (j : ℕ) → j < n → digit b (put b (sumOf b n d) i (e i)) j ≡ e j
-      changed j h = elim (ℕ-discrete j i) [
-        | yes q ↦ rw q (put-same pos (sumOf b n d) i (e i) (esmall i l))
-        | no q ↦ put-other pos (sumOf b n d) i j (e i) (esmall i l) q ∙ digits-sum d n dsmall j h ∙ sym (same j h q)
-      ]
 
 -- digits that are 0 do not count
 pub sum-short : (b : ℕ) (d : ℕ → ℕ) (m n : ℕ) → n ≤ m → ((i : ℕ) → n ≤ i → i < m → d i ≡ 0) → sumOf b m d ≡ sumOf b n d

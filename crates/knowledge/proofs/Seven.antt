@@ -1,17 +1,17 @@
 -- The laws of the seven digits: each is a test that antt computes at all seven rows of the table.
 use mathlib.Core.Path.{_≡_, refl, sym, ap, _∙_}
-use mathlib.Core.Logic.{_⊎_, inl, inr}
+use mathlib.Core.Logic.{inl, inr}
 use mathlib.Core.Bool.{Bool, true, false, _||_}
 use Prim.Native.Nat.{ℕ, _%_, _≤_, _<_}
 use native.Mathlib.Omega.{arith}
 use lib.Dec.{T, eqb, ltb, eqb→eq, ltb→lt, lit<}
 use borrow.Author.Tests.{ne-eqb, le-ltb}
-use lib.ListN.{getD, List·getD-eq-default}
+use lib.ListN.{List·getD-eq-default}
 use Rattle.ground.specs.Search.{all}
 use Rattle.ground.proofs.Bools.{lt-or-ge}
 use Rattle.ground.proofs.Search.{all-at}
 use Rattle.knowledge.specs.Fits.{implies}
-use Rattle.knowledge.specs.Seven.{unknown, told, rows, rowOf, startOf, nowOf, afterSet, afterLook, firstDigit}
+use Rattle.knowledge.specs.Seven.{told, rows, startOf, nowOf, afterSet, afterLook, firstDigit}
 
 -- an equation of two numbers that the table gives holds at each digit if antt computes it at all seven
 pub at-digit : (f g : ℕ → ℕ) → T (all 7 (λ d. eqb (f d) (g d))) → (d : ℕ) → d < 7 → f d ≡ g d
@@ -73,23 +73,13 @@ start-lt d = elim (lt-or-ge d 7) [
   | inr h ↦ rw (start-past d h) (lit< tt)
 ]
 
--- after a look both values are known to be what was seen
+-- after a look the present value is known to be what was seen
 pub now-look : (b : Bool) → nowOf (afterLook b) ≡ told b
 unfolding nowOf afterLook
 now-look false = refl
 now-look true = refl
 
-pub start-look : (b : Bool) → startOf (afterLook b) ≡ told b
-unfolding startOf afterLook
-start-look false = refl
-start-look true = refl
-
--- digit 0 alone leaves the present value unknown, and a set never leaves it so
-pub now-unknown : (d : ℕ) → d < 7 → nowOf d ≡ unknown → d ≡ 0
-unfolding all nowOf
-now-unknown d h e =
-    eqb→eq d 0 (rw e at (all-at 7 (λ d. implies (eqb (nowOf d) 0) (eqb d 0)) tt d h))
-
+-- neither a set nor a look leaves digit 0, the one that leaves the present value unknown
 pub set-known : (d : ℕ) (b : Bool) → d < 7 → afterSet d b ≡ 0 → ⊥
 unfolding nowOf
 set-known d false h e = let z : _≡_ {A = ℕ} 0 1 = sym (ap nowOf e) ∙ now-set d false h in omega arith
@@ -99,11 +89,6 @@ pub look-known : (b : Bool) → afterLook b ≡ 0 → ⊥
 unfolding nowOf
 look-known false e = let z : _≡_ {A = ℕ} 0 1 = sym (ap nowOf e) ∙ now-look false in omega arith
 look-known true e = let z : _≡_ {A = ℕ} 0 2 = sym (ap nowOf e) ∙ now-look true in omega arith
-
--- where the start value is known, the present value is known too
-pub start-then-now : (d : ℕ) → d < 7 → nowOf d ≡ unknown → startOf d ≡ unknown
-unfolding startOf
-start-then-now d h e = rw (now-unknown d h e)
 
 -- what is known at the start has the digit of a look
 pub first-known : (b : Bool) → firstDigit true b ≡ afterLook b

@@ -1,6 +1,6 @@
 -- States and numbers: what the methods of a state hand back is the state of the number after the act, so that what is said of
 -- numbers is said of states.
-use mathlib.Core.Path.{_≡_, refl, sym, ap, _∙_}
+use mathlib.Core.Path.{_≡_, refl, sym, _∙_}
 use mathlib.Core.Bool.{Bool}
 use mathlib.Core.List.{List}
 use Prim.Native.Nat.{ℕ, zero, suc, _^_, _≤_, _<_}
@@ -66,9 +66,6 @@ module _ (known values : ℕ) where
   first-state =
       ext-getD 0 (firstDigits known values) (digitsOf (numberOf 7 (firstAt known values))) (sym (digits-long _))
       (λ i h. first-in i h ∙ sym (digit-in (numberOf 7 (firstAt known values)) i h ∙ digits-sum seven (firstAt known values) 7 first-small i h))
-
-  pub first-number : (i : ℕ) → i < 7 → digit 7 (numberOf 7 (firstAt known values)) i ≡ firstAt known values i
-  first-number i h = digits-sum seven (firstAt known values) 7 first-small i h
 
   pub first-below : (n : ℕ) → n ≤ 7 → known < 2 ^ n → numberOf 7 (firstAt known values) < 7 ^ n
   unfolding firstAt firstDigit

@@ -1,10 +1,9 @@
 -- How many settings a knowledge number leaves unknown, and what a changed digit does to that: by recursion on the count of
 -- settings, since only the place of the change differs.
 use mathlib.Core.Path.{_≡_, refl}
-use Prim.Native.Nat.{ℕ, zero, suc, _+_, _≤_, _<_}
+use Prim.Native.Nat.{ℕ, zero, suc, _+_, _<_}
 use native.Mathlib.Decide.{ℕ-discrete}
 use native.Mathlib.Omega.{arith}
-use lib.Dec.{lit≤}
 
 -- 1 for a setting whose digit is 0, the one that leaves its present value unknown
 unfoldable pub counts : ℕ → ℕ
@@ -20,15 +19,6 @@ counts-known (suc d) e = refl
 unfoldable pub unknowns : ℕ → (ℕ → ℕ) → ℕ
 unknowns zero d = 0
 unknowns (suc n) d = unknowns n d + counts (d n)
-
-pub unknowns-most : (n : ℕ) (d : ℕ → ℕ) → unknowns n d ≤ n
-unfolding unknowns counts
-unknowns-most zero d = omega arith
-unknowns-most (suc n) d = omega (arith, unknowns-most n d, at-most (d n))
-  where
-    at-most : (x : ℕ) → counts x ≤ 1
-    at-most zero = lit≤ tt
-    at-most (suc x) = lit≤ tt
 
 pub unknowns-ext : (n : ℕ) (d e : ℕ → ℕ) → ((i : ℕ) → i < n → d i ≡ e i) → unknowns n d ≡ unknowns n e
 unfolding unknowns

@@ -96,11 +96,3 @@ module _ {n : ℕ} {S : System} (law : Lawful n S) where
 
   pub to-higher : (g h k : ℕ) → g ≤ h → T (below n S g k) → T (below n S h k)
   to-higher g h k l t = let d = le-dest l in rw (← d .1, add-comm g (d .0)) (higher (d .0) g k t)
-
-  -- a layer that adds nothing to a set that acts do not leave: no later layer adds anything to it
-  pub stands : (X : ℕ → Type 0) → ((k x : ℕ) (a : Act) → X k → T (may S k a) → Outcome k a x → X x)
-      → (h : ℕ) → ((k : ℕ) → X k → T (below n S (suc h) k) → T (below n S h k))
-      → (d k : ℕ) → X k → T (below n S (d + h) k) → T (below n S h k)
-  stands X keeps h still zero k i t = rw zero-add at t
-  stands X keeps h still (suc d) k i t =
-      still k i (step (d + h) h k (λ a x m o. stands X keeps h still d x (keeps k x a i m o)) (rw suc-add at t))

@@ -13,7 +13,6 @@ pub mod Bound
 pub mod Ranks
 pub mod Certificate
 pub mod Table
-pub mod Compare
 pub mod Written
 pub mod Size
 pub mod Encode

@@ -1,17 +1,12 @@
--- A table of ranks chooses the plan written: its entries say which acts lower the rank, and the first byte that names such an act is
--- the smallest.
+-- A table of ranks chooses the plan written: its entries say which acts lower the rank.
 use mathlib.Core.Path.{_≡_}
-use mathlib.Core.Logic.{inl, inr}
-use Prim.Native.Nat.{ℕ, _≤_, _<_}
+use Prim.Native.Nat.{ℕ, _≤_}
 use native.Mathlib.Omega.{arith}
-use Rattle.ground.proofs.Bools.{lt-or-ge}
-use Rattle.knowledge.specs.Acts.{byteOf, actOf}
+use Rattle.knowledge.specs.Acts.{byteOf}
 use Rattle.knowledge.specs.declared.act.Act.{Act}
-use Rattle.knowledge.specs.declared.act.Named.the-variants.{One}
-use Rattle.plan.specs.Plans.{System, Lawful}
+use Rattle.plan.specs.Plans.{System}
 use Rattle.plan.specs.Ranks.{IsRank, Lowers, Chosen}
 use Rattle.plan.specs.Certificate.{Leads}
-use Rattle.plan.proofs.Bytes.{act-of-byte, byte-of-act}
 use Rattle.plan.proofs.Certificate.{Closed}
 use Rattle.plan.proofs.Ranks.{rank-unique}
 
@@ -38,12 +33,3 @@ module _ {S : System} {Has : ℕ → Type 0} {table : ℕ → ℕ} (closed : Clo
     lowers = lowers-in k (table k) a b l;
     smallest = λ c m. small c (lowers-out k (table k) c b m);
   }
-
-  -- the same by bytes: the first that names an act into lower entries
-  pub chosen-byte : {n : ℕ} (law : Lawful n S) → n ≤ 7 → (k c : ℕ) (a : Act) → Has k → actOf c ≡ One a → Leads S table k (table k) a
-      → ((d : ℕ) (e : Act) → d < c → actOf d ≡ One e → Leads S table k (table k) e → ⊥) → Chosen S k a
-  chosen-byte law few k c a b e l none = chosen k a b l (λ d m. elim (lt-or-ge (byteOf d) c) [
-    | inl less ↦ absurd (none (byteOf d) d less
-        (act-of-byte d (omega (arith, law .setting-of k d (m .allowed))) (law .post-of k d (m .allowed))) m)
-    | inr more ↦ omega (arith, byte-of-act c a e)
-  ])

@@ -9,7 +9,6 @@ use Rattle.plan.specs.Pending.{Pending}
 use Rattle.plan.specs.Check.{Verdict, accepted, faulty, judge}
 use Rattle.plan.specs.Check as C
 use Rattle.plancheck.specs.Refusals.{refusalOf}
-use Rattle.plancheck.specs.declared.answer.Refusal.{Refusal}
 use Rattle.plancheck.specs.declared.answer.Refusal.the-variants.{TooSoon}
 use Rattle.plancheck.specs.declared.answer.CheckAnswer.{CheckAnswer}
 use Rattle.plancheck.specs.declared.answer.CheckAnswer.the-variants.{Yes, Refused}

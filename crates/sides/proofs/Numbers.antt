@@ -3,13 +3,12 @@
 use mathlib.Core.Path.{_≡_, sym, ap, _∙_}
 use Prim.Native.Nat.{ℕ, zero, suc, _+_, _*_, _^_, _<_}
 use native.Mathlib.Nat.{pow-zero, pow-succ', add-comm}
-use native.Mathlib.Decide.{ℕ-discrete}
 use native.Mathlib.Omega.{arith}
 use lib.Arith.{digits-lt, digits-div, digits-mod}
 use lib.Dec.{lit<}
-use Rattle.ground.specs.Digits.{digit, put}
+use Rattle.ground.specs.Digits.{digit}
 use Rattle.ground.proofs.Bits.{digit-zero, digit-suc}
-use Rattle.ground.proofs.Digits.{digit-lt, digit-top, digit-low, put-same, put-other, put-lt, put-sum, same-digits}
+use Rattle.ground.proofs.Digits.{digit-lt, digit-top, digit-low, same-digits}
 use Rattle.ground.proofs.Search.{below-suc}
 use Rattle.knowledge.specs.Seven.{startOf, nowOf}
 use Rattle.knowledge.proofs.Seven.{now-lt, start-lt}
@@ -50,25 +49,6 @@ module _ (g : ℕ → ℕ) (small : (d : ℕ) → d < 7 → g d < 3) where
   pub seen-digit : (n k i : ℕ) → i < n → digit 3 (seen g n k) i ≡ g (digit 7 k i)
   seen-digit n k i h = side-digit (λ i. g (digit 7 k i)) n (λ i h. small (digit 7 k i) (digit-lt seven k i)) i h
 
-  -- a changed digit changes the side at its place
-  pub seen-put : (n k i d : ℕ) → i < n → d < 7 → seen g n (put 7 k i d) ≡ put 3 (seen g n k) i (g d)
-  seen-put n k i d h l =
-      same-digits three n (seen g n (put 7 k i d)) (put 3 (seen g n k) i (g d)) (seen-lt n (put 7 k i d))
-      (put-lt three (seen g n k) i n (g d) (seen-lt n k) h (small d l))
-      (λ j m. seen-digit n (put 7 k i d) j m ∙ at j m)
-    where
-      at : (j : ℕ) → j < n → g (digit 7 (put 7 k i d) j) ≡ digit 3 (put 3 (seen g n k) i (g d)) j
-      at j m = elim (ℕ-discrete j i) [
-        | yes e ↦ rw e (ap g (put-same seven k i d l) ∙ sym (put-same three (seen g n k) i (g d) (small d l)))
-        | no e ↦ ap g (put-other seven k i j d l e)
-            ∙ sym (put-other three (seen g n k) i j (g d) (small d l) e ∙ seen-digit n k j m)
-      ]
-
-  -- the same as a sum: the side moves by the difference of what the two digits tell
-  pub seen-move : (n k i d : ℕ) → i < n → d < 7 → seen g n (put 7 k i d) + g (digit 7 k i) * 3 ^ i ≡ seen g n k + g d * 3 ^ i
-  seen-move n k i d h l =
-      rw (seen-put n k i d h l, ← (seen-digit n k i h)) (put-sum three (seen g n k) i (g d))
-
   -- one more setting below the others
   pub seen-low : (n r d : ℕ) → d < 7 → seen g (suc n) (r * 7 + d) ≡ seen g n r * 3 + g d
   seen-low n r d l =
@@ -99,14 +79,6 @@ module _ (n k : ℕ) where
   unfolding nowNumber
   now-digit i h = seen-digit nowOf (λ d l. now-lt d) n k i h
 
-  pub now-put : (i d : ℕ) → i < n → d < 7 → nowNumber n (put 7 k i d) ≡ put 3 (nowNumber n k) i (nowOf d)
-  unfolding nowNumber
-  now-put i d h l = seen-put nowOf (λ d l. now-lt d) n k i d h l
-
-  pub now-move : (i d : ℕ) → i < n → d < 7 → nowNumber n (put 7 k i d) + nowOf (digit 7 k i) * 3 ^ i ≡ nowNumber n k + nowOf d * 3 ^ i
-  unfolding nowNumber
-  now-move i d h l = seen-move nowOf (λ d l. now-lt d) n k i d h l
-
   pub now-low : (d : ℕ) → d < 7 → nowNumber (suc n) (k * 7 + d) ≡ nowNumber n k * 3 + nowOf d
   unfolding nowNumber
   now-low d l = seen-low nowOf (λ d l. now-lt d) n k d l
@@ -120,14 +92,6 @@ module _ (n k : ℕ) where
   pub start-digit : (i : ℕ) → i < n → digit 3 (startNumber n k) i ≡ startOf (digit 7 k i)
   unfolding startNumber
   start-digit i h = seen-digit startOf (λ d l. start-lt d) n k i h
-
-  pub start-put : (i d : ℕ) → i < n → d < 7 → startNumber n (put 7 k i d) ≡ put 3 (startNumber n k) i (startOf d)
-  unfolding startNumber
-  start-put i d h l = seen-put startOf (λ d l. start-lt d) n k i d h l
-
-  pub start-move : (i d : ℕ) → i < n → d < 7 → startNumber n (put 7 k i d) + startOf (digit 7 k i) * 3 ^ i ≡ startNumber n k + startOf d * 3 ^ i
-  unfolding startNumber
-  start-move i d h l = seen-move startOf (λ d l. start-lt d) n k i d h l
 
   pub start-low : (d : ℕ) → d < 7 → startNumber (suc n) (k * 7 + d) ≡ startNumber n k * 3 + startOf d
   unfolding startNumber

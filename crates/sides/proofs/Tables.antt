@@ -1,24 +1,20 @@
 -- What the tables over all sides say of a knowledge number: the entry at the side that it shows is the judgement that paper 01 words over its
 -- digits, since a judgement reads nothing of a state but that side.
-use mathlib.Core.Path.{_≡_, refl, sym, ap, ap₂, _∙_}
+use mathlib.Core.Path.{_≡_, refl, ap, ap₂, _∙_}
 use mathlib.Core.List.{List}
 use mathlib.Core.Bool.{Bool, true, false, not, _&&_, _||_}
 use Prim.Native.Nat.{ℕ, _^_, _<_}
 use lib.Dec.{eqb, lit<}
 use lib.ListN.{getD}
-use Rattle.ground.specs.Digits.{digit, put, bit}
-use Rattle.ground.proofs.Digits.{digit-lt, put-digit}
+use Rattle.ground.specs.Digits.{digit, bit}
 use Rattle.ground.proofs.Search.{all-ext}
 use Rattle.book.specs.Rule.{rule}
 use Rattle.book.specs.declared.rule.Right.{Right}
-use Rattle.knowledge.specs.Seven.{told, afterSet, afterLook}
 use Rattle.knowledge.specs.Fits.{always, nowSide, startSide, known, learnSettled}
-use Rattle.knowledge.specs.Acts.{setTo, lookAt}
 use Rattle.knowledge.proofs.Fits.{always-ext}
-use Rattle.knowledge.proofs.Seven.{now-set, start-set, set-lt, now-look, start-look, look-lt}
 use Rattle.sides.specs.Sides.{nowNumber, startNumber}
 use Rattle.sides.specs.Over.{entry, Judged, PostTables, oneOf, SideTable, Made, settled, learnCount, learnTable, allSettled, Learnt, rankIf, markOf, Marks}
-use Rattle.sides.proofs.Numbers.{three, seven, now-number-lt, start-number-lt, now-digit, start-digit, now-put, start-put}
+use Rattle.sides.proofs.Numbers.{now-number-lt, start-number-lt, now-digit, start-digit}
 
 pub one-lt : (b : Bool) → oneOf b < 2
 one-lt true = lit< tt
@@ -77,26 +73,3 @@ pub goal-marked : {n : ℕ} (make learn : List ℕ) {made learnt old new : List 
     → (k : ℕ) → k < 7 ^ n → getD new k 0 ≡ rankIf (known n (digit 7 k) make && allSettled n (digit 7 k) learn)
 unfolding markOf
 goal-marked {n} make learn {made} {learnt} m l marks k h = marks .marked k h ∙ ap rankIf (ap₂ _&&_ (made-known n make made m k) (learnt-settled n learn learnt l k))
-
--- the sides after an act: a set tells the present value alone, a look both
-module _ (n k i : ℕ) (b : Bool) (below : i < n) where
-  pub now-after-set : nowNumber n (setTo k i b) ≡ put 3 (nowNumber n k) i (told b)
-  unfolding setTo
-  now-after-set =
-      now-put n k i (afterSet (digit 7 k i) b) below (set-lt (digit 7 k i) b (digit-lt seven k i))
-      ∙ ap (put 3 (nowNumber n k) i) (now-set (digit 7 k i) b (digit-lt seven k i))
-
-  pub start-after-set : startNumber n (setTo k i b) ≡ startNumber n k
-  unfolding setTo
-  start-after-set =
-      start-put n k i (afterSet (digit 7 k i) b) below (set-lt (digit 7 k i) b (digit-lt seven k i))
-      ∙ ap (put 3 (startNumber n k) i) (start-set (digit 7 k i) b (digit-lt seven k i) ∙ sym (start-digit n k i below))
-      ∙ put-digit three (startNumber n k) i
-
-  pub now-after-look : nowNumber n (lookAt k i b) ≡ put 3 (nowNumber n k) i (told b)
-  unfolding lookAt
-  now-after-look = now-put n k i (afterLook b) below (look-lt b) ∙ ap (put 3 (nowNumber n k) i) (now-look b)
-
-  pub start-after-look : startNumber n (lookAt k i b) ≡ put 3 (startNumber n k) i (told b)
-  unfolding lookAt
-  start-after-look = start-put n k i (afterLook b) below (look-lt b) ∙ ap (put 3 (startNumber n k) i) (start-look b)

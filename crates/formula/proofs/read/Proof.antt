@@ -1,9 +1,8 @@
 -- `read` meets its contract: the refusals in the written order.
 use native.Mathlib.Omega.{arith}
-use Rattle.formula.specs.declared.Refusal.the-variants.{Length, StrayByte, LetterPast, NotSentence, Settings}
-use Rattle.formula.specs.Read.{five, one, two, three, SettingsFit, LengthFits}
+use Rattle.formula.specs.declared.Refusal.the-variants.{Length, StrayByte, LetterPast, Settings}
+use Rattle.formula.specs.Read.{five, one}
 use Rattle.formula.proofs.Answers.{refusal, stray, past, clean-text}
-use Rattle.formula.specs.declared.scan.Scanned.the-variants.{Clean, Stray, Past}
 use borrow.Author.Needs.{needs}
 use Rattle.formula.proofs.read.Statement.{statement}
 use Rattle.formula.proofs.read.Tie as tie

@@ -1,11 +1,10 @@
 -- `scan` meets its contract. The loop has found no foreign byte among the first i.
 use borrow.Author.Needs.{needs}
-use Prim.Native.Nat.{ℕ, _-_}
-use mathlib.Core.Path.{_≡_, sym, ap, _∙_}
-use lib.ListN.{length, getD}
+use Prim.Native.Nat.{_-_}
+use mathlib.Core.Path.{_≡_, sym, _∙_}
+use lib.ListN.{length}
 use native.Mathlib.Omega.{arith}
 use Rattle.formula.proofs.ScanLaws.{CleanTo, stray-first, past-first, clean-more}
-use Rattle.formula.specs.Read.{isStray, isPast}
 use Rattle.formula.proofs.scan.scan.Statement.{statement}
 use Rattle.formula.proofs.scan.scan.Tie as tie
 

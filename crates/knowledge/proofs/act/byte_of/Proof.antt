@@ -1,7 +1,5 @@
 -- `knowledge::act::byte_of` meets its contract: within the seven settings and the eight posts the byte is at most 168.
 use borrow.Author.Needs.{needs}
-use native.Mathlib.Omega.{arith}
-use mathlib.Core.Path.{sym}
 use borrow.Author.Tests.{lt-ltb, le-ltb}
 use Rattle.knowledge.proofs.act.byte_of.Statement.{statement}
 use Rattle.knowledge.proofs.act.byte_of.Tie as tie

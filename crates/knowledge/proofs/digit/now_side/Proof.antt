@@ -1,7 +1,5 @@
 -- `knowledge::digit::now_side` meets its contract: an odd digit tells false, an even one but 0 tells true.
-use Prim.Native.Nat.{ℕ, _%_, _<_}
 use mathlib.Core.Path.{_≡_, sym}
-use native.Mathlib.Omega.{arith}
 use Rattle.knowledge.specs.Seven.{nowOf}
 use Rattle.knowledge.proofs.Seven.{now-past, now-odd, now-even}
 use Rattle.knowledge.proofs.digit.now_side.Statement.{statement}

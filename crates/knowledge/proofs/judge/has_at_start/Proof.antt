@@ -1,7 +1,7 @@
 -- `knowledge::judge::has_at_start` meets its contract. The loop's invariant: the table has the value at every fitting valuation
 -- passed. The measure is what is left of the 2 ^ n valuations.
 use borrow.Author.Needs.{needs}
-use mathlib.Core.Path.{_≡_, sym, _∙_, ap}
+use mathlib.Core.Path.{_≡_, sym, _∙_}
 use mathlib.Core.Bool.{true}
 use Prim.Native.Nat.{_≤_, _-_, _^_}
 use native.Mathlib.Omega.{arith}

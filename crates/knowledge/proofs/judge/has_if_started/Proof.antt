@@ -3,7 +3,6 @@ use borrow.Author.Needs.{needs}
 use mathlib.Core.Path.{sym, _∙_, ap}
 use mathlib.Core.Bool.{not}
 use borrow.Author.Tests.{not-true, not-false}
-use Rattle.knowledge.specs.Fits.{implies}
 use Rattle.knowledge.proofs.judge.has_if_started.Statement.{statement}
 use Rattle.knowledge.proofs.judge.has_if_started.Tie as tie
 

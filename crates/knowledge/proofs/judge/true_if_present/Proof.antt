@@ -1,7 +1,6 @@
 -- `knowledge::judge::true_if_present` meets its contract: by whether the valuation fits.
 use borrow.Author.Needs.{needs}
 use mathlib.Core.Path.{sym, _∙_}
-use Rattle.knowledge.specs.Fits.{implies}
 use Rattle.knowledge.proofs.judge.true_if_present.Statement.{statement}
 use Rattle.knowledge.proofs.judge.true_if_present.Tie as tie
 

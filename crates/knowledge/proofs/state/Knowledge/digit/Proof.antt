@@ -1,6 +1,5 @@
 -- `knowledge::Knowledge::digit` meets its contract: past the seven digits the list has none.
 use borrow.Author.Needs.{needs}
-use Prim.Native.Nat.{_≤_}
 use mathlib.Core.Path.{_≡_, sym}
 use native.Mathlib.Omega.{arith}
 use lib.ListN.{length, List·getD-eq-default}

@@ -1,6 +1,6 @@
 -- `knowledge::Knowledge::from_number` meets its contract: the digits as they are written out.
 use borrow.Author.Needs.{needs}
-use native.Mathlib.Nat.{pow-zero, div-one}
+use native.Mathlib.Nat.{div-one}
 use Rattle.ground.specs.Digits.{digit}
 use Rattle.knowledge.specs.Number.{digitsOf}
 use Rattle.knowledge.proofs.state.Knowledge.from_number.Statement.{statement}
