@@ -2,8 +2,8 @@
 use mathlib.Core.Path.{sym}
 use lib.Seq.{length-take-le}
 use borrow.Author.Needs.{needs}
-use Rattle.marked.proofs.sheets.say_printed.Statement.{statement}
-use Rattle.marked.proofs.sheets.say_printed.Tie as tie
+use Rattle.examples.proofs.sheets.say_printed.Statement.{statement}
+use Rattle.examples.proofs.sheets.say_printed.Tie as tie
 
 slice-aggregate-say : tie.Need-slice-aggregate-say
 slice-aggregate-say c = sym (length-take-le _ _ (search needs))

@@ -1,6 +1,7 @@
 // The formula reader's examples: P1 to P5, and texts of 255 and 256 bytes.
 use crate::say::say;
 use crate::say::say_number;
+use crate::say::say_refused;
 use formula::Answer;
 
 // One line: the example's name, then byte 0 of the table or the refusal.
@@ -14,12 +15,7 @@ fn show(name: &[u8], n: usize, text: &[u8]) {
             say(b" byte 0 is ");
             say_number(table[0] as u64);
         }
-        Answer::Refused(why) => {
-            say(b" refused ");
-            say_number(why.number());
-            say(b" at ");
-            say_number(why.place() as u64);
-        }
+        Answer::Refused(why) => say_refused(why.number(), why.place()),
     }
     say(b"\n");
 }

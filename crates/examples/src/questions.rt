@@ -2,6 +2,7 @@
 // bytes at n = 2, and a book with the greatest rank that three settings have.
 use crate::say::say;
 use crate::say::say_number;
+use crate::say::say_refused;
 use finder::Answer;
 use finder::Question;
 
@@ -65,12 +66,7 @@ fn show(name: &[u8], answer: Answer, plan: &[u8]) {
             }
         }
         Answer::Cannot => say(b" cannot"),
-        Answer::Refused(why) => {
-            say(b" refused ");
-            say_number(why.number());
-            say(b" at ");
-            say_number(why.place() as u64);
-        }
+        Answer::Refused(why) => say_refused(why.number(), why.place()),
     }
     say(b"\n");
 }

@@ -1,5 +1,5 @@
 // The marked examples of paper 01 and its list "Run by a program", run: what each gives is held to
-// crates/marked/stdout. That the marked examples are so is proved in proofs/Marked.
+// crates/examples/stdout. That the marked examples are so is proved in crates/marked.
 mod books;
 mod formulas;
 mod questions;

@@ -1,8 +1,0 @@
-// What the examples print, to standard output.
-pub(crate) fn say(text: &[u8]) {
-    io::write_all(1, text);
-}
-
-pub(crate) fn say_number(x: u64) {
-    io::print_decimal(1, x);
-}
