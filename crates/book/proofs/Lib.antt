@@ -1,8 +1,5 @@
 -- Laws that belong to no one function, and the theorems that others cite.
 pub mod Lists
-pub mod Bits
-pub mod Answers
-pub mod OrderLaws
 pub mod CheckLaws
 pub mod StrayLaws
 pub mod BookLaws

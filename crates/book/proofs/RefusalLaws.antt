@@ -8,15 +8,16 @@ use native.Mathlib.Omega.{arith}
 use lib.Dec.{lit<}
 use lib.ListN.{length, getD, drop}
 use lib.Seq.{getD-take}
-use Rattle.ground.specs.Search.{Least}
+use Rattle.ground.specs.Search.{Least, Lowest}
 use Rattle.book.specs.Block.{blocks, block, RightCheck}
-use Rattle.book.specs.Sound.{SettingsFit, PostsFit, Tables, SettingBlock, Sound, tablesOf}
-use Rattle.book.specs.Order.{First}
+use Rattle.ground.specs.Bounds.{SettingsFit, PostsFit}
+use Rattle.book.specs.Sound.{Tables, SettingBlock, Sound, tablesOf}
+use Rattle.ground.specs.Order.{First}
 use Rattle.book.specs.Refusals.{Whole, settingsOf, postsOf, RightHead, bookRows, writeRows}
-use Rattle.book.specs.Inner.{Lowest, Clean}
+use Rattle.book.specs.Inner.{Clean}
 use Rattle.book.proofs.Lists.{getD-part}
-use Rattle.book.proofs.Answers.{lowest-map}
-use Rattle.book.proofs.OrderLaws.{least-only, none-only}
+use Rattle.ground.proofs.Answers.{lowest-map}
+use Rattle.ground.proofs.OrderLaws.{least-only, none-only}
 use Rattle.book.proofs.CheckLaws.{block-byte}
 use Rattle.book.proofs.StrayLaws.{tables-clean, clean-tables, block-clean, clean-block, clean-same}
 use Rattle.book.proofs.BookLaws.{whole-length, first-byte, head-settings, head-posts}

@@ -19,10 +19,11 @@ use Rattle.book.specs.declared.rule.Right.the-variants.{Look, Set}
 use Rattle.book.specs.Block.{Zeros}
 use Rattle.book.specs.Rule.{tablePlace, table}
 use Rattle.book.specs.Sound.{Tables, SettingBlock}
-use Rattle.book.specs.Inner.{Tells, live, Clean}
+use Rattle.ground.specs.Tells.{Tells}
+use Rattle.book.specs.Inner.{live, Clean}
 use Rattle.book.proofs.Lists.{getD-part}
 use Rattle.ground.proofs.Bools.{lt-or-ge}
-use Rattle.book.proofs.Bits.{high-bit, low-bits}
+use Rattle.ground.proofs.HighBits.{high-bit, low-bits}
 
 pub live-none : (all m j : ℕ) → 32 * m ≤ j → live all m j ≡ 0
 unfolding live

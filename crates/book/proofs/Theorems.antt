@@ -20,12 +20,13 @@ use Rattle.book.specs.declared.writing.WriteAnswer.{WriteAnswer}
 use Rattle.book.specs.declared.writing.WriteAnswer.the-variants.{Written, Refused as NotWritten}
 use Rattle.book.specs.Block.{check, sumsAfter, added, blocks}
 use Rattle.book.specs.Rule.{rulePlace}
-use Rattle.book.specs.Sound.{SettingsFit, Sound, rightsOf}
+use Rattle.ground.specs.Bounds.{SettingsFit}
+use Rattle.book.specs.Sound.{Sound, rightsOf}
 use Rattle.book.specs.Written.{bookOf, Writable}
-use Rattle.book.specs.Order.{only, First}
+use Rattle.ground.specs.Order.{only, First}
 use Rattle.book.specs.Refusals.{number, place, Whole, settingsOf, bookRows, readRows, writeRows}
 use Rattle.book.specs.Promise.{Judges, Reads, Writes}
-use Rattle.book.proofs.OrderLaws.{first-unique, first-clear}
+use Rattle.ground.proofs.OrderLaws.{first-unique, first-clear}
 use Rattle.book.proofs.WriteLaws.{length-rights}
 use Rattle.book.proofs.SoundLaws.{sound-settings, sound-posts, sound-clear, length-book, writable-clear, read-clear}
 use Rattle.book.proofs.RoundTrip.{book-again, read-writable, written-sound, rights-again}

@@ -4,18 +4,11 @@ use mathlib.Core.Bool.{true, false}
 use Prim.Native.Nat.{ℕ, _+_, _-_, _*_, _%_, _^_, _≤_, _<_, min}
 use lib.Dec.{leb}
 use lib.ListN.{length, getD}
-pub use Rattle.ground.specs.Tells.{Tells}
 use Rattle.book.specs.declared.writing.WriteAnswer.{WriteAnswer}
 use Rattle.book.specs.declared.writing.WriteAnswer.the-variants.{Written, Refused}
 use Rattle.book.specs.Written.{Writable}
-use Rattle.book.specs.Order.{First}
+use Rattle.ground.specs.Order.{First}
 use Rattle.book.specs.Refusals.{number, place, writeRows}
-
--- r is the lowest number below n at which P fails, and n where it fails at none
-pub record Lowest (n : ℕ) (P : ℕ → Type 0) (r : ℕ) : Type 0 where
-  pub within : r ≤ n
-  pub before : (k : ℕ) → k < r → P k
-  pub here : r < n → P r → ⊥
 
 -- how many low bits of byte j of a setting may be set, where there are `all` = 2^n valuations and m posts
 unfoldable pub live : ℕ → ℕ → ℕ → ℕ

@@ -4,7 +4,6 @@ pub mod Block
 pub mod Rule
 pub mod Sound
 pub mod Written
-pub mod Order
 pub mod Refusals
 pub mod Promise
 pub mod Inner

@@ -9,7 +9,7 @@ use Rattle.book.specs.declared.writing.WriteAnswer.{WriteAnswer}
 use Rattle.book.specs.declared.writing.WriteAnswer.the-variants.{Written, Refused as NotWritten}
 use Rattle.book.specs.Sound.{Sound, rightsOf}
 use Rattle.book.specs.Written.{bookOf, Writable}
-use Rattle.book.specs.Order.{First}
+use Rattle.ground.specs.Order.{First}
 use Rattle.book.specs.Refusals.{number, place, bookRows, readRows, writeRows}
 
 -- `sound`: the book's n and m, or the first of "the book's 6 to 9"

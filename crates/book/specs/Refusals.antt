@@ -6,8 +6,9 @@ use lib.ListN.{length, getD}
 use Rattle.book.specs.declared.refusal.Refusal.{Refusal}
 use Rattle.book.specs.declared.refusal.Refusal.the-variants.{Settings, Length, Check, Head as WrongHead, StrayBit, Room}
 use Rattle.book.specs.Block.{blocks, block, RightCheck}
-use Rattle.book.specs.Sound.{SettingsFit, PostsFit, Head, Tables, SettingBlock, tablesOf}
-use Rattle.book.specs.Order.{Row, only}
+use Rattle.ground.specs.Bounds.{SettingsFit, PostsFit}
+use Rattle.book.specs.Sound.{Head, Tables, SettingBlock, tablesOf}
+use Rattle.ground.specs.Order.{Row, only}
 
 -- "A refusal gives a number and a place. [..] Place is 0 unless named."
 abbrev pub number : Refusal → ℕ

@@ -3,19 +3,11 @@ use mathlib.Core.Path.{_≡_}
 use mathlib.Core.List.{List}
 use Prim.Native.Nat.{ℕ, _+_, _*_, _≤_, _<_}
 use lib.ListN.{length, getD, take, drop}
+use Rattle.ground.specs.Bounds.{SettingsFit, PostsFit}
 use Rattle.ground.specs.Table.{Within}
 use Rattle.book.specs.declared.rule.Right.{Right}
 use Rattle.book.specs.Block.{block, Zeros, RightCheck, inOrder}
 use Rattle.book.specs.Rule.{table}
-
--- "Settings n: 1 to 7", "Posts m: 1 to 8"
-pub record SettingsFit (n : ℕ) : Type 0 where
-  pub least : 1 ≤ n
-  pub most : n ≤ 7
-
-pub record PostsFit (m : ℕ) : Type 0 where
-  pub least : 1 ≤ m
-  pub most : m ≤ 8
 
 -- "Head: byte 0 is n, byte 1 is m, bytes 2 to 507 zero."
 pub record Head (n m : ℕ) (bytes : List ℕ) : Type 0 where

@@ -4,7 +4,8 @@ use mathlib.Core.List.{List, [], _∷_, _++_}
 use Prim.Native.Nat.{ℕ, _*_, _/_, _%_, _<_}
 use lib.ListN.{length, replicate}
 use Rattle.book.specs.Block.{check, inOrder}
-use Rattle.book.specs.Sound.{SettingsFit, PostsFit, Tables, tablesOf}
+use Rattle.ground.specs.Bounds.{SettingsFit, PostsFit}
+use Rattle.book.specs.Sound.{Tables, tablesOf}
 
 -- "16-bit numbers, low byte first"
 unfoldable pub bytes16 : ℕ → List ℕ

@@ -17,7 +17,7 @@ ghost use Rattle.book.specs.Block.{Zeros};
 ghost use Rattle.book.specs.Sound.{rightsOf};
 ghost use Rattle.book.specs.Refusals.{Whole, RightHead};
 ghost use Rattle.book.specs.Promise.{Judges, Reads};
-ghost use Rattle.book.specs.Inner.{Tells};
+ghost use Rattle.ground.specs.Tells.{Tells};
 
 // What the reader says of a book.
 pub enum ReadAnswer {

@@ -6,7 +6,9 @@ use ground::TABLE;
 ghost use mathlib.Core.Path.{_≡_};
 ghost use Prim.Native.Nat.{_+_, _*_, _^_, _≤_, _<_};
 ghost use lib.ListN.{drop};
-ghost use Rattle.book.specs.Inner.{Tells, Lowest, live, Clean};
+ghost use Rattle.ground.specs.Tells.{Tells};
+ghost use Rattle.ground.specs.Search.{Lowest};
+ghost use Rattle.book.specs.Inner.{live, Clean};
 
 // How many low bits of a setting's byte j may be set, for `all` = 2^n valuations and m posts.
 fn live_bits(all: usize, m: u8, j: usize) -> usize

@@ -8,7 +8,8 @@ ghost use mathlib.Core.Path.{_≡_};
 ghost use Prim.Native.Nat.{_+_, _%_, _^_, _≤_};
 ghost use lib.ListN.{drop};
 ghost use Rattle.book.specs.Block.{added, check, number16, block, RightCheck};
-ghost use Rattle.book.specs.Inner.{Tells, Lowest};
+ghost use Rattle.ground.specs.Tells.{Tells};
+ghost use Rattle.ground.specs.Search.{Lowest};
 
 // The two sums.
 pub struct Sums {

@@ -15,9 +15,9 @@ use Rattle.knowledge.specs.Seven.{firstDigit}
 use Rattle.knowledge.proofs.Number.{sum-lt, sum-short, sum-ext}
 use Rattle.knowledge.proofs.Seven.{first-lt}
 use Rattle.knowledge.proofs.States.{first-in}
-use Rattle.book.specs.Order.{First}
+use Rattle.ground.specs.Order.{First}
 use Rattle.book.proofs.Lists.{sets-front}
-use Rattle.book.proofs.OrderLaws.{least-only, first-left, first-right}
+use Rattle.ground.proofs.OrderLaws.{least-only, first-left, first-right}
 use Rattle.book.proofs.SoundLaws.{sound-settings}
 use Rattle.plan.specs.Plans.{System, Plan}
 use Rattle.plan.specs.Ranks.{Reach as ReachIn, Cannot as CannotFrom, Written}

@@ -4,14 +4,14 @@ use mathlib.Core.Logic.{inl, inr}
 use mathlib.Core.List.{List, [], _∷_, _++_}
 use Prim.Native.Nat.{ℕ}
 use Rattle.book.specs.Sound.{Sound}
-use Rattle.book.specs.Order.{only, First, Clear}
+use Rattle.ground.specs.Order.{only, First, Clear}
 use Rattle.book.specs.Refusals.{settingsOf, postsOf, bookRows}
 use Rattle.book.specs.Refusals.{number, place}
 use Rattle.book.specs.Promise.{Judges}
 use Rattle.book.specs.declared.refusal.Refusal as B
 use Rattle.book.specs.declared.reading.ReadAnswer.{ReadAnswer}
 use Rattle.book.specs.declared.reading.ReadAnswer.the-variants.{Book, Refused}
-use Rattle.book.proofs.OrderLaws.{least-only, none-only, first-left, first-right, clear-append}
+use Rattle.ground.proofs.OrderLaws.{least-only, none-only, first-left, first-right, clear-append}
 use Rattle.book.proofs.SoundLaws.{sound-settings, sound-posts, sound-clear}
 use Rattle.finder.specs.Rows.{TeamFits, KnownFits, GoalFits, questionRows}
 

@@ -7,9 +7,9 @@ use native.Mathlib.Omega.{arith}
 use lib.Dec.{lit<}
 use lib.ListN.{length}
 use Rattle.ground.specs.Search.{Least}
-use Rattle.book.specs.Order.{First, only}
+use Rattle.ground.specs.Order.{First, only}
 use Rattle.book.specs.Refusals.{bookRows, readRows}
-use Rattle.book.proofs.OrderLaws.{first-left, first-split}
+use Rattle.ground.proofs.OrderLaws.{first-left, first-split}
 use Rattle.book.proofs.Theorems.{read-place-most}
 use Rattle.book.proofs.Small as B
 use Rattle.plan.specs.Plans.{System}

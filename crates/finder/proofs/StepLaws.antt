@@ -29,7 +29,7 @@ use Rattle.sides.proofs.Numbers.{now-number-lt}
 use Rattle.plan.proofs.Acts.{after-a-set, after-a-look}
 use Rattle.plan.proofs.Certificate.{setTo-lt, lookAt-lt, numbers-closed}
 use Rattle.plan.proofs.Table.{chosen}
-use Rattle.sides.specs.Sides.{nowNumber}
+use Rattle.sides.specs.Sides.{nowSideNumber}
 use Rattle.sides.specs.Over.{entry}
 use Rattle.finder.specs.Told.{Told, Lower, Tries, family}
 
@@ -52,7 +52,7 @@ look-number k i b {ds} {es} hk hi d e r =
 pub number-small : (n k : ℕ) → n ≤ 7 → k < 7 ^ n → k < 7 ^ 7
 number-small n k h l = omega (arith, pow-le-pow-right {n = 7} (lit< tt) {i = n} {j = 7} h)
 
-pub side-small : (n k : ℕ) → n ≤ 7 → nowNumber n k < 2187
+pub side-small : (n k : ℕ) → n ≤ 7 → nowSideNumber n k < 2187
 side-small n k h = omega (arith, now-number-lt n k, pow-le-pow-right {n = 3} (lit< tt) {i = n} {j = 7} h)
 
 -- the entry as code reads it
@@ -99,22 +99,22 @@ lowest-last x q h ne l m f = elim (decide (bit x 7)) [
 
 module _ {n : ℕ} {sets looks : List (List ℕ)} {ranks : List ℕ} {S : System} (told : Told n sets looks ranks S) (k i : ℕ) (hi : i < n) where
   -- an act by a post that the mask does not have leads nowhere
-  set-bit : (q : ℕ) (b : Bool) → T (may S k (Set i q b)) → T (bit (entry sets i (nowNumber n k)) q)
+  set-bit : (q : ℕ) (b : Bool) → T (may S k (Set i q b)) → T (bit (entry sets i (nowSideNumber n k)) q)
   set-bit q b m = subst T (told .sets k i q b hi (told .law .post-of k (Set i q b) m)) m
 
-  look-bit : (q : ℕ) → T (may S k (Look i q)) → T (bit (entry looks i (nowNumber n k)) q)
+  look-bit : (q : ℕ) → T (may S k (Look i q)) → T (bit (entry looks i (nowSideNumber n k)) q)
   look-bit q m = subst T (told .looks k i q hi (told .law .post-of k (Look i q) m) (told .law .looks-at k i q m)) m
 
   nobody : (x q : ℕ) → x ≡ 0 → T (bit x q) → ⊥
   nobody x q e t = both (bit x q) t (false→T (ap (λ (y : ℕ). bit y q) e ∙ bit-of-zero q))
 
-  pub set-nobody : (b : Bool) → entry sets i (nowNumber n k) ≡ 0 → (q : ℕ) → Lower S ranks k (Set i q b) → ⊥
-  set-nobody b e q l = nobody (entry sets i (nowNumber n k)) q e (set-bit q b (l .allowed))
+  pub set-nobody : (b : Bool) → entry sets i (nowSideNumber n k) ≡ 0 → (q : ℕ) → Lower S ranks k (Set i q b) → ⊥
+  set-nobody b e q l = nobody (entry sets i (nowSideNumber n k)) q e (set-bit q b (l .allowed))
 
   pub set-no-lower : (b : Bool) → getD ranks k 0 ≤ getD ranks (setTo k i b) 0 → (q : ℕ) → Lower S ranks k (Set i q b) → ⊥
   set-no-lower b h q l = omega (arith, l .lower (setTo k i b) (after-set i q b))
 
-  pub set-do : (b : Bool) (q : ℕ) → q < 8 → Least (λ q. T (bit (entry sets i (nowNumber n k)) q)) q → getD ranks (setTo k i b) 0 < getD ranks k 0
+  pub set-do : (b : Bool) (q : ℕ) → q < 8 → Least (λ q. T (bit (entry sets i (nowSideNumber n k)) q)) q → getD ranks (setTo k i b) 0 < getD ranks k 0
       → (p : ℕ) × (Set i q b ≡ Set i p b) × Lower S ranks k (Set i p b) × ((x : ℕ) → Lower S ranks k (Set i x b) → p ≤ x)
   set-do b q h l r = (
     q,
@@ -126,13 +126,13 @@ module _ {n : ℕ} {sets looks : List (List ℕ)} {ranks : List ℕ} {S : System
   pub look-seen : (digit 7 k i ≡ 0 → ⊥) → (q : ℕ) → Lower S ranks k (Look i q) → ⊥
   look-seen f q l = f (told .law .looks-at k i q (l .allowed))
 
-  pub look-nobody : entry looks i (nowNumber n k) ≡ 0 → (q : ℕ) → Lower S ranks k (Look i q) → ⊥
-  look-nobody e q l = nobody (entry looks i (nowNumber n k)) q e (look-bit q (l .allowed))
+  pub look-nobody : entry looks i (nowSideNumber n k) ≡ 0 → (q : ℕ) → Lower S ranks k (Look i q) → ⊥
+  look-nobody e q l = nobody (entry looks i (nowSideNumber n k)) q e (look-bit q (l .allowed))
 
   pub look-no-lower : (b : Bool) → getD ranks k 0 ≤ getD ranks (lookAt k i b) 0 → (q : ℕ) → Lower S ranks k (Look i q) → ⊥
   look-no-lower b h q l = omega (arith, l .lower (lookAt k i b) (after-look i q b))
 
-  pub look-do : (q : ℕ) → q < 8 → digit 7 k i ≡ 0 → Least (λ q. T (bit (entry looks i (nowNumber n k)) q)) q
+  pub look-do : (q : ℕ) → q < 8 → digit 7 k i ≡ 0 → Least (λ q. T (bit (entry looks i (nowSideNumber n k)) q)) q
       → getD ranks (lookAt k i false) 0 < getD ranks k 0 → getD ranks (lookAt k i true) 0 < getD ranks k 0
       → (p : ℕ) × (Look i q ≡ Look i p) × Lower S ranks k (Look i p) × ((x : ℕ) → Lower S ranks k (Look i x) → p ≤ x)
   look-do q h d l f t = (

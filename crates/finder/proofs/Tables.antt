@@ -10,7 +10,7 @@ use lib.Dec.{T}
 use lib.ListN.{getD}
 use borrow.Author.Tests.{lt-ltb, eq-eqb}
 use Rattle.ground.specs.Digits.{digit, bit}
-use Rattle.ground.proofs.Bools.{T→false, false→T, both}
+use Rattle.ground.proofs.Bools.{T→false, false→T, both, and-true}
 use Rattle.ground.proofs.Search.{all-or, all-at}
 use Rattle.ground.proofs.Bits.{bit-of-zero}
 use Rattle.knowledge.specs.Fits.{known}
@@ -24,11 +24,11 @@ use Rattle.plan.specs.Certificate.{Leads, Certified}
 use Rattle.plan.proofs.Acts.{after-a-set, after-a-look}
 use Rattle.plan.proofs.Certificate.{certified, numbers-closed}
 use Rattle.plan.proofs.Team.{team-lawful}
-use Rattle.sides.specs.Sides.{nowNumber}
+use Rattle.sides.specs.Sides.{nowSideNumber}
 use Rattle.sides.specs.Over.{entry, PostTables, Made, Learnt, Marks, rankIf}
 use Rattle.sides.proofs.Tables.{post-known, goal-marked}
-use Rattle.spread.specs.Spread.{rank, May, Lowers, by-set, by-look, Spread}
-use Rattle.finder.specs.Question.{settled, systemOf}
+use Rattle.spread.specs.Spread.{rank, May, HasLower, by-set, by-look, Spread}
+use Rattle.finder.specs.Question.{goalSettled, systemOf}
 use Rattle.finder.specs.Told.{Told}
 use Rattle.finder.proofs.StepLaws.{some-bit}
 
@@ -48,10 +48,6 @@ mask-post x h l = elim (all-or 8 (λ q. not (bit x q))) [
     not-not true h = tt
     not-not false h = h
 
-and-true : (x : Bool) → x && true ≡ x
-and-true true = refl
-and-true false = refl
-
 -- ---- marks
 
 rank-goal : (b : Bool) → T b → rankIf b ≡ 0
@@ -67,23 +63,23 @@ rank-either false = inr refl
 
 module _ (n : ℕ) (make learn : List ℕ) {made learnt old marks : List ℕ} (hm : Made n make made) (hl : Learnt n learn learnt) (marked : Marks n made learnt old marks) where
   -- the mark of a state is its goal
-  mark-is : (k : ℕ) → k < 7 ^ n → getD marks k 0 ≡ rankIf (settled n make learn k)
-  unfolding settled
+  mark-is : (k : ℕ) → k < 7 ^ n → getD marks k 0 ≡ rankIf (goalSettled n make learn k)
+  unfolding goalSettled
   mark-is k h = goal-marked make learn hm hl marked k h
 
   pub marks-ready : n ≤ 7 → (k : ℕ) → k < 7 ^ n → (getD marks k 0 ≡ 0) ⊎ (getD marks k 0 ≡ 255)
-  marks-ready few k h = elim (rank-either (settled n make learn k)) [ inl e ↦ inl (mark-is k h ∙ e) | inr e ↦ inr (mark-is k h ∙ e) ]
+  marks-ready few k h = elim (rank-either (goalSettled n make learn k)) [ inl e ↦ inl (mark-is k h ∙ e) | inr e ↦ inr (mark-is k h ∙ e) ]
 
   module _ (team : ℕ) (book : List ℕ) {set look : List (List ℕ)} {ranks : List ℕ} (few : n ≤ 7) (byte : team < 256) (hs : PostTables n book team set-rule set) (hk : PostTables n book team look-rule look) (spread : Spread n set look marks ranks) where
     law : Lawful n (systemOf n book team make learn)
     unfolding systemOf
-    law = team-lawful n book team (settled n make learn) byte
+    law = team-lawful n book team (goalSettled n make learn) byte
 
-    set-may : (k i q : ℕ) (b : Bool) → i < n → q < 8 → may (systemOf n book team make learn) k (Set i q b) ≡ bit (entry set i (nowNumber n k)) q
+    set-may : (k i q : ℕ) (b : Bool) → i < n → q < 8 → may (systemOf n book team make learn) k (Set i q b) ≡ bit (entry set i (nowSideNumber n k)) q
     unfolding systemOf offered permitted
     set-may k i q b h l = rw (lt-ltb i n h) (sym (post-known hs k i q h l))
 
-    look-may : (k i q : ℕ) → i < n → q < 8 → digit 7 k i ≡ 0 → may (systemOf n book team make learn) k (Look i q) ≡ bit (entry look i (nowNumber n k)) q
+    look-may : (k i q : ℕ) → i < n → q < 8 → digit 7 k i ≡ 0 → may (systemOf n book team make learn) k (Look i q) ≡ bit (entry look i (nowSideNumber n k)) q
     unfolding systemOf offered permitted
     look-may k i q h l z =
         rw (lt-ltb i n h, eq-eqb (digit 7 k i) 0 z)
@@ -91,35 +87,35 @@ module _ (n : ℕ) (make learn : List ℕ) {made learnt old marks : List ℕ} (h
 
     set-in : (k i q : ℕ) (b : Bool) → T (may (systemOf n book team make learn) k (Set i q b)) → May set n k i
     set-in k i q b m =
-        mask-some (entry set i (nowNumber n k)) q (subst T (set-may k i q b (law .setting-of k (Set i q b) m) (law .post-of k (Set i q b) m)) m)
+        mask-some (entry set i (nowSideNumber n k)) q (subst T (set-may k i q b (law .setting-of k (Set i q b) m) (law .post-of k (Set i q b) m)) m)
 
     look-in : (k i q : ℕ) → T (may (systemOf n book team make learn) k (Look i q)) → May look n k i
     look-in k i q m =
-        mask-some (entry look i (nowNumber n k)) q (subst T (look-may k i q (law .setting-of k (Look i q) m) (law .post-of k (Look i q) m) (law .looks-at k i q m)) m)
+        mask-some (entry look i (nowSideNumber n k)) q (subst T (look-may k i q (law .setting-of k (Look i q) m) (law .post-of k (Look i q) m) (law .looks-at k i q m)) m)
 
-    act-of : (k h : ℕ) → Lowers n set look ranks k h → (a : Act) × Leads (systemOf n book team make learn) (rank ranks) k h a
+    act-of : (k h : ℕ) → HasLower n set look ranks k h → (a : Act) × Leads (systemOf n book team make learn) (rank ranks) k h a
     act-of k h (by-set i b m may r) =
-        let q = mask-post (entry set i (nowNumber n k)) (hs .bytes i (nowNumber n k)) may in
+        let q = mask-post (entry set i (nowSideNumber n k)) (hs .bytes i (nowSideNumber n k)) may in
         (Set i (q .0) b, record { allowed = subst T (sym (set-may k i (q .0) b m (q .1))) (q .2); lower = λ x. after-a-set (λ x. rank ranks x < h) r })
     act-of k h (by-look i m may z r s) =
-        let q = mask-post (entry look i (nowNumber n k)) (hk .bytes i (nowNumber n k)) may in
+        let q = mask-post (entry look i (nowSideNumber n k)) (hk .bytes i (nowSideNumber n k)) may in
         (Look i (q .0), record { allowed = subst T (sym (look-may k i (q .0) m (q .1) z)) (q .2); lower = λ x. after-a-look (λ x. rank ranks x < h) r s })
 
-    lowers-of : (k h : ℕ) (a : Act) → Leads (systemOf n book team make learn) (rank ranks) k h a → Lowers n set look ranks k h
+    lowers-of : (k h : ℕ) (a : Act) → Leads (systemOf n book team make learn) (rank ranks) k h a → HasLower n set look ranks k h
     lowers-of k h (Set i q b) l = by-set i b (law .setting-of k (Set i q b) (l .allowed)) (set-in k i q b (l .allowed)) (l .lower _ (after-set i q b))
     lowers-of k h (Look i q) l =
         by-look i (law .setting-of k (Look i q) (l .allowed)) (look-in k i q (l .allowed)) (law .looks-at k i q (l .allowed)) (l .lower _ (after-look i q false)) (l .lower _ (after-look i q true))
 
-    goal-is : (k : ℕ) → systemOf n book team make learn .goal k ≡ settled n make learn k
+    goal-is : (k : ℕ) → systemOf n book team make learn .goal k ≡ goalSettled n make learn k
     unfolding systemOf
     goal-is k = refl
 
     good : Certified (λ k. k < 7 ^ n) (systemOf n book team make learn) (rank ranks)
     good = record {
       most = spread .most;
-      settled = λ k h g. spread .settled k h (mark-is k h ∙ rank-goal (settled n make learn k) (subst T (goal-is k) g));
+      settled = λ k h g. spread .settled k h (mark-is k h ∙ rank-goal (goalSettled n make learn k) (subst T (goal-is k) g));
       reached = λ k h l. elim (spread .reached k h l) [
-        | inl e ↦ inl (subst T (sym (goal-is k)) (goal-rank (settled n make learn k) (sym (mark-is k h) ∙ e)))
+        | inl e ↦ inl (subst T (sym (goal-is k)) (goal-rank (goalSettled n make learn k) (sym (mark-is k h) ∙ e)))
         | inr w ↦ inr (act-of k (rank ranks k) w)
       ];
       least = λ k h a x l. spread .least k h x (lowers-of k x a l);

@@ -14,7 +14,7 @@ use Rattle.ground.specs.Table.{truth}
 use Rattle.ground.proofs.Bools.{and-in, true→T}
 use Rattle.knowledge.specs.Fits.{known, learnSettled}
 use Rattle.knowledge.proofs.Known.{known-intro}
-use Rattle.book.proofs.OrderLaws.{first-clear}
+use Rattle.ground.proofs.OrderLaws.{first-clear}
 use Rattle.book.proofs.Theorems.{sound-one}
 use Rattle.book.proofs.Theorems as B
 use Rattle.plan.specs.Plans.{System, Plan, Permitted, Works, height}
@@ -26,7 +26,7 @@ use Rattle.plan.proofs.Written.{written-works, written-height}
 use Rattle.plan.proofs.Accepted.{written-most}
 use Rattle.plan.proofs.Secret.{secret}
 use Rattle.sides.specs.Over.{learnCount, learnTable, allSettled}
-use Rattle.finder.specs.Question.{settled, systemOf, startNumber, NoMaking}
+use Rattle.finder.specs.Question.{goalSettled, systemOf, startNumber, NoMaking}
 use Rattle.finder.specs.Rows.{number, place, findRows}
 use Rattle.finder.specs.Finds.{ValidQuestion, RanksFilled, Finds}
 use Rattle.finder.specs.declared.question.Question.{Question}
@@ -112,7 +112,7 @@ module _ (book : List ℕ) (q : Question) (make learn ranks plan : List ℕ) (r 
 -- with no making the goal is settled where the learn formula is
 module _ (book : List ℕ) (q : Question) (make learn : List ℕ) where
   pub enough : (n : ℕ) → NoMaking n make → learnCount learn ≡ 1 → (k : ℕ) → T (learnSettled n (digit 7 k) (learnTable learn 0)) → T (System-of book q make learn n .goal k)
-  unfolding systemOf settled allSettled all
+  unfolding systemOf goalSettled allSettled all
   enough n one single k h =
       and-in (known n (digit 7 k) make) (all (learnCount learn) (λ j. learnSettled n (digit 7 k) (learnTable learn j)))
       (known-intro n (digit 7 k) make (λ v l t. true→T (one v l)))

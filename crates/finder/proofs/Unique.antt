@@ -13,8 +13,8 @@ use lib.Seq.{ext-getD}
 use Rattle.ground.proofs.Bools.{lt-or-ge}
 use Rattle.ground.proofs.Search.{least-unique}
 use Rattle.knowledge.specs.Fits.{known}
-use Rattle.book.specs.Order.{First, Clear}
-use Rattle.book.proofs.OrderLaws.{first-unique, first-clear, clear-append, none-only}
+use Rattle.ground.specs.Order.{First, Clear}
+use Rattle.ground.proofs.OrderLaws.{first-unique, first-clear, clear-append, none-only}
 use Rattle.book.proofs.SoundLaws.{sound-settings}
 use Rattle.book.proofs.Theorems.{sound-one}
 use Rattle.book.proofs.Theorems as B
@@ -25,7 +25,7 @@ use Rattle.plan.specs.Bytes.{encode}
 use Rattle.plan.proofs.Ranks.{rank-unique}
 use Rattle.plan.proofs.Written.{written-works, written-unique}
 use Rattle.plan.proofs.Team.{team-lawful}
-use Rattle.finder.specs.Question.{settled, systemOf, startNumber}
+use Rattle.finder.specs.Question.{goalSettled, systemOf, startNumber}
 use Rattle.finder.specs.Rows.{number, place, TeamFits, questionRows, findRows}
 use Rattle.finder.proofs.QuestionLaws.{low-bits}
 use Rattle.finder.specs.Finds.{ValidQuestion, Asks, RanksFilled, Answers, Finds}
@@ -90,7 +90,7 @@ team-byte {m} {team} h t = omega (arith, low-bits team m team (below-power team)
 module _ {book : List ℕ} {q : Question} {make learn : List ℕ} {n m : ℕ} (v : ValidQuestion book q make learn n m) where
   pub lawful : Lawful n (systemOf n book (q .team) make learn)
   unfolding systemOf
-  lawful = team-lawful n book (q .team) (settled n make learn) (team-byte (v .sound .posts .most) (v .team))
+  lawful = team-lawful n book (q .team) (goalSettled n make learn) (team-byte (v .sound .posts .most) (v .team))
 
   pub few : n ≤ 7
   few = v .sound .settings .most

@@ -14,12 +14,12 @@ use Rattle.sides.specs.Over.{allSettled}
 
 -- "The goal is settled when the make formula is true at every fitting present valuation, and each learn formula has one same value at all fitting
 -- start valuations."
-unfoldable pub settled : ℕ → List ℕ → List ℕ → ℕ → Bool
-settled n make learn k = known n (digit 7 k) make && allSettled n (digit 7 k) learn
+unfoldable pub goalSettled : ℕ → List ℕ → List ℕ → ℕ → Bool
+goalSettled n make learn k = known n (digit 7 k) make && allSettled n (digit 7 k) learn
 
 -- the system of a question over n settings
 unfoldable pub systemOf : ℕ → List ℕ → ℕ → List ℕ → List ℕ → System
-systemOf n book team make learn = ofTeam n book team (settled n make learn)
+systemOf n book team make learn = ofTeam n book team (goalSettled n make learn)
 
 -- "At the start each digit is 0, 3 or 6": the knowledge number of what the team knows
 unfoldable pub startNumber : ℕ → ℕ → ℕ

@@ -6,7 +6,7 @@ use lib.Dec.{T}
 use lib.ListN.{length}
 use Rattle.ground.specs.Digits.{bit}
 use Rattle.ground.specs.Table.{Within}
-use Rattle.book.specs.Order.{Row, only}
+use Rattle.ground.specs.Order.{Row, only}
 use Rattle.book.specs.Refusals.{settingsOf, postsOf, bookRows}
 use Rattle.book.specs.Refusals as B
 use Rattle.sides.specs.Over.{learnCount, learnTable}

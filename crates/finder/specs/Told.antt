@@ -13,7 +13,7 @@ use Rattle.plan.specs.Plans.{System, Lawful, may, Plan}
 use Rattle.plan.specs.Bytes.{encode}
 use Rattle.plan.specs.Ranks.{IsRank, Chosen, Written}
 use Rattle.plan.specs.Certificate.{Leads}
-use Rattle.sides.specs.Sides.{nowNumber}
+use Rattle.sides.specs.Sides.{nowSideNumber}
 use Rattle.sides.specs.Over.{entry}
 use Rattle.finder.specs.declared.steps.Step.{Step}
 use Rattle.finder.specs.declared.steps.Step.the-variants.{Stop, Do}
@@ -22,8 +22,8 @@ use Rattle.finder.specs.declared.steps.Step.the-variants.{Stop, Do}
 pub record Told (n : ℕ) (set look : List (List ℕ)) (ranks : List ℕ) (S : System) : Type 0 where
   pub few : n ≤ 7
   pub law : Lawful n S
-  pub sets : (k i q : ℕ) (b : Bool) → i < n → q < 8 → may S k (Set i q b) ≡ bit (entry set i (nowNumber n k)) q
-  pub looks : (k i q : ℕ) → i < n → q < 8 → digit 7 k i ≡ 0 → may S k (Look i q) ≡ bit (entry look i (nowNumber n k)) q
+  pub sets : (k i q : ℕ) (b : Bool) → i < n → q < 8 → may S k (Set i q b) ≡ bit (entry set i (nowSideNumber n k)) q
+  pub looks : (k i q : ℕ) → i < n → q < 8 → digit 7 k i ≡ 0 → may S k (Look i q) ≡ bit (entry look i (nowSideNumber n k)) q
   pub ranked : (k : ℕ) → k < 7 ^ n → IsRank S k (getD ranks k 0)
 
 -- the act leads from k to lower entries of the rank table

@@ -13,7 +13,7 @@ ghost use Rattle.ground.specs.Search.{Least};
 ghost use Rattle.knowledge.specs.Acts.{setTo, lookAt, ofKind};
 ghost use Rattle.knowledge.specs.declared.act.Act.the-variants.{Set, Look};
 ghost use Rattle.plan.specs.Plans.{System};
-ghost use Rattle.sides.specs.Sides.{nowNumber};
+ghost use Rattle.sides.specs.Sides.{nowSideNumber};
 ghost use Rattle.finder.specs.Told.{Told, Tries, family, Chooses};
 
 pub enum Step {
@@ -65,7 +65,7 @@ fn set_step(
     i: u8,
     value: bool,
 ) -> Step
-    requires { ⌜ (n ≤ 7) × (k < 7 ^ n) × (7 ^ n ≤ length (now ranks)) × (side ≡ nowNumber n k) × (i < n) ⌝ }
+    requires { ⌜ (n ≤ 7) × (k < 7 ^ n) × (7 ^ n ≤ length (now ranks)) × (side ≡ nowSideNumber n k) × (i < n) ⌝ }
     ensures { λ r. ⌜ ((S : System) → Told n (now (set .entry)) (now (look .entry)) (now (ranks .entry)) S → Tries S (now (ranks .entry)) k (λ q. Set i q value) r) ⌝ }
 {
     let posts = set[i as usize][side];
@@ -93,7 +93,7 @@ fn look_step(
     side: usize,
     i: u8,
 ) -> Step
-    requires { ⌜ (n ≤ 7) × (k < 7 ^ n) × (7 ^ n ≤ length (now ranks)) × (side ≡ nowNumber n k) × (i < n) ⌝ }
+    requires { ⌜ (n ≤ 7) × (k < 7 ^ n) × (7 ^ n ≤ length (now ranks)) × (side ≡ nowSideNumber n k) × (i < n) ⌝ }
     ensures { λ r. ⌜ ((S : System) → Told n (now (set .entry)) (now (look .entry)) (now (ranks .entry)) S → Tries S (now (ranks .entry)) k (λ q. Look i q) r) ⌝ }
 {
     if Knowledge::from_number(k).digit(i) != 0 {
@@ -128,7 +128,7 @@ fn step_of(
     side: usize,
     pair: u8,
 ) -> Step
-    requires { ⌜ (n ≤ 7) × (k < 7 ^ n) × (7 ^ n ≤ length (now ranks)) × (side ≡ nowNumber n k) × (pair < 21) ⌝ }
+    requires { ⌜ (n ≤ 7) × (k < 7 ^ n) × (7 ^ n ≤ length (now ranks)) × (side ≡ nowSideNumber n k) × (pair < 21) ⌝ }
     ensures { λ r. ⌜ ((S : System) → Told n (now (set .entry)) (now (look .entry)) (now (ranks .entry)) S → Tries S (now (ranks .entry)) k (family pair) r) ⌝ }
 {
     let i = pair % 7;

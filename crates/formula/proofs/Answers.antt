@@ -6,7 +6,8 @@ use Prim.Native.Nat.{ℕ, _≤_}
 use native.Mathlib.Omega.{arith}
 use lib.ListN.{length, replicate}
 use Rattle.formula.specs.Grammar.{sum}
-use Rattle.formula.specs.Read.{number, place, SettingsFit, LengthFits, Foreign, Refuses, two, three, four, Reads}
+use Rattle.ground.specs.Bounds.{SettingsFit}
+use Rattle.formula.specs.Read.{number, place, LengthFits, Foreign, Refuses, two, three, four, Reads}
 use Rattle.formula.specs.Words.{Holds, BytesOf, has}
 use Rattle.formula.specs.Automaton.{wants, breaks, verdict, Parsed}
 use Rattle.formula.specs.Scans.{Scans}

@@ -14,7 +14,8 @@ use Rattle.ground.specs.Table.{truth, Within, TableOf}
 use Rattle.ground.proofs.Bools.{and-left, and-right, or-right, beq→eq, both, lt-or-ge}
 use Rattle.ground.proofs.Search.{all-at}
 use Rattle.formula.specs.Grammar.{Sentence, sum, text, meaning}
-use Rattle.formula.specs.Read.{isStray, isPast, SettingsFit, LengthFits, Foreign, Refuses, three, four, Accepts}
+use Rattle.ground.specs.Bounds.{SettingsFit}
+use Rattle.formula.specs.Read.{isStray, isPast, LengthFits, Foreign, Refuses, three, four, Accepts}
 use Rattle.formula.specs.Automaton.{wants, breaks, verdict}
 use Rattle.formula.proofs.Broken.{broken-place, broken-no-sentence}
 
@@ -38,7 +39,8 @@ module _ (n : ℕ) (s : List ℕ) (b : T (bounds n s)) where
   pub settings-fit : SettingsFit n
   unfolding bounds
   settings-fit =
-      (let h = and-left (leb 1 n && leb n 7) (leb 1 (length s) && leb (length s) 255) b in (leb→le 1 n (and-left (leb 1 n) (leb n 7) h), leb→le n 7 (and-right (leb 1 n) (leb n 7) h)))
+      (let h = and-left (leb 1 n && leb n 7) (leb 1 (length s) && leb (length s) 255) b in
+      record { least = leb→le 1 n (and-left (leb 1 n) (leb n 7) h); most = leb→le n 7 (and-right (leb 1 n) (leb n 7) h) })
 
   pub length-fits : LengthFits s
   unfolding bounds
@@ -58,7 +60,7 @@ module _ (n : ℕ) (s : List ℕ) (b : T (bounds n s)) where
       | inl m ↦ ltb→lt (getD t j 0) 256 (all-at 16 (λ j. ltb (getD t j 0) 256) small j m)
       | inr m ↦ subst (λ (x : ℕ). x < 256) (sym (List·getD-eq-default t 0 (omega (arith, l)))) (lit< tt)
     ];
-    tells = λ v m. (let low : v < 128 = omega (arith, pow-mono {i = n} {j = 7} (settings-fit .1)) in at v low ∙ ap (λ (x : Bool). x && meaning e v) (lt-ltb v (2 ^ n) m));
+    tells = λ v m. (let low : v < 128 = omega (arith, pow-mono {i = n} {j = 7} (settings-fit .most)) in at v low ∙ ap (λ (x : Bool). x && meaning e v) (lt-ltb v (2 ^ n) m));
     within = λ v m low. at v low ∙ ap (λ (x : Bool). x && meaning e v) (le-ltb v (2 ^ n) m);
   }
     where

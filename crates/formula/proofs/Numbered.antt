@@ -10,7 +10,8 @@ use lib.ListN.{length, getD}
 use Rattle.ground.specs.Search.{Least}
 use Rattle.ground.proofs.Bools.{decide, T→true, T→false, and-in, and-left, and-right, or-left, or-right}
 use Rattle.formula.specs.Grammar.{text, IsSentence}
-use Rattle.formula.specs.Read.{isStray, isPast, SettingsFit, LengthFits, Foreign, Refuses, five, one, two, three, four, Reads}
+use Rattle.ground.specs.Bounds.{SettingsFit}
+use Rattle.formula.specs.Read.{isStray, isPast, LengthFits, Foreign, Refuses, five, one, two, three, four, Reads}
 use Rattle.formula.specs.Automaton.{wants, Verdict, whole, breaks, verdict}
 use Rattle.formula.specs.Numbered.{numberIn, sentenceNumber, foreignNumber, formulaNumber}
 use Rattle.formula.specs.declared.Answer.{Answer}
@@ -76,11 +77,11 @@ foreign-first n (c ∷ s) later (suc i) l = passes n c s (l .none-below 0 (omega
 -- ---- the order
 
 settings-true : {n : ℕ} → SettingsFit n → (leb 1 n && leb n 7) ≡ true
-settings-true {n} h = T→true (leb 1 n && leb n 7) (and-in (leb 1 n) (leb n 7) (le→leb 1 n (h .0)) (le→leb n 7 (h .1)))
+settings-true {n} h = T→true (leb 1 n && leb n 7) (and-in (leb 1 n) (leb n 7) (le→leb 1 n (h .least)) (le→leb n 7 (h .most)))
 
 settings-false : {n : ℕ} → (SettingsFit n → ⊥) → (leb 1 n && leb n 7) ≡ false
 settings-false {n} none = elim (decide (leb 1 n && leb n 7)) [
-  | inl h ↦ absurd (none (leb→le 1 n (and-left (leb 1 n) (leb n 7) h), leb→le n 7 (and-right (leb 1 n) (leb n 7) h)))
+  | inl h ↦ absurd (none record { least = leb→le 1 n (and-left (leb 1 n) (leb n 7) h); most = leb→le n 7 (and-right (leb 1 n) (leb n 7) h) })
   | inr h ↦ T→false (leb 1 n && leb n 7) h
 ]
 

@@ -15,10 +15,10 @@ use borrow.Author.Tests.{lt-ltb, le-ltb}
 use Rattle.ground.specs.Digits.{bit, digit}
 use Rattle.ground.specs.Search.{all}
 use Rattle.ground.specs.Table.{truth, Within, TableOf}
-use Rattle.ground.proofs.Bools.{beq→eq, lt-or-ge}
+use Rattle.ground.proofs.Bools.{beq→eq, lt-or-ge, and-true}
 use Rattle.ground.proofs.Search.{all-at}
 use Rattle.ground.proofs.Bits.{bit-and, bit-or, bit-xor, bit-shr, bit-mod, bit-of-zero}
-use Rattle.formula.specs.Words.{pick, has, Holds, byteOf, BytesOf}
+use Rattle.formula.specs.Words.{pick, has, Holds, wordsByte, BytesOf}
 use Rattle.formula.specs.declared.words.Words.{Words}
 
 abbrev words : ℕ → ℕ → Words
@@ -112,10 +112,6 @@ and-false : (x : Bool) → x && false ≡ false
 and-false true = refl
 and-false false = refl
 
-and-true : (x : Bool) → x && true ≡ x
-and-true true = refl
-and-true false = refl
-
 -- the low word through a mask, the high one gone
 pub within-low : (a : Words) (n : ℕ) → n < 6 → Holds (words (bitAnd (a .low) (getD masks n 0)) 0) (λ v. has a v && below n v)
 unfolding Holds has
@@ -137,8 +133,8 @@ within-seven a n e v l = rw (e, lt-ltb v 128 l) (sym (and-true (has a v)))
 
 -- ---- the bytes
 
-byte-bit : (w : Words) (v : ℕ) → v < 128 → bit (byteOf w (v / 8)) (v % 8) ≡ has w v
-unfolding byteOf has
+byte-bit : (w : Words) (v : ℕ) → v < 128 → bit (wordsByte w (v / 8)) (v % 8) ≡ has w v
+unfolding wordsByte has
 byte-bit w v l = elim (lt-or-ge v 64) [
   | inl h ↦ rw (lt-ltb (v / 8) 8 (omega arith), lt-ltb v 64 h) (shifted (w .low) v (omega arith))
   | inr h ↦ rw (le-ltb (v / 8) 8 (omega arith), le-ltb v 64 h) (shifted (w .high) (v - 64) (omega arith))
@@ -152,7 +148,7 @@ unfolding truth
 bytes-tell w t b v l = ap (λ (x : ℕ). bit x (v % 8)) (b .each (v / 8) (omega arith)) ∙ byte-bit w v l
 
 bytes-small : (w : Words) (t : List ℕ) → BytesOf w t → (j : ℕ) → getD t j 0 < 256
-unfolding byteOf
+unfolding wordsByte
 bytes-small w t b j = elim (lt-or-ge j 16) [
   | inl h ↦ subst (λ (x : ℕ). x < 256) (sym (b .each j h)) (mod-lt (pick (ltb j 8) (w .low) (w .high) / 2 ^ (8 * (j % 8))) (lit< tt))
   | inr h ↦ subst (λ (x : ℕ). x < 256) (sym (List·getD-eq-default t 0 (omega (arith, b .sixteen)))) (lit< tt)
@@ -170,7 +166,7 @@ table-of {n} {f} w {u} {t} h hw hu b = record {
 }
 
 -- one more byte stored
-pub stored : (w : Words) (t : List ℕ) (j x : ℕ) → length t ≡ 16 → j < 16 → ((k : ℕ) → k < j → getD t k 0 ≡ byteOf w k) → x ≡ byteOf w j → (k : ℕ) → k < j + 1 → getD (set t j x) k 0 ≡ byteOf w k
+pub stored : (w : Words) (t : List ℕ) (j x : ℕ) → length t ≡ 16 → j < 16 → ((k : ℕ) → k < j → getD t k 0 ≡ wordsByte w k) → x ≡ wordsByte w j → (k : ℕ) → k < j + 1 → getD (set t j x) k 0 ≡ wordsByte w k
 stored w t j x n h f e k l = elim (lt-or-ge k j) [
   | inl m ↦ getD-set-other t j k x 0 (λ q. omega arith) ∙ f k m
   | inr m ↦ (let same : k ≡ j = omega arith in rw same (getD-set-same t j x 0 (omega arith) ∙ e))

@@ -5,6 +5,7 @@ use mathlib.Core.Bool.{Bool, not, _&&_, _||_}
 use Prim.Native.Nat.{ℕ, suc, _+_, _≤_, _<_}
 use lib.Dec.{T, leb, eqb}
 use lib.ListN.{length, getD, take, replicate}
+use Rattle.ground.specs.Bounds.{SettingsFit}
 use Rattle.ground.specs.Search.{Least}
 use Rattle.ground.specs.Table.{TableOf}
 use Rattle.ground.specs.Text.{byte}
@@ -45,10 +46,6 @@ isStray c = not (isLetter c || isSign c)
 -- 3: "letter at or past n"
 unfoldable pub isPast : ℕ → ℕ → Bool
 isPast n c = isLetter c && leb (byte "a" + n) c
-
--- "Settings n: 1 to 7"
-abbrev pub SettingsFit : ℕ → Type 0
-SettingsFit n = (1 ≤ n) × (n ≤ 7)
 
 -- "Formula: 1 to 255 bytes"
 abbrev pub LengthFits : List ℕ → Type 0

@@ -21,10 +21,10 @@ unfoldable pub Holds : Words → (ℕ → Bool) → Type 0
 Holds w f = (v : ℕ) → v < 128 → has w v ≡ f v
 
 -- byte j of the words
-unfoldable pub byteOf : Words → ℕ → ℕ
-byteOf w j = pick (ltb j 8) (w .low) (w .high) / 2 ^ (8 * (j % 8)) % 256
+unfoldable pub wordsByte : Words → ℕ → ℕ
+wordsByte w j = pick (ltb j 8) (w .low) (w .high) / 2 ^ (8 * (j % 8)) % 256
 
 -- t is the sixteen bytes of the words
 pub record BytesOf (w : Words) (t : List ℕ) : Type 0 where
   pub sixteen : length t ≡ 16
-  pub each : (j : ℕ) → j < 16 → getD t j 0 ≡ byteOf w j
+  pub each : (j : ℕ) → j < 16 → getD t j 0 ≡ wordsByte w j

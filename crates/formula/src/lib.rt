@@ -8,7 +8,8 @@ mod words;
 ghost use mathlib.Core.Path.{_≡_};
 ghost use Prim.Native.Nat.{ℕ};
 ghost use lib.ListN.{replicate};
-ghost use Rattle.formula.specs.Read.{number, place, Reads, SettingsFit, LengthFits, Foreign};
+ghost use Rattle.ground.specs.Bounds.{SettingsFit};
+ghost use Rattle.formula.specs.Read.{number, place, Reads, LengthFits, Foreign};
 use parts::Part;
 use scan::Scanned;
 

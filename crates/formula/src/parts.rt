@@ -7,19 +7,13 @@ ghost use Rattle.formula.specs.Grammar.{sum, product, unit};
 ghost use Rattle.formula.specs.Automaton.{Parses};
 use crate::scan::is_letter;
 use crate::words::Words;
+use ground::peek;
 
 pub enum Part {
     // A whole part: its table, and the place after it.
     Read(Words, usize),
     // The first byte with which no sentence goes on; or the text's length, where it ends too soon.
     Broken(usize),
-}
-
-// The byte at a place, 0 past the end.
-fn peek(text: &[u8], at: usize) -> u8
-    ensures { λ r. ⌜ r ≡ getD (now (text .entry)) at 0 ⌝ }
-{
-    if at < text.len() { text[at] } else { 0 }
 }
 
 // A unit: `~` and a unit, or a sum in round brackets, or a letter, or `0` or `1`.

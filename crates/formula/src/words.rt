@@ -4,7 +4,7 @@ ghost use mathlib.Core.Bool.{true, false, not, _&&_, _||_};
 ghost use Prim.Native.Nat.{ℕ, _<_, _^_};
 ghost use lib.Dec.{ltb};
 ghost use Rattle.ground.specs.Digits.{bit};
-ghost use Rattle.formula.specs.Words.{pick, has, Holds, byteOf, BytesOf};
+ghost use Rattle.formula.specs.Words.{pick, has, Holds, wordsByte, BytesOf};
 
 // Bit v of `low` for the valuations below 64, and bit v - 64 of `high` for the others.
 pub struct Words {
@@ -117,7 +117,7 @@ impl Words {
     }
 
     fn byte(self, j: usize) -> u8
-        ensures { λ r. ⌜ r ≡ byteOf self j ⌝ }
+        ensures { λ r. ⌜ r ≡ wordsByte self j ⌝ }
     {
         let word = self.word(j);
         ((word >> (8 * (j % 8))) % 256) as u8

@@ -21,6 +21,10 @@ false→T {a} e = subst (λ (x : Bool). T (not x)) (sym e) tt
 pub and-in : (a b : Bool) → T a → T b → T (a && b)
 and-in true b h k = k
 
+pub and-true : (a : Bool) → a && true ≡ a
+and-true true = refl
+and-true false = refl
+
 pub and-left : (a b : Bool) → T (a && b) → T a
 and-left true b h = tt
 

@@ -4,3 +4,6 @@ pub mod Search
 pub mod Bits
 pub mod Table
 pub mod Digits
+pub mod HighBits
+pub mod Answers
+pub mod OrderLaws

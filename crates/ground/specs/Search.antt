@@ -1,5 +1,5 @@
--- Tests over all numbers below n, as computed answers, and the least number with a property.
-use Prim.Native.Nat.{ℕ, zero, suc, _<_}
+-- Tests over all numbers below n, as computed answers, the least number with a property, and the lowest below n without one.
+use Prim.Native.Nat.{ℕ, zero, suc, _≤_, _<_}
 use mathlib.Core.Bool.{Bool, true, false, _&&_, _||_}
 
 -- f at every number below n
@@ -16,3 +16,9 @@ any (suc n) f = f n || any n f
 pub record Least (P : ℕ → Type 0) (i : ℕ) : Type 0 where
   pub here : P i
   pub none-below : (j : ℕ) → j < i → P j → ⊥
+
+-- r is the lowest number below n at which P fails, and n where it fails at none
+pub record Lowest (n : ℕ) (P : ℕ → Type 0) (r : ℕ) : Type 0 where
+  pub within : r ≤ n
+  pub before : (k : ℕ) → k < r → P k
+  pub here : r < n → P r → ⊥

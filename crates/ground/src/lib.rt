@@ -2,7 +2,7 @@
 // them. It refuses nothing and lends nothing; its specs say what a bit, a digit and a table are, and
 // its proofs hold the laws about them that the other crates cite.
 ghost use mathlib.Core.Path.{_≡_};
-ghost use lib.ListN.{drop};
+ghost use lib.ListN.{drop, getD};
 ghost use Rattle.ground.specs.Table.{truth, Within};
 ghost use Rattle.ground.specs.Tells.{Tells};
 
@@ -17,6 +17,13 @@ pub const SETTINGS_MOST: usize = 7;
 
 // The bytes of one formula's table: "A formula's table is 16 bytes".
 pub const TABLE: usize = 16;
+
+// The byte at a place, 0 past the end.
+pub fn peek(bytes: &[u8], at: usize) -> u8
+    ensures { λ r. ⌜ r ≡ getD (now (bytes .entry)) at 0 ⌝ }
+{
+    if at < bytes.len() { bytes[at] } else { 0 }
+}
 
 // Bit v of the bytes from `from` on, lowest first; bytes that are not there count as 0. A table has
 // the bits below 128.

@@ -8,7 +8,7 @@ use lib.Dec.{T, eqb, ltb, leb, eqb→eq, ltb→lt}
 use lib.ListN.{drop}
 use borrow.Author.Tests.{eq-eqb, ne-eqb}
 use Rattle.ground.specs.Digits.{bit}
-use Rattle.ground.proofs.Bools.{and-left, and-right}
+use Rattle.ground.proofs.Bools.{and-left, and-right, and-true}
 use Rattle.book.specs.Rule.{rule, rulePlace}
 use Rattle.book.specs.declared.rule.Right.the-variants.{Look as look-rule, Set as set-rule}
 use Rattle.knowledge.specs.Fits.{known}
@@ -17,10 +17,6 @@ use Rattle.knowledge.specs.declared.act.Act.{Act}
 use Rattle.knowledge.specs.declared.act.Act.the-variants.{Set, Look}
 use Rattle.knowledge.proofs.Fits.{guarded}
 use Rattle.knowledge.proofs.Known.{known-take}
-
-and-true : (a : Bool) → a && true ≡ a
-and-true true = refl
-and-true false = refl
 
 pub and-false : (a : Bool) → a && false ≡ false
 and-false true = refl

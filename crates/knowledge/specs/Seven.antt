@@ -14,17 +14,17 @@ told false = 1
 told true = 2
 
 -- a row of the table: start, now, set false, set true
-pub record Row : Type 0 where
+pub record DigitRow : Type 0 where
   pub start-side : ℕ
   pub now-side : ℕ
   pub set-false : ℕ
   pub set-true : ℕ
 
-abbrev row : ℕ → ℕ → ℕ → ℕ → Row
+abbrev row : ℕ → ℕ → ℕ → ℕ → DigitRow
 row s n f t = record { start-side = s; now-side = n; set-false = f; set-true = t }
 
 -- the table, by digit from 0 to 6
-unfoldable pub rows : List Row
+unfoldable pub rows : List DigitRow
 rows =
     row unknown unknown 1 2
     ∷ row unknown (told false) 1 2
@@ -36,7 +36,7 @@ rows =
     ∷ []
 
 -- the row of a digit; what is no digit tells nothing
-unfoldable pub rowOf : ℕ → Row
+unfoldable pub rowOf : ℕ → DigitRow
 unfolding rows
 rowOf d = getD rows d (row unknown unknown 0 0)
 

@@ -10,8 +10,8 @@ use Rattle.knowledge.specs.Number.{digitIn, numberOf, firstAt, firstDigits}
 use Rattle.knowledge.proofs.Seven.{first-lt}
 use Rattle.knowledge.proofs.Number.{sum-lt}
 use Rattle.knowledge.proofs.States.{number-state, first-state}
-use Rattle.book.specs.Order.{only, First}
-use Rattle.book.proofs.OrderLaws.{least-only, first-left, first-right}
+use Rattle.ground.specs.Order.{only, First}
+use Rattle.ground.proofs.OrderLaws.{least-only, first-left, first-right}
 use Rattle.plan.specs.Check.{Fault, no-act, not-permitted, not-settled, too-soon, left-over, Verdict, accepted, faulty, check}
 use Rattle.finder.specs.Question.{systemOf, startNumber}
 use Rattle.finder.specs.Rows.{questionRows}
@@ -23,7 +23,7 @@ use Rattle.finder.specs.declared.question.Asked.{Asked}
 use Rattle.finder.specs.declared.question.Asked.the-variants.{Valid, Not}
 use Rattle.finder.proofs.RowLaws.{question-clear}
 use Rattle.plancheck.specs.Refusals.{number, place, faultNumber, refusalOf, checkRows}
-use Rattle.plancheck.specs.Checks.{startOf, Judged, Refuses, Checks}
+use Rattle.plancheck.specs.Checks.{questionStart, JudgedAs, Refuses, Checks}
 use Rattle.plancheck.specs.Inner.{answerOf}
 use Rattle.plancheck.specs.declared.answer.Refusal.{Refusal}
 use Rattle.plancheck.specs.declared.answer.CheckAnswer.{CheckAnswer}
@@ -80,13 +80,13 @@ module _ (book : List ℕ) (q : Question) (make learn plan : List ℕ) where
       (question-clear book (q .team) (q .known) (q .values) make learn (v .sound) (v .team) (v .known) (v .goal)) (inl (refl, least-only l)))
 
   -- then the judgement on the bytes
-  pub judged-checks : (v : Verdict) → Judged book q make learn plan v → Checks book q make learn plan (answerOf v)
+  pub judged-checks : (v : Verdict) → JudgedAs book q make learn plan v → Checks book q make learn plan (answerOf v)
   judged-checks accepted j = j
   judged-checks (faulty f i) j =
-      inr (f, fault-number f i, subst (λ (p : ℕ). Judged book q make learn plan (faulty f p)) (sym (fault-place f i)) j)
+      inr (f, fault-number f i, subst (λ (p : ℕ). JudgedAs book q make learn plan (faulty f p)) (sym (fault-place f i)) j)
 
-  pub verdict-checks : {n m s : ℕ} {r : CheckAnswer} → ValidQuestion book q make learn n m → length plan ≤ 32640 → s ≡ startOf q
+  pub verdict-checks : {n m s : ℕ} {r : CheckAnswer} → ValidQuestion book q make learn n m → length plan ≤ 32640 → s ≡ questionStart q
       → r ≡ answerOf (check (systemOf n book (q .team) make learn) s plan) → Checks book q make learn plan r
   verdict-checks {n} {m} v l e f =
       subst (Checks book q make learn plan) (sym (f ∙ ap (λ (s : ℕ). answerOf (check (systemOf n book (q .team) make learn) s plan)) e))
-      (judged-checks (check (systemOf n book (q .team) make learn) (startOf q) plan) (record { n = n; m = m; valid = v; short = l; judged = refl }))
+      (judged-checks (check (systemOf n book (q .team) make learn) (questionStart q) plan) (record { n = n; m = m; valid = v; short = l; judged = refl }))

@@ -21,7 +21,7 @@ use Rattle.plan.specs.Plans.{may}
 use Rattle.plan.proofs.Check.{judge-on, judge-fails, read-act, read-unsettled}
 use Rattle.plan.specs.Check.{not-settled, faulty, check}
 use Rattle.sides.specs.Over.{learnTable, allSettled}
-use Rattle.finder.specs.Question.{settled, systemOf, startNumber}
+use Rattle.finder.specs.Question.{goalSettled, systemOf, startNumber}
 use Rattle.finder.specs.Finds.{ValidQuestion}
 use Rattle.finder.specs.declared.question.Question.{Question}
 use Rattle.plancheck.specs.Checks.{Checks}
@@ -50,7 +50,7 @@ first-set book e = subst (λ (t : List ℕ). T (known 1 (digit 7 0) t)) (sym e) 
 
 -- after which nothing is known of the start, so that the learn formula is not settled
 then-stop : (book : List ℕ) → T (not (systemOf 1 book 1 not-a is-a .goal (setTo 0 0 false)))
-unfolding systemOf settled allSettled learnTable setTo known learnSettled always fits agrees afterSet nowOf startOf truth all digit put bit
+unfolding systemOf goalSettled allSettled learnTable setTo known learnSettled always fits agrees afterSet nowOf startOf truth all digit put bit
 then-stop book = tt
 
 pub p10-judged : (book : List ℕ) → rule book 0 0 set-rule ≡ always-true

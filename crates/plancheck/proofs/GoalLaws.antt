@@ -16,7 +16,7 @@ use Rattle.knowledge.specs.Fits.{startSide, known, learnSettled}
 use Rattle.knowledge.proofs.Fits.{always-take}
 use Rattle.knowledge.proofs.Number.{digits-are}
 use Rattle.sides.specs.Over.{learnTable, allSettled}
-use Rattle.finder.specs.Question.{settled}
+use Rattle.finder.specs.Question.{goalSettled}
 
 -- a judgement that is guarded by at most seven settings
 pub unguarded : (n : ℕ) (b : Bool) → n ≤ 7 → leb n 7 && b ≡ b
@@ -49,8 +49,8 @@ module _ (n : ℕ) (d : ℕ → ℕ) (learn : List ℕ) (few : n ≤ 7) where
 
 module _ (n : ℕ) (make learn : List ℕ) (k : ℕ) (few : n ≤ 7) (small : k < 7 ^ 7) where
   -- the judgements on the state of k, as `is_settled` has them
-  pub goal-not : {ds : List ℕ} {r : Bool} → ds ≡ digitsOf k → r ≡ leb n 7 && known n (digitIn ds) make → r ≡ false → false ≡ settled n make learn k
-  unfolding settled
+  pub goal-not : {ds : List ℕ} {r : Bool} → ds ≡ digitsOf k → r ≡ leb n 7 && known n (digitIn ds) make → r ≡ false → false ≡ goalSettled n make learn k
+  unfolding goalSettled
   goal-not e f g =
       let made : known n (digit 7 k) make ≡ false =
       ap (λ (d : ℕ → ℕ). known n d make) (sym (digits-are k small)) ∙ ap (λ (l : List ℕ). known n (digitIn l) make) (sym e)
@@ -58,8 +58,8 @@ module _ (n : ℕ) (make learn : List ℕ) (k : ℕ) (few : n ≤ 7) (small : k 
       rw made
 
   pub goal-learnt : {ds : List ℕ} {r s : Bool} → ds ≡ digitsOf k → r ≡ leb n 7 && known n (digitIn ds) make → r ≡ true
-      → s ≡ allSettled n (digitIn ds) learn → s ≡ settled n make learn k
-  unfolding settled
+      → s ≡ allSettled n (digitIn ds) learn → s ≡ goalSettled n make learn k
+  unfolding goalSettled
   goal-learnt e f g h =
       let made : known n (digit 7 k) make ≡ true =
       ap (λ (d : ℕ → ℕ). known n d make) (sym (digits-are k small)) ∙ ap (λ (l : List ℕ). known n (digitIn l) make) (sym e)

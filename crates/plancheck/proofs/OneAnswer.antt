@@ -8,10 +8,10 @@ use Prim.Native.Nat.{ℕ, _≤_, _<_}
 use lib.ListN.{length}
 use native.Mathlib.Omega.{arith}
 use lib.Dec.{eqb, lit<, lit≤}
-use Rattle.book.specs.Order.{First, Clear, only}
+use Rattle.ground.specs.Order.{First, Clear, only}
 use Rattle.book.specs.declared.refusal.Refusal as B
 use Rattle.book.specs.declared.refusal.Refusal.the-variants.{Settings, Length, Check, Head, StrayBit, Room}
-use Rattle.book.proofs.OrderLaws.{none-only, first-unique, first-clear, clear-append, first-split}
+use Rattle.ground.proofs.OrderLaws.{none-only, first-unique, first-clear, clear-append, first-split}
 use Rattle.book.proofs.Theorems.{sound-one}
 use Rattle.plan.specs.Check.{Fault, no-act, not-permitted, not-settled, too-soon, left-over, Verdict, accepted, faulty, check}
 use Rattle.finder.specs.Rows.{questionRows}
@@ -21,7 +21,7 @@ use Rattle.finder.specs.declared.question.Refusal as R
 use Rattle.finder.specs.declared.question.Refusal.the-variants.{Book, Team, Known, Goal, Ranks, PlanRoom}
 use Rattle.finder.proofs.RowLaws.{question-clear}
 use Rattle.plancheck.specs.Refusals.{number, place, faultNumber, refusalOf, checkRows}
-use Rattle.plancheck.specs.Checks.{systemFor, startOf, Judged, Checks}
+use Rattle.plancheck.specs.Checks.{systemFor, questionStart, JudgedAs, Checks}
 use Rattle.plancheck.specs.Inner.{answerOf}
 use Rattle.plancheck.specs.declared.answer.Refusal.{Refusal}
 use Rattle.plancheck.specs.declared.answer.Refusal.the-variants.{Question as OfQuestion, TooLong, NoAct, NotPermitted, NotSettled, TooSoon, LeftOver}
@@ -108,18 +108,18 @@ answer-short (faulty f i) e =
 
 module _ (book : List ℕ) (q : Question) (make learn plan : List ℕ) where
   -- none of the rows is given where the bytes are judged
-  pub judged-clear : {v : Verdict} → Judged book q make learn plan v → Clear (checkRows book q make learn plan)
+  pub judged-clear : {v : Verdict} → JudgedAs book q make learn plan v → Clear (checkRows book q make learn plan)
   unfolding checkRows
   judged-clear j =
       clear-append (questionRows book (q .team) (q .known) (q .values) make learn) _
       (question-clear book (q .team) (q .known) (q .values) make learn (j .valid .sound) (j .valid .team) (j .valid .known) (j .valid .goal))
       (none-only (λ l. omega (arith, j .short)), tt)
 
-  pub judged-one : {v w : Verdict} → Judged book q make learn plan v → Judged book q make learn plan w → v ≡ w
+  pub judged-one : {v w : Verdict} → JudgedAs book q make learn plan v → JudgedAs book q make learn plan w → v ≡ w
   judged-one a b =
-      sym (a .judged) ∙ ap (λ (n : ℕ). check (systemFor n book q make learn) (startOf q) plan) (sound-one (a .valid .sound) (b .valid .sound) .0) ∙ b .judged
+      sym (a .judged) ∙ ap (λ (n : ℕ). check (systemFor n book q make learn) (questionStart q) plan) (sound-one (a .valid .sound) (b .valid .sound) .0) ∙ b .judged
 
-  no-refusal : (r : Refusal) → Judged book q make learn plan accepted → Checks book q make learn plan (Refused r) → ⊥
+  no-refusal : (r : Refusal) → JudgedAs book q make learn plan accepted → Checks book q make learn plan (Refused r) → ⊥
   no-refusal r j (inl f) = first-clear (checkRows book q make learn plan) (number r) (place r) f (judged-clear j)
   no-refusal r j (inr f) = let e = judged-one j (f .2) in let z : _≡_ {A = ℕ} 0 1 = cc in omega arith
 

@@ -20,7 +20,7 @@ use Rattle.knowledge.proofs.States.{number-state, set-state, look-state}
 use Rattle.knowledge.proofs.Outcomes.{set-below, look-below}
 use Rattle.plan.specs.Check.{goes-on, outcomes, readAct, readNamed, readByte}
 use Rattle.plan.proofs.Check.{read-named}
-use Rattle.finder.specs.Question.{settled, systemOf}
+use Rattle.finder.specs.Question.{goalSettled, systemOf}
 use Rattle.plancheck.specs.Inner.{readingOf}
 use Rattle.plancheck.specs.declared.answer.Refusal.the-variants.{NoAct, NotPermitted, NotSettled}
 use Rattle.plancheck.specs.declared.reading.Reading.{Reading}
@@ -74,11 +74,11 @@ module _ (at k : ℕ) (a : Act) where
 
 -- a byte
 module _ (n : ℕ) (book : List ℕ) (team : ℕ) (make learn : List ℕ) (k at byte : ℕ) where
-  pub byte-stops : {g : Bool} → byte ≡ 0 → g ≡ settled n make learn k → g ≡ true → Stops ≡ readingOf at (readByte (systemOf n book team make learn) k byte)
+  pub byte-stops : {g : Bool} → byte ≡ 0 → g ≡ goalSettled n make learn k → g ≡ true → Stops ≡ readingOf at (readByte (systemOf n book team make learn) k byte)
   unfolding systemOf
   byte-stops e f g = rw (e, sym f ∙ g)
 
-  pub byte-unsettled : {g : Bool} → byte ≡ 0 → g ≡ settled n make learn k → g ≡ false
+  pub byte-unsettled : {g : Bool} → byte ≡ 0 → g ≡ goalSettled n make learn k → g ≡ false
       → Fails (NotSettled at) ≡ readingOf at (readByte (systemOf n book team make learn) k byte)
   unfolding systemOf
   byte-unsettled e f g = rw (e, sym f ∙ g)

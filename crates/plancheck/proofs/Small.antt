@@ -6,9 +6,9 @@ use mathlib.Core.List.{List, []}
 use Prim.Native.Nat.{ℕ, _≤_, _<_}
 use native.Mathlib.Omega.{arith}
 use lib.ListN.{length, length-append}
-use Rattle.book.specs.Order.{First}
+use Rattle.ground.specs.Order.{First}
 use Rattle.book.specs.Refusals.{bookRows, readRows}
-use Rattle.book.proofs.OrderLaws.{first-left, first-split}
+use Rattle.ground.proofs.OrderLaws.{first-left, first-split}
 use Rattle.book.proofs.Theorems.{read-place-most}
 use Rattle.plan.proofs.Faults.{fault-out}
 use Rattle.finder.specs.Rows.{questionRows}

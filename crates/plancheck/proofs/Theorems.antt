@@ -11,7 +11,7 @@ use lib.Dec.{lit≤}
 use lib.ListN.{length, take, drop}
 use lib.Seq.{take-at}
 use Rattle.ground.proofs.Bools.{lt-or-ge}
-use Rattle.book.specs.Order.{First}
+use Rattle.ground.specs.Order.{First}
 use Rattle.book.proofs.Theorems.{sound-one}
 use Rattle.plan.specs.Plans.{Lawful, Plan, Works, height}
 use Rattle.plan.specs.Ranks.{IsRank, Written}
@@ -30,7 +30,7 @@ use Rattle.finder.specs.declared.finding.Answer.the-variants.{Reach, Cannot}
 use Rattle.finder.specs.declared.question.Question.{Question}
 use Rattle.finder.specs.declared.question.Refusal as R
 use Rattle.plancheck.specs.Refusals.{refusalOf}
-use Rattle.plancheck.specs.Checks.{systemFor, startOf, Judged, Checks}
+use Rattle.plancheck.specs.Checks.{systemFor, questionStart, JudgedAs, Checks}
 use Rattle.plancheck.specs.Inner.{answerOf}
 use Rattle.plancheck.specs.declared.answer.Refusal.the-variants.{Question as OfQuestion, TooLong, TooSoon, LeftOver}
 use Rattle.plancheck.specs.declared.answer.CheckAnswer.{CheckAnswer}
@@ -74,26 +74,26 @@ module _ {book : List ℕ} {q : Question} {make learn : List ℕ} {n m : ℕ} (v
   law = valid-lawful valid
 
   -- the judgement, over this n
-  judged-at : {v : Verdict} → Judged book q make learn plan v → check (systemFor n book q make learn) (startOf q) plan ≡ v
-  judged-at j = ap (λ (n : ℕ). check (systemFor n book q make learn) (startOf q) plan) (sound-one (valid .sound) (j .valid .sound) .0) ∙ j .judged
+  judged-at : {v : Verdict} → JudgedAs book q make learn plan v → check (systemFor n book q make learn) (questionStart q) plan ≡ v
+  judged-at j = ap (λ (n : ℕ). check (systemFor n book q make learn) (questionStart q) plan) (sound-one (valid .sound) (j .valid .sound) .0) ∙ j .judged
 
-  yes-in : (p : Plan) → length plan ≤ 32640 → Works (systemFor n book q make learn) (startOf q) p → plan ≡ encode p → Checks book q make learn plan Yes
-  yes-in p l w e = record { n = n; m = m; valid = valid; short = l; judged = check-exact law few (startOf q) plan .1 (p, w, e) }
+  yes-in : (p : Plan) → length plan ≤ 32640 → Works (systemFor n book q make learn) (questionStart q) p → plan ≡ encode p → Checks book q make learn plan Yes
+  yes-in p l w e = record { n = n; m = m; valid = valid; short = l; judged = check-exact law few (questionStart q) plan .1 (p, w, e) }
 
   module _ (r : CheckAnswer) (answer : Checks book q make learn plan r) where
     -- demand 2: yes exactly where the bytes are those of a plan that works, up to 32,640 bytes
-    pub yes-exact : (r ≡ Yes) ↔ ((length plan ≤ 32640) × ((p : Plan) × Works (systemFor n book q make learn) (startOf q) p × (plan ≡ encode p)))
+    pub yes-exact : (r ≡ Yes) ↔ ((length plan ≤ 32640) × ((p : Plan) × Works (systemFor n book q make learn) (questionStart q) p × (plan ≡ encode p)))
     yes-exact = (
-      λ e. let j : Judged book q make learn plan accepted = subst (Checks book q make learn plan) e answer in
-          (j .short, check-exact law few (startOf q) plan .0 (judged-at j)),
+      λ e. let j : JudgedAs book q make learn plan accepted = subst (Checks book q make learn plan) e answer in
+          (j .short, check-exact law few (questionStart q) plan .0 (judged-at j)),
       λ w. checks-one book q make learn plan r Yes answer (yes-in (w .1 .0) (w .0) (w .1 .1) (w .1 .2)),
     )
 
     -- a plan of at most 32,640 bytes gets the answer of the judgement on its bytes
-    answer-is : length plan ≤ 32640 → r ≡ answerOf (check (systemFor n book q make learn) (startOf q) plan)
+    answer-is : length plan ≤ 32640 → r ≡ answerOf (check (systemFor n book q make learn) (questionStart q) plan)
     answer-is l =
         checks-one book q make learn plan r _ answer
-        (judged-checks book q make learn plan (check (systemFor n book q make learn) (startOf q) plan)
+        (judged-checks book q make learn plan (check (systemFor n book q make learn) (questionStart q) plan)
         (record { n = n; m = m; valid = valid; short = l; judged = refl }))
 
     -- 16 "plan to check over 32,640 bytes"
@@ -101,7 +101,7 @@ module _ {book : List ℕ} {q : Question} {make learn : List ℕ} {n m : ℕ} (v
     long-exact = (
       λ e. elim (lt-or-ge 32640 (length plan)) [
         | inl l ↦ l
-        | inr l ↦ absurd (answer-short (check (systemFor n book q make learn) (startOf q) plan) (sym (answer-is l) ∙ e))
+        | inr l ↦ absurd (answer-short (check (systemFor n book q make learn) (questionStart q) plan) (sym (answer-is l) ∙ e))
       ],
       λ l. checks-one book q make learn plan r (Refused TooLong) answer (long-row book q make learn plan valid l),
     )
@@ -109,17 +109,17 @@ module _ {book : List ℕ} {q : Question} {make learn : List ℕ} {n m : ℕ} (v
     module _ (short : length plan ≤ 32640) where
       -- 17 to 21: "the first fault in reading order". All bytes before it read without one, and it is the fault of the byte that stands
       -- there, or of the end; `fault-means` of ByteLaws says in paper 01's words what a byte's fault is
-      pub fault-exact : (f : Fault) (i : ℕ) → (r ≡ Refused (refusalOf f i)) ↔ Faults.First (systemFor n book q make learn) (startOf q ∷ []) plan f i
+      pub fault-exact : (f : Fault) (i : ℕ) → (r ≡ Refused (refusalOf f i)) ↔ Faults.First (systemFor n book q make learn) (questionStart q ∷ []) plan f i
       fault-exact f i = (
-        λ e. let w = fault-out (systemFor n book q make learn) plan (startOf q ∷ []) 0 f i
-            (answer-fault (check (systemFor n book q make learn) (startOf q) plan) f i (sym (answer-is short) ∙ e)) in
-            subst (Faults.First (systemFor n book q make learn) (startOf q ∷ []) plan f) (omega (arith, w .1)) (w .2),
-        λ w. answer-is short ∙ ap answerOf (fault-in (systemFor n book q make learn) (startOf q ∷ []) plan 0 f i w ∙ ap (faulty f) (zero-add i)),
+        λ e. let w = fault-out (systemFor n book q make learn) plan (questionStart q ∷ []) 0 f i
+            (answer-fault (check (systemFor n book q make learn) (questionStart q) plan) f i (sym (answer-is short) ∙ e)) in
+            subst (Faults.First (systemFor n book q make learn) (questionStart q ∷ []) plan f) (omega (arith, w .1)) (w .2),
+        λ w. answer-is short ∙ ap answerOf (fault-in (systemFor n book q make learn) (questionStart q ∷ []) plan 0 f i w ∙ ap (faulty f) (zero-add i)),
       )
 
       -- 20 "plan ends too soon", at its length: all its bytes read without a fault, and a state is still pending
       pub soon-exact : (i : ℕ) → (r ≡ Refused (TooSoon i))
-          ↔ ((i ≡ length plan) × ((k : ℕ) × ((ks : List ℕ) × Reads (systemFor n book q make learn) (startOf q ∷ []) plan (k ∷ ks))))
+          ↔ ((i ≡ length plan) × ((k : ℕ) × ((ks : List ℕ) × Reads (systemFor n book q make learn) (questionStart q ∷ []) plan (k ∷ ks))))
       soon-exact i = (
         λ e. let w = fault-exact too-soon i .0 e in
             let (nothing-left, (k, (ks, pending))) = ends (systemFor n book q make learn) (w .pending) (w .left) (w .wrong) in
@@ -138,21 +138,21 @@ module _ {book : List ℕ} {q : Question} {make learn : List ℕ} {n m : ℕ} (v
 
       -- 21 "bytes after a whole plan", at the first of them
       pub over-exact : (i : ℕ) → (r ≡ Refused (LeftOver i))
-          ↔ ((p : Plan) × Works (systemFor n book q make learn) (startOf q) p × (i ≡ length (encode p)) × ((c : ℕ) × ((cs : List ℕ) × (plan ≡ encode p ++ c ∷ cs))))
+          ↔ ((p : Plan) × Works (systemFor n book q make learn) (questionStart q) p × (i ≡ length (encode p)) × ((c : ℕ) × ((cs : List ℕ) × (plan ≡ encode p ++ c ∷ cs))))
       over-exact i = (
         λ e. let w = fault-exact left-over i .0 e in
             let (none-pending, (c, (cs, left))) = over (systemFor n book q make learn) (w .pending) (w .left) (w .wrong) in
-            let (p, works, bytes) = whole-plan law few (startOf q) (w .before) (rw none-pending at (w .reads)) in
+            let (p, works, bytes) = whole-plan law few (questionStart q) (w .before) (rw none-pending at (w .reads)) in
             (p, works, w .index ∙ ap length bytes, (c, (cs, w .split ∙ ap₂ _++_ bytes left))),
         λ (p, works, e, (c, (cs, f))). answer-is short
-            ∙ ap answerOf (ap (check (systemFor n book q make learn) (startOf q)) f ∙ judge-plan law few p (startOf q) [] 0 (c ∷ cs) works
+            ∙ ap answerOf (ap (check (systemFor n book q make learn) (questionStart q)) f ∙ judge-plan law few p (questionStart q) [] 0 (c ∷ cs) works
             ∙ ap (faulty left-over) (zero-add (length (encode p)) ∙ sym e)),
       )
 
   -- no accepted plan is lower than the rank
-  pub accepted-height : Checks book q make learn plan Yes → (rank : ℕ) → IsRank (systemFor n book q make learn) (startOf q) rank
-      → (p : Plan) × Works (systemFor n book q make learn) (startOf q) p × (plan ≡ encode p) × (rank ≤ height p)
-  accepted-height j rank is = Plans.accepted-plan law few (startOf q) plan rank is (judged-at j)
+  pub accepted-height : Checks book q make learn plan Yes → (rank : ℕ) → IsRank (systemFor n book q make learn) (questionStart q) rank
+      → (p : Plan) × Works (systemFor n book q make learn) (questionStart q) p × (plan ≡ encode p) × (rank ≤ height p)
+  accepted-height j rank is = Plans.accepted-plan law few (questionStart q) plan rank is (judged-at j)
 
 -- "the empty plan is 20 at 0"
 pub empty-plan : {book : List ℕ} {q : Question} {make learn : List ℕ} {n m : ℕ} → ValidQuestion book q make learn n m
@@ -161,18 +161,18 @@ empty-plan {n = n} {m = m} valid = inr (too-soon, refl, record { n = n; m = m; v
 
 -- the bytes of the written plan get a yes
 pub written-accepted : {book : List ℕ} {q : Question} {make learn : List ℕ} {n m : ℕ} → ValidQuestion book q make learn n m
-    → (p : Plan) → Written (systemFor n book q make learn) (startOf q) p → Checks book q make learn (encode p) Yes
+    → (p : Plan) → Written (systemFor n book q make learn) (questionStart q) p → Checks book q make learn (encode p) Yes
 written-accepted {book} {q} {make} {learn} {n} {m} valid p w =
     let few = valid .sound .settings .most in
     let law = valid-lawful valid in
-    let rank = has-rank law (startOf q) in
-    let low = rank-reach law (startOf q) (rank .0) few (rank .1) .1 (p, written-works (systemFor n book q make learn) p (startOf q) w) in
+    let rank = has-rank law (questionStart q) in
+    let low = rank-reach law (questionStart q) (rank .0) few (rank .1) .1 (p, written-works (systemFor n book q make learn) p (questionStart q) w) in
     record {
       n = n;
       m = m;
       valid = valid;
-      short = Plans.written-most law few (startOf q) p (rank .0) w (rank .1) low;
-      judged = Plans.written-accepted law few (startOf q) p w;
+      short = Plans.written-most law few (questionStart q) p (rank .0) w (rank .1) low;
+      judged = Plans.written-accepted law few (questionStart q) p w;
     }
 
 -- ---- the finder's answers and the check: a finder's contract is `Finds`

@@ -5,7 +5,7 @@ use mathlib.Core.List.{List}
 use mathlib.Core.Logic.{_⊎_}
 use Prim.Native.Nat.{ℕ, _≤_}
 use lib.ListN.{length}
-use Rattle.book.specs.Order.{First}
+use Rattle.ground.specs.Order.{First}
 use Rattle.plan.specs.Plans.{System}
 use Rattle.plan.specs.Check.{Fault, Verdict, accepted, faulty, check}
 use Rattle.finder.specs.Question.{systemOf, startNumber}
@@ -19,24 +19,24 @@ use Rattle.plancheck.specs.declared.answer.CheckAnswer.the-variants.{Yes
 abbrev pub systemFor : ℕ → List ℕ → Question → List ℕ → List ℕ → System
 systemFor n book q make learn = systemOf n book (q .team) make learn
 
-abbrev pub startOf : Question → ℕ
-startOf q = startNumber (q .known) (q .values)
+abbrev pub questionStart : Question → ℕ
+questionStart q = startNumber (q .known) (q .values)
 
 -- none of refusals 6 to 12 and 16 is given, and the judgement on the plan's bytes is this one
-pub record Judged (book : List ℕ) (q : Question) (make learn plan : List ℕ) (verdict : Verdict) : Type 0 where
+pub record JudgedAs (book : List ℕ) (q : Question) (make learn plan : List ℕ) (verdict : Verdict) : Type 0 where
   pub n : ℕ
   pub m : ℕ
   pub valid : ValidQuestion book q make learn n m
   pub short : length plan ≤ 32640
-  pub judged : check (systemFor n book q make learn) (startOf q) plan ≡ verdict
+  pub judged : check (systemFor n book q make learn) (questionStart q) plan ≡ verdict
 
 -- a refusal's number and place: of the rows before any byte is read, or of "the first fault in reading order"
 abbrev pub Refuses : List ℕ → Question → List ℕ → List ℕ → List ℕ → ℕ → ℕ → Type 0
 Refuses book q make learn plan x p =
     First (checkRows book q make learn plan) x p
-    ⊎ ((f : Fault) × (x ≡ faultNumber f) × Judged book q make learn plan (faulty f p))
+    ⊎ ((f : Fault) × (x ≡ faultNumber f) × JudgedAs book q make learn plan (faulty f p))
 
 -- "acceptance is a bare yes"
 abbrev pub Checks : List ℕ → Question → List ℕ → List ℕ → List ℕ → CheckAnswer → Type 0
-Checks book q make learn plan Yes = Judged book q make learn plan accepted
+Checks book q make learn plan Yes = JudgedAs book q make learn plan accepted
 Checks book q make learn plan (Refused r) = Refuses book q make learn plan (number r) (place r)

@@ -2,7 +2,7 @@
 use mathlib.Core.List.{List, [], _∷_, _++_}
 use Prim.Native.Nat.{ℕ, _<_}
 use lib.ListN.{length}
-use Rattle.book.specs.Order.{Row, only}
+use Rattle.ground.specs.Order.{Row, only}
 use Rattle.plan.specs.Check.{Fault, no-act, not-permitted, not-settled, too-soon, left-over}
 use Rattle.finder.specs.Rows.{questionRows}
 use Rattle.finder.specs.Rows as Q

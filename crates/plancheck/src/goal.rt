@@ -5,7 +5,7 @@ ghost use mathlib.Core.Path.{_≡_};
 ghost use Prim.Native.Nat.{_^_, _≤_, _<_};
 ghost use Rattle.knowledge.specs.Number.{digitIn};
 ghost use Rattle.sides.specs.Over.{allSettled};
-ghost use Rattle.finder.specs.Question.{settled};
+ghost use Rattle.finder.specs.Question.{goalSettled};
 
 // Whether each learn formula has one same value at all start valuations that fit.
 fn learnt(n: u8, learn: &[u8], state: Knowledge) -> bool
@@ -27,7 +27,7 @@ fn learnt(n: u8, learn: &[u8], state: Knowledge) -> bool
 // alone: k has at most seven digits.
 pub fn is_settled(n: u8, make: &[u8], learn: &[u8], k: u32) -> bool
     requires { ⌜ (n ≤ 7) × (k < 7 ^ 7) ⌝ }
-    ensures { λ r. ⌜ r ≡ settled n (now (make .entry)) (now (learn .entry)) k ⌝ }
+    ensures { λ r. ⌜ r ≡ goalSettled n (now (make .entry)) (now (learn .entry)) k ⌝ }
 {
     let state = Knowledge::from_number(k);
     if !state.known_to_hold(n, make, 0) {

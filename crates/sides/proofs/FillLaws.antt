@@ -21,7 +21,7 @@ use Rattle.knowledge.specs.Seven.{unknown, told}
 use Rattle.knowledge.specs.Fits.{always, is}
 use Rattle.knowledge.proofs.Fits.{always-split, always-one}
 use Rattle.sides.proofs.Numbers.{three}
-use Rattle.sides.specs.Inner.{Tells, FilledAt, FilledFrom, Filled}
+use Rattle.sides.specs.Inner.{SideTells, FilledAt, FilledFrom, Filled}
 use Rattle.sides.specs.declared.told.Told.{Told}
 use Rattle.sides.specs.declared.told.Told.the-variants.{Unknown, Valuation}
 
@@ -109,7 +109,7 @@ zeros-at m s = elim (lt-or-ge s m) [
 ]
 
 -- by what the side tells
-module _ (n side : ℕ) (r : Told) (most : n ≤ 7) (small : side < 3 ^ n) (says : Tells n side r) where
+module _ (n side : ℕ) (r : Told) (most : n ≤ 7) (small : side < 3 ^ n) (says : SideTells n side r) where
   module _ (power : ℕ) (is : r ≡ Unknown power) where
     the-setting : (i : ℕ) × (i < n) × (digit 3 side i ≡ unknown) × (power ≡ 3 ^ i)
     the-setting = rw is at says

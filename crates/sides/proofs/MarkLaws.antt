@@ -9,7 +9,7 @@ use lib.ListN.{getD}
 use Rattle.ground.specs.Digits.{digit}
 use Rattle.knowledge.specs.Seven.{nowOf, startOf}
 use Rattle.knowledge.proofs.Seven.{now-lt, start-lt}
-use Rattle.sides.specs.Sides.{sideNumber, nowNumber, startNumber}
+use Rattle.sides.specs.Sides.{sideNumber, nowSideNumber, startSideNumber}
 use Rattle.sides.specs.Over.{markOf, Marks}
 use Rattle.sides.specs.Inner.{Stored, markAt}
 use Rattle.sides.proofs.Numbers.{now-number-lt, start-number-lt, now-low, start-low}
@@ -19,11 +19,11 @@ use Rattle.sides.proofs.FillLaws.{sides-most}
 pub record ShownTo (number i rest power now start : ℕ) : Type 0 where
   pub left : rest ≡ number / 7 ^ i
   pub place : power ≡ 3 ^ i
-  pub now-is : now ≡ nowNumber i number
-  pub start-is : start ≡ startNumber i number
+  pub now-is : now ≡ nowSideNumber i number
+  pub start-is : start ≡ startSideNumber i number
 
 pub nothing-shown : (number : ℕ) → ShownTo number 0 number 1 0 0
-unfolding nowNumber startNumber sideNumber
+unfolding nowSideNumber startSideNumber sideNumber
 nothing-shown number = record { left = sym (rw pow-zero (div-one number)); place = sym (pow-zero 3); now-is = refl; start-is = refl }
 
 module _ {number i rest power now start : ℕ} (s : ShownTo number i rest power now start) where
@@ -35,7 +35,7 @@ module _ {number i rest power now start : ℕ} (s : ShownTo number i rest power 
 
   pub one-more-shown : (x y : ℕ) → x ≡ nowOf (rest % 7) → y ≡ startOf (rest % 7)
       → ShownTo number (i + 1) (rest / 7) (power * 3) (now + x * power) (start + y * power)
-  unfolding nowNumber startNumber sideNumber digit
+  unfolding nowSideNumber startSideNumber sideNumber digit
   one-more-shown x y e f = record {
     left = ap (λ (z : ℕ). z / 7) (s .left) ∙ div-div-eq-div-mul number (7 ^ i) 7 ∙ ap (λ (z : ℕ). number / z) (sym (rw (add-one i) (pow-suc 7 i)));
     place = ap (λ (z : ℕ). z * 3) (s .place) ∙ sym (rw (add-one i) (pow-suc 3 i));
@@ -65,14 +65,14 @@ start-told x d h e = rw e (start-lt d)
 
 -- where all n settings are shown
 pub shown-all : {number i rest power now start : ℕ} (n : ℕ) → ShownTo number i rest power now start → i ≤ n → n ≤ i
-    → (now ≡ nowNumber n number) × (start ≡ startNumber n number)
+    → (now ≡ nowSideNumber n number) × (start ≡ startSideNumber n number)
 shown-all {number} {i} n s up down =
     let e : i ≡ n = omega arith in
     (rw e at (s .now-is), rw e at (s .start-is))
 
 -- the mark of a state by the digits above the lowest, and the lowest
 pub mark-low : (n rest d : ℕ) (made learnt : List ℕ) → 0 < n → d < 7
-    → markAt n made learnt (rest * 7 + d) ≡ markOf (getD made (nowNumber (n - 1) rest * 3 + nowOf d) 0) (getD learnt (startNumber (n - 1) rest * 3 + startOf d) 0)
+    → markAt n made learnt (rest * 7 + d) ≡ markOf (getD made (nowSideNumber (n - 1) rest * 3 + nowOf d) 0) (getD learnt (startSideNumber (n - 1) rest * 3 + startOf d) 0)
 unfolding markAt
 mark-low zero rest d made learnt some h = absurd (omega arith)
 mark-low (suc m) rest d made learnt some h =
@@ -102,12 +102,12 @@ marks-all {n} {e} s q = record {
 }
 
 -- the seven states that differ in setting 0
-module _ (n rest : ℕ) {now start : ℕ} (some : 0 < n) (most : n ≤ 7) (now-is : now ≡ nowNumber (n - 1) rest) (start-is : start ≡ startNumber (n - 1) rest) where
+module _ (n rest : ℕ) {now start : ℕ} (some : 0 < n) (most : n ≤ 7) (now-is : now ≡ nowSideNumber (n - 1) rest) (start-is : start ≡ startSideNumber (n - 1) rest) where
   pub now-index : (x : ℕ) → x < 3 → now * 3 + x < 2187
-  now-index x h = rw now-is (side-index n (nowNumber (n - 1) rest) x some most (now-number-lt (n - 1) rest) h)
+  now-index x h = rw now-is (side-index n (nowSideNumber (n - 1) rest) x some most (now-number-lt (n - 1) rest) h)
 
   pub start-index : (x : ℕ) → x < 3 → start * 3 + x < 2187
-  start-index x h = rw start-is (side-index n (startNumber (n - 1) rest) x some most (start-number-lt (n - 1) rest) h)
+  start-index x h = rw start-is (side-index n (startSideNumber (n - 1) rest) x some most (start-number-lt (n - 1) rest) h)
 
   pub mark-here : (d : ℕ) {x y r : ℕ} (made learnt : List ℕ) → d < 7 → x ≡ nowOf d → y ≡ startOf d
       → r ≡ markOf (getD made (now * 3 + x) 0) (getD learnt (start * 3 + y) 0) → r ≡ markAt n made learnt (rest * 7 + d)

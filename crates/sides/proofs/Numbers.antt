@@ -12,7 +12,7 @@ use Rattle.ground.proofs.Digits.{digit-lt, digit-top, digit-low, same-digits}
 use Rattle.ground.proofs.Search.{below-suc}
 use Rattle.knowledge.specs.Seven.{startOf, nowOf}
 use Rattle.knowledge.proofs.Seven.{now-lt, start-lt}
-use Rattle.sides.specs.Sides.{sideNumber, nowNumber, startNumber}
+use Rattle.sides.specs.Sides.{sideNumber, nowSideNumber, startSideNumber}
 
 pub three : 0 < 3
 three = lit< tt
@@ -71,28 +71,28 @@ module _ (g : ℕ → ℕ) (small : (d : ℕ) → d < 7 → g d < 3) where
 
 -- the present side
 module _ (n k : ℕ) where
-  pub now-number-lt : nowNumber n k < 3 ^ n
-  unfolding nowNumber
+  pub now-number-lt : nowSideNumber n k < 3 ^ n
+  unfolding nowSideNumber
   now-number-lt = seen-lt nowOf (λ d l. now-lt d) n k
 
-  pub now-digit : (i : ℕ) → i < n → digit 3 (nowNumber n k) i ≡ nowOf (digit 7 k i)
-  unfolding nowNumber
+  pub now-digit : (i : ℕ) → i < n → digit 3 (nowSideNumber n k) i ≡ nowOf (digit 7 k i)
+  unfolding nowSideNumber
   now-digit i h = seen-digit nowOf (λ d l. now-lt d) n k i h
 
-  pub now-low : (d : ℕ) → d < 7 → nowNumber (suc n) (k * 7 + d) ≡ nowNumber n k * 3 + nowOf d
-  unfolding nowNumber
+  pub now-low : (d : ℕ) → d < 7 → nowSideNumber (suc n) (k * 7 + d) ≡ nowSideNumber n k * 3 + nowOf d
+  unfolding nowSideNumber
   now-low d l = seen-low nowOf (λ d l. now-lt d) n k d l
 
 -- the start side
 module _ (n k : ℕ) where
-  pub start-number-lt : startNumber n k < 3 ^ n
-  unfolding startNumber
+  pub start-number-lt : startSideNumber n k < 3 ^ n
+  unfolding startSideNumber
   start-number-lt = seen-lt startOf (λ d l. start-lt d) n k
 
-  pub start-digit : (i : ℕ) → i < n → digit 3 (startNumber n k) i ≡ startOf (digit 7 k i)
-  unfolding startNumber
+  pub start-digit : (i : ℕ) → i < n → digit 3 (startSideNumber n k) i ≡ startOf (digit 7 k i)
+  unfolding startSideNumber
   start-digit i h = seen-digit startOf (λ d l. start-lt d) n k i h
 
-  pub start-low : (d : ℕ) → d < 7 → startNumber (suc n) (k * 7 + d) ≡ startNumber n k * 3 + startOf d
-  unfolding startNumber
+  pub start-low : (d : ℕ) → d < 7 → startSideNumber (suc n) (k * 7 + d) ≡ startSideNumber n k * 3 + startOf d
+  unfolding startSideNumber
   start-low d l = seen-low startOf (λ d l. start-lt d) n k d l

@@ -12,7 +12,7 @@ use Rattle.book.specs.Rule.{rule}
 use Rattle.book.specs.declared.rule.Right.{Right}
 use Rattle.knowledge.specs.Fits.{always, nowSide, startSide, known, learnSettled}
 use Rattle.knowledge.proofs.Fits.{always-ext}
-use Rattle.sides.specs.Sides.{nowNumber, startNumber}
+use Rattle.sides.specs.Sides.{nowSideNumber, startSideNumber}
 use Rattle.sides.specs.Over.{entry, Judged, PostTables, oneOf, SideTable, Made, settled, learnCount, learnTable, allSettled, Learnt, rankIf, markOf, Marks}
 use Rattle.sides.proofs.Numbers.{now-number-lt, start-number-lt, now-digit, start-digit}
 
@@ -33,40 +33,40 @@ made-judged make table s h = side-some table s h
 
 -- a judgement at the side that a knowledge number shows
 module _ (n k : ℕ) (t : List ℕ) where
-  pub always-now : (b : Bool) → always b n (digit 3 (nowNumber n k)) t ≡ always b n (nowSide (digit 7 k)) t
-  always-now b = always-ext b n (digit 3 (nowNumber n k)) (nowSide (digit 7 k)) t (now-digit n k)
+  pub always-now : (b : Bool) → always b n (digit 3 (nowSideNumber n k)) t ≡ always b n (nowSide (digit 7 k)) t
+  always-now b = always-ext b n (digit 3 (nowSideNumber n k)) (nowSide (digit 7 k)) t (now-digit n k)
 
-  pub always-start : (b : Bool) → always b n (digit 3 (startNumber n k)) t ≡ always b n (startSide (digit 7 k)) t
-  always-start b = always-ext b n (digit 3 (startNumber n k)) (startSide (digit 7 k)) t (start-digit n k)
+  pub always-start : (b : Bool) → always b n (digit 3 (startSideNumber n k)) t ≡ always b n (startSide (digit 7 k)) t
+  always-start b = always-ext b n (digit 3 (startSideNumber n k)) (startSide (digit 7 k)) t (start-digit n k)
 
-  pub known-now : always true n (digit 3 (nowNumber n k)) t ≡ known n (digit 7 k) t
+  pub known-now : always true n (digit 3 (nowSideNumber n k)) t ≡ known n (digit 7 k) t
   unfolding known
   known-now = always-now true
 
-  pub settled-start : settled n (digit 3 (startNumber n k)) t ≡ learnSettled n (digit 7 k) t
+  pub settled-start : settled n (digit 3 (startSideNumber n k)) t ≡ learnSettled n (digit 7 k) t
   unfolding settled learnSettled
   settled-start = ap₂ _||_ (always-start true) (always-start false)
 
 -- "A rule is known to hold", "the make formula is true at every fitting present valuation"
 module _ (n : ℕ) (rule t : List ℕ) where
-  pub judged-known : Judged true n rule t → (k : ℕ) → not (eqb (getD t (nowNumber n k) 0) 0) ≡ known n (digit 7 k) rule
-  judged-known table k = table (nowNumber n k) (now-number-lt n k) ∙ known-now n k rule
+  pub judged-known : Judged true n rule t → (k : ℕ) → not (eqb (getD t (nowSideNumber n k) 0) 0) ≡ known n (digit 7 k) rule
+  judged-known table k = table (nowSideNumber n k) (now-number-lt n k) ∙ known-now n k rule
 
-  pub made-known : Made n rule t → (k : ℕ) → not (eqb (getD t (nowNumber n k) 0) 0) ≡ known n (digit 7 k) rule
+  pub made-known : Made n rule t → (k : ℕ) → not (eqb (getD t (nowSideNumber n k) 0) 0) ≡ known n (digit 7 k) rule
   made-known table k = judged-known (made-judged rule table) k
 
 -- "each learn formula has one same value at all fitting start valuations"
-pub learnt-settled : (n : ℕ) (learn t : List ℕ) → Learnt n learn t → (k : ℕ) → not (eqb (getD t (startNumber n k) 0) 0) ≡ allSettled n (digit 7 k) learn
+pub learnt-settled : (n : ℕ) (learn t : List ℕ) → Learnt n learn t → (k : ℕ) → not (eqb (getD t (startSideNumber n k) 0) 0) ≡ allSettled n (digit 7 k) learn
 unfolding allSettled
 learnt-settled n learn t table k =
-    side-some table (startNumber n k) (start-number-lt n k)
+    side-some table (startSideNumber n k) (start-number-lt n k)
     ∙ all-ext (learnCount learn) _ _ (λ j h. settled-start n k (learnTable learn j))
 
 -- "by a post of the team .. where its rule for that post is known to hold"
 pub post-known : {n team : ℕ} {book : List ℕ} {right : Right} {t : List (List ℕ)} → PostTables n book team right t → (k i q : ℕ) → i < n → q < 8
-    → bit (entry t i (nowNumber n k)) q ≡ (bit team q && known n (digit 7 k) (rule book i q right))
+    → bit (entry t i (nowSideNumber n k)) q ≡ (bit team q && known n (digit 7 k) (rule book i q right))
 post-known {n} {team} {book} {right} table k i q h l =
-    table .posts i (nowNumber n k) q h (now-number-lt n k) l ∙ ap (λ (x : Bool). bit team q && x) (known-now n k (rule book i q right))
+    table .posts i (nowSideNumber n k) q h (now-number-lt n k) l ∙ ap (λ (x : Bool). bit team q && x) (known-now n k (rule book i q right))
 
 -- "The goal is settled": a mark is 0 exactly where both halves of the goal hold
 pub goal-marked : {n : ℕ} (make learn : List ℕ) {made learnt old new : List ℕ} → Made n make made → Learnt n learn learnt → Marks n made learnt old new

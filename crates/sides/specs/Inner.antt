@@ -11,15 +11,15 @@ use Rattle.knowledge.specs.Seven.{unknown, told}
 use Rattle.knowledge.specs.Fits.{always, is}
 use Rattle.book.specs.Rule.{rulePlace}
 use Rattle.book.specs.declared.rule.Right.{Right}
-use Rattle.sides.specs.Sides.{nowNumber, startNumber}
+use Rattle.sides.specs.Sides.{nowSideNumber, startSideNumber}
 use Rattle.sides.specs.Over.{settled, oneOf, markOf}
 use Rattle.sides.specs.declared.told.Told.{Told}
 use Rattle.sides.specs.declared.told.Told.the-variants.{Unknown, Valuation}
 
 -- what a side tells: a setting that is unknown, by its power of 3, or the valuation that the side tells whole
-abbrev pub Tells : ℕ → ℕ → Told → Type 0
-Tells n side (Unknown power) = (i : ℕ) × (i < n) × (digit 3 side i ≡ unknown) × (power ≡ 3 ^ i)
-Tells n side (Valuation v) = (v < 2 ^ n) × ((i : ℕ) → i < n → digit 3 side i ≡ told (bit v i))
+abbrev pub SideTells : ℕ → ℕ → Told → Type 0
+SideTells n side (Unknown power) = (i : ℕ) × (i < n) × (digit 3 side i ≡ unknown) × (power ≡ 3 ^ i)
+SideTells n side (Valuation v) = (v < 2 ^ n) × ((i : ℕ) → i < n → digit 3 side i ≡ told (bit v i))
 
 -- bit q of each column tells whether g holds and the table has the value b there
 abbrev pub Column : ℕ → List ℕ → ℕ → Bool → Bool → List ℕ → Type 0
@@ -79,7 +79,7 @@ pub record Meets (a b t : List ℕ) : Type 0 where
 
 -- the mark of a knowledge number
 unfoldable pub markAt : ℕ → List ℕ → List ℕ → ℕ → ℕ
-markAt n made learnt k = markOf (getD made (nowNumber n k) 0) (getD learnt (startNumber n k) 0)
+markAt n made learnt k = markOf (getD made (nowSideNumber n k) 0) (getD learnt (startSideNumber n k) 0)
 
 -- f was stored at each place from a to e, and nothing elsewhere
 pub record Stored (f : ℕ → ℕ) (a e : ℕ) (old new : List ℕ) : Type 0 where

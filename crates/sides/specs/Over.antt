@@ -10,7 +10,7 @@ use Rattle.ground.specs.Search.{all}
 use Rattle.knowledge.specs.Fits.{always, learnSettled}
 use Rattle.book.specs.Rule.{rule}
 use Rattle.book.specs.declared.rule.Right.{Right}
-use Rattle.sides.specs.Sides.{nowNumber, startNumber}
+use Rattle.sides.specs.Sides.{nowSideNumber, startSideNumber}
 
 -- the entry of setting i and side s
 unfoldable pub entry : List (List ℕ) → ℕ → ℕ → ℕ
@@ -78,5 +78,5 @@ markOf done known = rankIf (not (eqb done 0) && not (eqb known 0))
 -- the first 7^n bytes of the rank table are marked, each by the present and the start side of its knowledge number; later bytes keep what they held
 pub record Marks (n : ℕ) (made learnt old new : List ℕ) : Type 0 where
   pub long : length new ≡ length old
-  pub marked : (k : ℕ) → k < 7 ^ n → getD new k 0 ≡ markOf (getD made (nowNumber n k) 0) (getD learnt (startNumber n k) 0)
+  pub marked : (k : ℕ) → k < 7 ^ n → getD new k 0 ≡ markOf (getD made (nowSideNumber n k) 0) (getD learnt (startSideNumber n k) 0)
   pub kept : (k : ℕ) → 7 ^ n ≤ k → getD new k 0 ≡ getD old k 0

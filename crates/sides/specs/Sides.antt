@@ -10,9 +10,9 @@ sideNumber zero f = 0
 sideNumber (suc n) f = sideNumber n f + f n * 3 ^ n
 
 -- what the knowledge number k tells of the present values of n settings
-unfoldable pub nowNumber : ℕ → ℕ → ℕ
-nowNumber n k = sideNumber n (λ i. nowOf (digit 7 k i))
+unfoldable pub nowSideNumber : ℕ → ℕ → ℕ
+nowSideNumber n k = sideNumber n (λ i. nowOf (digit 7 k i))
 
 -- and of the start values
-unfoldable pub startNumber : ℕ → ℕ → ℕ
-startNumber n k = sideNumber n (λ i. startOf (digit 7 k i))
+unfoldable pub startSideNumber : ℕ → ℕ → ℕ
+startSideNumber n k = sideNumber n (λ i. startOf (digit 7 k i))

@@ -6,7 +6,7 @@ use knowledge::start_side;
 ghost use mathlib.Core.Path.{_≡_};
 ghost use Prim.Native.Nat.{_+_, _*_, _-_, _^_, _≤_, _<_};
 ghost use lib.ListN.{length};
-ghost use Rattle.sides.specs.Sides.{nowNumber, startNumber};
+ghost use Rattle.sides.specs.Sides.{nowSideNumber, startSideNumber};
 ghost use Rattle.sides.specs.Over.{markOf, Marks};
 ghost use Rattle.sides.specs.Inner.{Stored, markAt};
 
@@ -19,7 +19,7 @@ struct Shown {
 // What a knowledge number shows of n settings.
 fn shown_by(n: u8, number: usize) -> Shown
     requires { ⌜ n ≤ 7 ⌝ }
-    ensures { λ r. ⌜ (r .now ≡ nowNumber n number) × (r .start ≡ startNumber n number) ⌝ }
+    ensures { λ r. ⌜ (r .now ≡ nowSideNumber n number) × (r .start ≡ startSideNumber n number) ⌝ }
 {
     let mut rest = number;
     let mut power: usize = 1;

@@ -1,6 +1,6 @@
 // What one side tells: the valuation, or that some setting is unknown.
 ghost use Prim.Native.Nat.{_^_, _≤_, _<_};
-ghost use Rattle.sides.specs.Inner.{Tells};
+ghost use Rattle.sides.specs.Inner.{SideTells};
 
 pub enum Told {
     // a setting i is unknown: 3^i, by which the side changes where setting i is false, and twice
@@ -13,7 +13,7 @@ pub enum Told {
 // What the side tells of the n settings; for this repository alone.
 pub fn told_by(n: u8, side: usize) -> Told
     requires { ⌜ (n ≤ 7) × (side < 3 ^ n) ⌝ }
-    ensures { λ r. ⌜ Tells n side r ⌝ }
+    ensures { λ r. ⌜ SideTells n side r ⌝ }
 {
     let mut rest = side;
     let mut power: usize = 1;

@@ -9,14 +9,14 @@ use Rattle.ground.proofs.Digits.{digit-lt}
 use Rattle.knowledge.specs.Seven.{nowOf, afterLook}
 use Rattle.sides.specs.Over.{entry}
 use Rattle.spread.specs.Spread.{rank}
-use Rattle.spread.specs.Inner.{offered, Spotted, Leads, Beside, Pushing, Tried, PushedLooks}
+use Rattle.spread.specs.Inner.{afterOffer, Spotted, SetsTo, Beside, Pushing, Tried, PushedLooks}
 use Rattle.spread.proofs.Spots.{pos, spot-at, spot-side}
 use Rattle.spread.proofs.Before.{low, from-low, from-high, from-none}
 use Rattle.spread.proofs.Pushes.{try-set, try-look, look-high}
 
 module _ {n k i rest side seven three : ℕ} (s : Spotted n k i rest side seven three) {h : ℕ} where
-  pub set-at : {set : List (List ℕ)} {old new : List ℕ} {e told : ℕ} {so : Bool} → Pushing n k h old → e < 7 → Leads e (digit 7 k i)
-      → told ≡ nowOf e → so ≡ ltb 0 (entry set i (side + told * three)) → new ≡ offered so old (rest + e * seven) h
+  pub set-at : {set : List (List ℕ)} {old new : List ℕ} {e told : ℕ} {so : Bool} → Pushing n k h old → e < 7 → SetsTo e (digit 7 k i)
+      → told ≡ nowOf e → so ≡ ltb 0 (entry set i (side + told * three)) → new ≡ afterOffer so old (rest + e * seven) h
       → Tried n set h k i e old new
   set-at {e = e} {told = told} {so = so} p l w now test eq =
       try-set (s .state) (s .setting) e (side + told * three) so p l w
@@ -25,7 +25,7 @@ module _ {n k i rest side seven three : ℕ} (s : Spotted n k i rest side seven 
       (rw (spot-at s e) eq)
 
   pub look-at : {look : List (List ℕ)} {old new : List ℕ} {so : Bool} (e : ℕ) → Pushing n k h old → Beside e (digit 7 k i)
-      → rank old (rest + e * seven) < h → so ≡ ltb 0 (entry look i side) → new ≡ offered so old rest h
+      → rank old (rest + e * seven) < h → so ≡ ltb 0 (entry look i side) → new ≡ afterOffer so old rest h
       → PushedLooks n look h k i old new
   look-at {so = so} e p w less test eq =
       try-look (s .state) (s .setting) e side so p w (rw (spot-at s e) less) (s .side-is) test (rw (← s .rest-is) eq)
@@ -39,13 +39,13 @@ module _ (k i : ℕ) (d : ℕ) (is : d ≡ digit 7 k i) where
   pub is-digit : d < 7
   is-digit = rw is (digit-lt pos k i)
 
-  pub lead-low : (d ≡ 0 → ⊥) → Leads (low d) (digit 7 k i)
+  pub lead-low : (d ≡ 0 → ⊥) → SetsTo (low d) (digit 7 k i)
   lead-low z = rw (← is) (from-low d is-digit z)
 
-  pub lead-high : (d ≡ 0 → ⊥) → Leads (low d + 1) (digit 7 k i)
+  pub lead-high : (d ≡ 0 → ⊥) → SetsTo (low d + 1) (digit 7 k i)
   lead-high z = rw (← is) (from-high d is-digit z)
 
-  pub lead-none : (d ≡ 0 → ⊥) → d < 3 → Leads 0 (digit 7 k i)
+  pub lead-none : (d ≡ 0 → ⊥) → d < 3 → SetsTo 0 (digit 7 k i)
   lead-none z l = rw (← is) (from-none d is-digit z l)
 
   pub beside-false : d ≡ 3 → Beside 6 (digit 7 k i)

@@ -15,7 +15,7 @@ use Rattle.knowledge.specs.Fits.{implies}
 use Rattle.knowledge.specs.Acts.{setTo, lookAt}
 use Rattle.knowledge.proofs.Seven.{set-lt, look-lt}
 use Rattle.knowledge.proofs.Outcomes.{set-here, look-here}
-use Rattle.spread.specs.Inner.{Leads}
+use Rattle.spread.specs.Inner.{SetsTo}
 use Rattle.spread.proofs.Spots.{pos}
 
 module _ (k i : ℕ) where
@@ -81,17 +81,17 @@ value : ℕ → Bool
 value d = eqb (d % 2) 0
 
 module _ (d : ℕ) (l : d < 7) where
-  pub from-low : (d ≡ 0 → ⊥) → Leads (low d) d
+  pub from-low : (d ≡ 0 → ⊥) → SetsTo (low d) d
   unfolding all afterSet value
   from-low z =
       (value d, eqb→eq (afterSet (low d) (value d)) d (rw (ne-eqb d 0 z) at (all-at 7 (λ d. eqb d 0 || eqb (afterSet (low d) (value d)) d) tt d l)))
 
-  pub from-high : (d ≡ 0 → ⊥) → Leads (low d + 1) d
+  pub from-high : (d ≡ 0 → ⊥) → SetsTo (low d + 1) d
   unfolding all afterSet value
   from-high z =
       (value d, eqb→eq (afterSet (low d + 1) (value d)) d (rw (ne-eqb d 0 z) at (all-at 7 (λ d. eqb d 0 || eqb (afterSet (low d + 1) (value d)) d) tt d l)))
 
-  pub from-none : (d ≡ 0 → ⊥) → d < 3 → Leads 0 d
+  pub from-none : (d ≡ 0 → ⊥) → d < 3 → SetsTo 0 d
   unfolding all afterSet value
   from-none z m =
       (value d, eqb→eq (afterSet 0 (value d)) d (rw (ne-eqb d 0 z) at (all-at 3 (λ d. eqb d 0 || eqb (afterSet 0 (value d)) d) tt d m)))

@@ -12,12 +12,12 @@ use lib.ListN.{length, getD, set, length-set}
 use lib.Seq.{getD-set-same, getD-set-other}
 use Rattle.ground.proofs.Bools.{and-left, and-right, decide, eq→eqb, T→true, T→false}
 use Rattle.knowledge.specs.Acts.{lookAt}
-use Rattle.spread.specs.Spread.{rank, Lowers, by-set, by-look}
-use Rattle.spread.specs.Inner.{given, offered, Grew, SetsDone, LooksDone, Pushed}
+use Rattle.spread.specs.Spread.{rank, HasLower, by-set, by-look}
+use Rattle.spread.specs.Inner.{given, afterOffer, Grew, SetsDone, LooksDone, Pushed}
 
 module _ {n : ℕ} {set look : List (List ℕ)} where
   -- an act lowers as long as its outcomes stay below
-  pub lowers-map : {s t : List ℕ} {k g h : ℕ} → ((x : ℕ) → rank s x < g → rank t x < h) → Lowers n set look s k g → Lowers n set look t k h
+  pub lowers-map : {s t : List ℕ} {k g h : ℕ} → ((x : ℕ) → rank s x < g → rank t x < h) → HasLower n set look s k g → HasLower n set look t k h
   lowers-map f (by-set i b l m r) = by-set i b l m (f _ r)
   lowers-map f (by-look i l m d r q) = by-look i l m d (f _ r) (f _ q)
 
@@ -37,10 +37,10 @@ module _ {n : ℕ} {set look : List (List ℕ)} where
     pub still-none : h < 255 → (k : ℕ) → rank new k ≡ 255 → rank old k ≡ 255
     still-none l k e = elim (g .each k) [ inl s ↦ sym s ∙ e | inr w ↦ w .0 ]
 
-    pub lowers-kept : (k b : ℕ) → b ≤ 255 → Lowers n set look old k b → Lowers n set look new k b
+    pub lowers-kept : (k b : ℕ) → b ≤ 255 → HasLower n set look old k b → HasLower n set look new k b
     lowers-kept k b l w = lowers-map (λ x r. omega (arith, kept x (omega arith))) w
 
-    pub lowers-back : (k b : ℕ) → b ≤ h → Lowers n set look new k b → Lowers n set look old k b
+    pub lowers-back : (k b : ℕ) → b ≤ h → HasLower n set look new k b → HasLower n set look old k b
     lowers-back k b l w = lowers-map (λ x r. omega (arith, back x (omega arith))) w
 
     pub sets-stay : h < 255 → (k i : ℕ) → SetsDone n set old k i → SetsDone n set new k i
@@ -69,7 +69,7 @@ module _ {n : ℕ} {set look : List (List ℕ)} where
 
 -- the one store: a state with no rank takes h
 module _ {n : ℕ} {sets looks : List (List ℕ)} (t : List ℕ) (k h : ℕ) where
-  given-grew : (so : Bool) → k < 7 ^ n → k < length t → (T so → (rank t k ≡ 255) × Lowers n sets looks t k h)
+  given-grew : (so : Bool) → k < 7 ^ n → k < length t → (T so → (rank t k ≡ 255) × HasLower n sets looks t k h)
       → Grew n sets looks h t (given so t k h)
   given-grew false l m w = same h t
   given-grew true l m w = record {
@@ -81,16 +81,16 @@ module _ {n : ℕ} {sets looks : List (List ℕ)} (t : List ℕ) (k h : ℕ) whe
     ];
   }
 
-  pub offer-grew : (so : Bool) → k < 7 ^ n → 7 ^ n ≤ length t → (T so → Lowers n sets looks t k h)
-      → Grew n sets looks h t (offered so t k h)
-  unfolding offered
+  pub offer-grew : (so : Bool) → k < 7 ^ n → 7 ^ n ≤ length t → (T so → HasLower n sets looks t k h)
+      → Grew n sets looks h t (afterOffer so t k h)
+  unfolding afterOffer
   offer-grew so l m w =
       given-grew (so && eqb (getD t k 0) 255) l (omega arith)
       (λ s. (eqb→eq (getD t k 0) 255 (and-right so (eqb (getD t k 0) 255) s), w (and-left so (eqb (getD t k 0) 255) s)))
 
 -- after an offer the state has a rank
-pub offer-taken : (t : List ℕ) (k h : ℕ) (so : Bool) → T so → h < 255 → k < length t → rank (offered so t k h) k ≡ 255 → ⊥
-unfolding offered
+pub offer-taken : (t : List ℕ) (k h : ℕ) (so : Bool) → T so → h < 255 → k < length t → rank (afterOffer so t k h) k ≡ 255 → ⊥
+unfolding afterOffer
 offer-taken t k h true s l m = elim (decide (eqb (getD t k 0) 255)) [
   | inl y ↦ rw (T→true (eqb (getD t k 0) 255) y) (λ e. absurd (omega (arith, e, getD-set-same t k h 0 m)))
   | inr z ↦ rw (T→false (eqb (getD t k 0) 255) z) (λ e. T-not (eqb (getD t k 0) 255) z (eq→eqb e))
@@ -98,14 +98,14 @@ offer-taken t k h true s l m = elim (decide (eqb (getD t k 0) 255)) [
 
 -- the ways through an offer in code
 module _ (t : List ℕ) (k h : ℕ) {so : Bool} where
-  pub offer-no : so ≡ false → t ≡ offered so t k h
-  unfolding offered
+  pub offer-no : so ≡ false → t ≡ afterOffer so t k h
+  unfolding afterOffer
   offer-no e = rw e
 
-  pub offer-yes : so ≡ true → getD t k 0 ≡ 255 → set t k h ≡ offered so t k h
-  unfolding offered
+  pub offer-yes : so ≡ true → getD t k 0 ≡ 255 → set t k h ≡ afterOffer so t k h
+  unfolding afterOffer
   offer-yes e n = rw (e, n)
 
-  pub offer-full : so ≡ true → (getD t k 0 ≡ 255 → ⊥) → t ≡ offered so t k h
-  unfolding offered
+  pub offer-full : so ≡ true → (getD t k 0 ≡ 255 → ⊥) → t ≡ afterOffer so t k h
+  unfolding afterOffer
   offer-full e n = rw (e, ne-eqb (getD t k 0) 255 n)

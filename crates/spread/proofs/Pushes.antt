@@ -11,10 +11,10 @@ use Rattle.ground.proofs.Digits.{digit-lt, put-same, put-lt}
 use Rattle.knowledge.specs.Seven.{afterLook}
 use Rattle.knowledge.specs.Acts.{lookAt}
 use Rattle.knowledge.proofs.Seven.{set-known}
-use Rattle.sides.specs.Sides.{nowNumber}
+use Rattle.sides.specs.Sides.{nowSideNumber}
 use Rattle.sides.specs.Over.{entry}
 use Rattle.spread.specs.Spread.{rank, May, by-set, by-look}
-use Rattle.spread.specs.Inner.{offered, Grew, SetsDone, Leads, Beside, Pushing, Tried, PushedSets, PushedLooks, PushedAlong}
+use Rattle.spread.specs.Inner.{afterOffer, Grew, SetsDone, SetsTo, Beside, Pushing, Tried, PushedSets, PushedLooks, PushedAlong}
 use Rattle.spread.proofs.Spots.{pos}
 use Rattle.spread.proofs.Grown.{same, kept, further, still-none, sets-stay, offer-grew, offer-taken}
 use Rattle.spread.proofs.Before.{set-into, set-from, look-into, look-to, look-from, low, only-from}
@@ -29,7 +29,7 @@ pushing-on {k = k} p g = record {
 
 -- every state before k by a set of i has one of the digits that lead to k's
 sets-done : (n k i : ℕ) (set : List (List ℕ)) (t : List ℕ)
-    → ((e : ℕ) → e < 7 → Leads e (digit 7 k i) → May set n (put 7 k i e) i → rank t (put 7 k i e) ≡ 255 → ⊥)
+    → ((e : ℕ) → e < 7 → SetsTo e (digit 7 k i) → May set n (put 7 k i e) i → rank t (put 7 k i e) ≡ 255 → ⊥)
     → SetsDone n set t k i
 sets-done n k i set t f p b m e none =
     let w = set-into k i p b e in
@@ -57,8 +57,8 @@ no-look true d e f g = g e
 
 module _ {n k i h : ℕ} (state : k < 7 ^ n) (setting : i < n) where
   -- the rank offered by a set
-  pub try-set : {set : List (List ℕ)} {old new : List ℕ} (e side : ℕ) (so : Bool) → Pushing n k h old → e < 7 → Leads e (digit 7 k i)
-      → side ≡ nowNumber n (put 7 k i e) → so ≡ ltb 0 (entry set i side) → new ≡ offered so old (put 7 k i e) h
+  pub try-set : {set : List (List ℕ)} {old new : List ℕ} (e side : ℕ) (so : Bool) → Pushing n k h old → e < 7 → SetsTo e (digit 7 k i)
+      → side ≡ nowSideNumber n (put 7 k i e) → so ≡ ltb 0 (entry set i side) → new ≡ afterOffer so old (put 7 k i e) h
       → Tried n set h k i e old new
   try-set {set} {old} {new} e side so p l w here test eq =
       let at : put 7 k i e < 7 ^ n = put-lt pos k i n e state setting l in
@@ -101,8 +101,8 @@ module _ {n k i h : ℕ} (state : k < 7 ^ n) (setting : i < n) where
 
   -- the rank offered by a look
   pub try-look : {look : List (List ℕ)} {old new : List ℕ} (e side : ℕ) (so : Bool) → Pushing n k h old → Beside e (digit 7 k i)
-      → rank old (put 7 k i e) < h → side ≡ nowNumber n (put 7 k i 0) → so ≡ ltb 0 (entry look i side)
-      → new ≡ offered so old (put 7 k i 0) h → PushedLooks n look h k i old new
+      → rank old (put 7 k i e) < h → side ≡ nowSideNumber n (put 7 k i 0) → so ≡ ltb 0 (entry look i side)
+      → new ≡ afterOffer so old (put 7 k i 0) h → PushedLooks n look h k i old new
   try-look {look} {old} {new} e side so p w less here test eq =
       let at : put 7 k i 0 < 7 ^ n = put-lt pos k i n 0 state setting pos in
       let one : rank old (lookAt (put 7 k i 0) i (w .0)) < h = rw (look-from k i (w .0) (w .1)) (p .low) in

@@ -11,7 +11,7 @@ use Rattle.ground.proofs.Search.{below-suc}
 use Rattle.ground.proofs.Digits.{digit-lt, put-same, put-other, put-lt, put-sum, put-digit}
 use Rattle.knowledge.specs.Seven.{nowOf}
 use Rattle.knowledge.proofs.Seven.{now-lt, at-digit}
-use Rattle.sides.specs.Sides.{sideNumber, nowNumber}
+use Rattle.sides.specs.Sides.{sideNumber, nowSideNumber}
 use Rattle.spread.specs.Inner.{Spotted}
 
 pub pos : 0 < 7
@@ -44,11 +44,11 @@ side-change (suc n) i f g l other =
     (λ e. rw (side-same n f g (λ j m. other j (λ q. absurd (omega arith))), e) (omega arith))
     (λ m. rw (other n (λ q. absurd (omega arith))) (omega (arith, side-change n i f g m other)))
 
-pub now-below : (n k : ℕ) → nowNumber n k < 3 ^ n
-unfolding nowNumber
+pub now-below : (n k : ℕ) → nowSideNumber n k < 3 ^ n
+unfolding nowSideNumber
 now-below n k = side-lt n (λ i. nowOf (digit 7 k i)) (λ i. now-lt (digit 7 k i))
 
-pub below-sides : (n k : ℕ) → n ≤ 7 → nowNumber n k < 2187
+pub below-sides : (n k : ℕ) → n ≤ 7 → nowSideNumber n k < 2187
 below-sides n k l = lt-of-lt-of-le (now-below n k) (pow-three n l)
 
 -- the number and the side of a state with another digit at setting i
@@ -60,19 +60,19 @@ module _ (n k i : ℕ) where
   put-from = omega (arith, put-sum pos k i 0)
 
   put-side : (d e : ℕ) → d < 7 → e < 7 → i < n
-      → nowNumber n (put 7 k i d) + nowOf e * 3 ^ i ≡ nowNumber n (put 7 k i e) + nowOf d * 3 ^ i
-  unfolding nowNumber
+      → nowSideNumber n (put 7 k i d) + nowOf e * 3 ^ i ≡ nowSideNumber n (put 7 k i e) + nowOf d * 3 ^ i
+  unfolding nowSideNumber
   put-side d e l m h =
       let here = put-same pos k i d l in
       let there = put-same pos k i e m in
       rw (here, there) at (side-change n i (λ j. nowOf (digit 7 (put 7 k i d) j)) (λ j. nowOf (digit 7 (put 7 k i e) j)) h
       (λ j ne. ap nowOf (put-other pos k i j d l ne ∙ sym (put-other pos k i j e m ne))))
 
-  pub side-rest : (e : ℕ) → e < 7 → i < n → nowNumber n (put 7 k i e) ≡ nowNumber n (put 7 k i 0) + nowOf e * 3 ^ i
+  pub side-rest : (e : ℕ) → e < 7 → i < n → nowSideNumber n (put 7 k i e) ≡ nowSideNumber n (put 7 k i 0) + nowOf e * 3 ^ i
   unfolding nowOf
   side-rest e l h = omega (arith, put-side 0 e (lit< tt) l h)
 
-  pub side-from : i < n → nowNumber n k ≡ nowNumber n (put 7 k i 0) + nowOf (digit 7 k i) * 3 ^ i
+  pub side-from : i < n → nowSideNumber n k ≡ nowSideNumber n (put 7 k i 0) + nowOf (digit 7 k i) * 3 ^ i
   side-from h = rw (put-digit pos k i) at (side-rest (digit 7 k i) (digit-lt pos k i) h)
 
 -- what a digit tells of the present value, packed into one number
@@ -85,8 +85,8 @@ module _ (n k i d : ℕ) (is : d ≡ digit 7 k i) where
   pub rest-of : (seven : ℕ) → seven ≡ 7 ^ i → put 7 k i 0 + d * seven ≡ k
   rest-of seven e = rw (is, e) (put-from n k i)
 
-  pub side-of : (three side told : ℕ) → i < n → side ≡ nowNumber n k → told ≡ nowOf d → three ≡ 3 ^ i
-      → nowNumber n (put 7 k i 0) + told * three ≡ side
+  pub side-of : (three side told : ℕ) → i < n → side ≡ nowSideNumber n k → told ≡ nowOf d → three ≡ 3 ^ i
+      → nowSideNumber n (put 7 k i 0) + told * three ≡ side
   side-of three side told l s e f = rw (s, e, is, f) (sym (side-from n k i l))
 
 -- at a spot: where the state with the digit e stands, and which side it has
@@ -94,7 +94,7 @@ module _ {n k i rest side seven three : ℕ} (s : Spotted n k i rest side seven 
   pub spot-at : (e : ℕ) → put 7 k i e ≡ rest + e * seven
   spot-at e = rw (s .rest-is, s .seven-is) (put-rest n k i e)
 
-  pub spot-side : (e : ℕ) → e < 7 → nowNumber n (put 7 k i e) ≡ side + nowOf e * three
+  pub spot-side : (e : ℕ) → e < 7 → nowSideNumber n (put 7 k i e) ≡ side + nowOf e * three
   spot-side e l = rw (s .side-is, s .three-is) (side-rest n k i e l (s .setting))
 
   pub spot-below : (e : ℕ) → e < 7 → rest + e * seven < 7 ^ n

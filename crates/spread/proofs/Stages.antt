@@ -10,7 +10,7 @@ use lib.ListN.{length}
 use Rattle.ground.proofs.Bools.{lt-or-ge}
 use Rattle.knowledge.specs.Acts.{setTo, lookAt}
 use Rattle.knowledge.proofs.Outcomes.{set-below, look-below}
-use Rattle.spread.specs.Spread.{rank, Lowers, by-set, by-look, Ready, Spread}
+use Rattle.spread.specs.Spread.{rank, HasLower, by-set, by-look, Ready, Spread}
 use Rattle.spread.specs.Inner.{Swept}
 use Rattle.spread.proofs.Grown.{kept, lowers-kept, lowers-back}
 
@@ -23,12 +23,12 @@ pub record Stage (n : ℕ) (set look : List (List ℕ)) (h : ℕ) (old t : List 
   -- marked means entry 0, now and at first
   pub marked : (k : ℕ) → (rank old k ≡ 0 → rank t k ≡ 0) × (rank t k ≡ 0 → rank old k ≡ 0)
   pub bounded : (k : ℕ) → k < 7 ^ n → (rank t k < h) ⊎ (rank t k ≡ 255)
-  pub reached : (k : ℕ) → k < 7 ^ n → rank t k < 255 → (rank t k ≡ 0) ⊎ Lowers n set look t k (rank t k)
-  pub least : (k : ℕ) → k < 7 ^ n → (g : ℕ) → g < h → Lowers n set look t k g → rank t k ≤ g
+  pub reached : (k : ℕ) → k < 7 ^ n → rank t k < 255 → (rank t k ≡ 0) ⊎ HasLower n set look t k (rank t k)
+  pub least : (k : ℕ) → k < 7 ^ n → (g : ℕ) → g < h → HasLower n set look t k g → rank t k ≤ g
 
 module _ {n : ℕ} {set look : List (List ℕ)} where
   -- nothing is below 0
-  lowers-none : {t : List ℕ} {k : ℕ} → Lowers n set look t k 0 → ⊥
+  lowers-none : {t : List ℕ} {k : ℕ} → HasLower n set look t k 0 → ⊥
   lowers-none (by-set i b l m r) = absurd (omega arith)
   lowers-none (by-look i l m d r q) = absurd (omega arith)
 
@@ -45,8 +45,8 @@ module _ {n : ℕ} {set look : List (List ℕ)} where
   }
 
   -- the acts whose outcomes are all below h: all below h - 1, or one leads to a state of rank h - 1, which was pushed from
-  split : {h k : ℕ} {a t : List ℕ} {r : ℕ} → k < 7 ^ n → Swept n set look h 0 (7 ^ n) a t r → Lowers n set look t k h
-      → Lowers n set look t k (h - 1) ⊎ (rank t k ≡ 255 → ⊥)
+  split : {h k : ℕ} {a t : List ℕ} {r : ℕ} → k < 7 ^ n → Swept n set look h 0 (7 ^ n) a t r → HasLower n set look t k h
+      → HasLower n set look t k (h - 1) ⊎ (rank t k ≡ 255 → ⊥)
   split {h} {k} {t = t} l s (by-set i b m may low) = elim (lt-or-ge (rank t (setTo k i b)) (h - 1)) [
     | inl x ↦ inl (by-set i b m may x)
     | inr x ↦ inr (s .pushed (setTo k i b) (omega arith) (set-below k i b n l m) (omega arith) .sets i m k b may refl)
@@ -67,7 +67,7 @@ module _ {n : ℕ} {set look : List (List ℕ)} where
       | inl e ↦ elim (g .bounded k l) [ inl b ↦ inl (omega arith) | inr b ↦ inr (e ∙ b) ]
     ]
 
-    next-reached : (k : ℕ) → k < 7 ^ n → rank new k < 255 → (rank new k ≡ 0) ⊎ Lowers n set look new k (rank new k)
+    next-reached : (k : ℕ) → k < 7 ^ n → rank new k < 255 → (rank new k ≡ 0) ⊎ HasLower n set look new k (rank new k)
     next-reached k l b = elim (s .grew .each k) [
       | inr w ↦ inr (rw (w .1) (lowers-kept (s .grew) k h (omega arith) (w .2)))
       | inl e ↦ elim (g .reached k l (omega arith)) [
@@ -77,12 +77,12 @@ module _ {n : ℕ} {set look : List (List ℕ)} where
     ]
 
     -- below h nothing has changed
-    least-below : (k : ℕ) → k < 7 ^ n → (b : ℕ) → b < h → Lowers n set look new k b → rank new k ≤ b
+    least-below : (k : ℕ) → k < 7 ^ n → (b : ℕ) → b < h → HasLower n set look new k b → rank new k ≤ b
     least-below k l b m w =
         let x = g .least k l b m (lowers-back (s .grew) k b (omega arith) w) in
         omega (arith, x, kept (s .grew) k (omega arith))
 
-    next-least : (k : ℕ) → k < 7 ^ n → (b : ℕ) → b < h + 1 → Lowers n set look new k b → rank new k ≤ b
+    next-least : (k : ℕ) → k < 7 ^ n → (b : ℕ) → b < h + 1 → HasLower n set look new k b → rank new k ≤ b
     next-least k l b m w = elim (lt-or-ge b h) [
       | inl x ↦ least-below k l b x w
       | inr x ↦ (let e : b ≡ h = omega arith in elim (split l s (rw e at w)) [
@@ -108,7 +108,7 @@ module _ {n : ℕ} {set look : List (List ℕ)} where
 
   -- the certificate, once no act would give any entry a lower one
   finish : {h : ℕ} {old t : List ℕ} → h ≤ 255 → Stage n set look h old t
-      → ((k : ℕ) → k < 7 ^ n → (b : ℕ) → b < 255 → Lowers n set look t k b → rank t k ≤ b) → Spread n set look old t
+      → ((k : ℕ) → k < 7 ^ n → (b : ℕ) → b < 255 → HasLower n set look t k b → rank t k ≤ b) → Spread n set look old t
   finish {t = t} high g f = record {
     same-length = g .same-length;
     beyond = g .beyond;
@@ -126,8 +126,8 @@ module _ {n : ℕ} {set look : List (List ℕ)} where
   last e g = finish (omega arith) g (λ k l b m w. g .least k l b (omega arith) w)
 
   -- outcomes are knowledge numbers of n settings too
-  pub lowers-within : {s t : List ℕ} {k b h : ℕ} → k < 7 ^ n → ((x : ℕ) → x < 7 ^ n → rank s x < b → rank t x < h) → Lowers n set look s k b
-      → Lowers n set look t k h
+  pub lowers-within : {s t : List ℕ} {k b h : ℕ} → k < 7 ^ n → ((x : ℕ) → x < 7 ^ n → rank s x < b → rank t x < h) → HasLower n set look s k b
+      → HasLower n set look t k h
   lowers-within {k = k} l f (by-set i b m may r) = by-set i b m may (f _ (set-below k i b n l m) r)
   lowers-within {k = k} l f (by-look i m may d r q) = by-look i m may d (f _ (look-below k i false n l m) r) (f _ (look-below k i true n l m) q)
 

@@ -9,16 +9,16 @@ use lib.ListN.{length, getD, set}
 use Rattle.ground.specs.Digits.{digit, put}
 use Rattle.knowledge.specs.Seven.{afterSet, afterLook}
 use Rattle.knowledge.specs.Acts.{setTo, lookAt}
-use Rattle.sides.specs.Sides.{nowNumber}
-use Rattle.spread.specs.Spread.{rank, May, Lowers}
+use Rattle.sides.specs.Sides.{nowSideNumber}
+use Rattle.spread.specs.Spread.{rank, May, HasLower}
 
 abbrev pub given : Bool → List ℕ → ℕ → ℕ → List ℕ
 given true t k h = set t k h
 given false t k h = t
 
 -- the table after the rank h was offered to the state k, if this is so: k takes it where it has none
-unfoldable pub offered : Bool → List ℕ → ℕ → ℕ → List ℕ
-offered so t k h = given (so && eqb (getD t k 0) 255) t k h
+unfoldable pub afterOffer : Bool → List ℕ → ℕ → ℕ → List ℕ
+afterOffer so t k h = given (so && eqb (getD t k 0) 255) t k h
 
 -- a state k of n settings but for its digit at setting i
 pub record Spotted (n k i rest side seven three : ℕ) : Type 0 where
@@ -26,7 +26,7 @@ pub record Spotted (n k i rest side seven three : ℕ) : Type 0 where
   pub state : k < 7 ^ n
   pub setting : i < n
   pub rest-is : rest ≡ put 7 k i 0
-  pub side-is : side ≡ nowNumber n (put 7 k i 0)
+  pub side-is : side ≡ nowSideNumber n (put 7 k i 0)
   pub seven-is : seven ≡ 7 ^ i
   pub three-is : three ≡ 3 ^ i
 
@@ -34,13 +34,13 @@ pub record Spotted (n k i rest side seven three : ℕ) : Type 0 where
 pub record Apart (n k side : ℕ) (digits : List ℕ) : Type 0 where
   pub long : length digits ≡ 7
   pub each : (i : ℕ) → i < n → getD digits i 0 ≡ digit 7 k i
-  pub side-is : side ≡ nowNumber n k
+  pub side-is : side ≡ nowSideNumber n k
 
 -- every entry stays, or was 255 and is h now, as an act allows it
 pub record Grew (n : ℕ) (set look : List (List ℕ)) (h : ℕ) (old new : List ℕ) : Type 0 where
   pub same-length : length new ≡ length old
   pub beyond : (k : ℕ) → 7 ^ n ≤ k → rank new k ≡ rank old k
-  pub each : (k : ℕ) → (rank new k ≡ rank old k) ⊎ ((rank old k ≡ 255) × (rank new k ≡ h) × Lowers n set look old k h)
+  pub each : (k : ℕ) → (rank new k ≡ rank old k) ⊎ ((rank old k ≡ 255) × (rank new k ≡ h) × HasLower n set look old k h)
 
 -- no state from which a set of setting i leads to k is left without a rank
 abbrev pub SetsDone : ℕ → List (List ℕ) → List ℕ → ℕ → ℕ → Type 0
@@ -52,8 +52,8 @@ LooksDone n look h t k i =
     (p : ℕ) (b : Bool) → May look n p i → digit 7 p i ≡ 0 → lookAt p i b ≡ k → rank t (lookAt p i (not b)) < h → rank t p ≡ 255 → ⊥
 
 -- a set leads from digit e to digit d
-abbrev pub Leads : ℕ → ℕ → Type 0
-Leads e d = (b : Bool) × (afterSet e b ≡ d)
+abbrev pub SetsTo : ℕ → ℕ → Type 0
+SetsTo e d = (b : Bool) × (afterSet e b ≡ d)
 
 -- d is one outcome of a look, and e the other
 abbrev pub Beside : ℕ → ℕ → Type 0

@@ -9,9 +9,9 @@ ghost use lib.Dec.{ltb};
 ghost use lib.ListN.{length};
 ghost use Rattle.ground.specs.Digits.{digit};
 ghost use Rattle.knowledge.specs.Seven.{nowOf};
-ghost use Rattle.sides.specs.Sides.{nowNumber};
+ghost use Rattle.sides.specs.Sides.{nowSideNumber};
 ghost use Rattle.sides.specs.Over.{entry};
-ghost use Rattle.spread.specs.Inner.{offered, Spotted, Leads, Beside, Pushing, Tried, PushedSets, PushedLooks, PushedAlong};
+ghost use Rattle.spread.specs.Inner.{afterOffer, Spotted, SetsTo, Beside, Pushing, Tried, PushedSets, PushedLooks, PushedAlong};
 
 // A state but for its digit at one setting: the number and the present side that it has with digit 0
 // there, and what a step of that digit and of that side counts.
@@ -42,7 +42,7 @@ fn may(table: &[[u8; SIDES]; SETTINGS], i: usize, side: usize) -> bool
 // Gives the state the rank h, if this is so and it has none yet.
 fn give(ranks: &mut [u8], at: usize, h: u8, so: bool)
     requires { ⌜ at < length (now ranks) ⌝ }
-    ensures { λ _. ⌜ now (ranks .exit) ≡ offered so (now (ranks .entry)) at h ⌝ }
+    ensures { λ _. ⌜ now (ranks .exit) ≡ afterOffer so (now (ranks .entry)) at h ⌝ }
 {
     if so {
         if ranks[at] == NONE {
@@ -62,7 +62,7 @@ fn from_digit(
     set: &[[u8; SIDES]; SETTINGS],
     ranks: &mut [u8],
 )
-    requires { ⌜ Spotted n k i (spot .rest) (spot .side) (spot .seven) (spot .three) × Pushing n k h (now ranks) × (e < 7) × Leads e (digit 7 k i) ⌝ }
+    requires { ⌜ Spotted n k i (spot .rest) (spot .side) (spot .seven) (spot .three) × Pushing n k h (now ranks) × (e < 7) × SetsTo e (digit 7 k i) ⌝ }
     ensures { λ _. ⌜ Tried n (now (set .entry)) h k i e (now (ranks .entry)) (now (ranks .exit)) ⌝ }
 {
     let at = spot.rest + e as usize * spot.seven;
@@ -144,7 +144,7 @@ fn by_look(
 
 // The spot of setting i, where k has the digit d.
 fn spot_of(n: usize, k: usize, side: usize, i: usize, d: u8, seven: usize, three: usize) -> Spot
-    requires { ⌜ (n ≤ 7) × (k < 7 ^ n) × (side ≡ nowNumber n k) × (i < n) × (d ≡ digit 7 k i) × (seven ≡ 7 ^ i) × (three ≡ 3 ^ i) ⌝ }
+    requires { ⌜ (n ≤ 7) × (k < 7 ^ n) × (side ≡ nowSideNumber n k) × (i < n) × (d ≡ digit 7 k i) × (seven ≡ 7 ^ i) × (three ≡ 3 ^ i) ⌝ }
     ensures { λ r. ⌜ Spotted n k i (r .rest) (r .side) (r .seven) (r .three) ⌝ }
 {
     Spot {
@@ -169,7 +169,7 @@ pub(crate) fn push(
     look: &[[u8; SIDES]; SETTINGS],
     ranks: &mut [u8],
 )
-    requires { ⌜ Pushing n k h (now ranks) × (n ≤ 7) × (k < 7 ^ n) × (side ≡ nowNumber n k) × (i < n) × (d ≡ digit 7 k i) × (seven ≡ 7 ^ i) × (three ≡ 3 ^ i) ⌝ }
+    requires { ⌜ Pushing n k h (now ranks) × (n ≤ 7) × (k < 7 ^ n) × (side ≡ nowSideNumber n k) × (i < n) × (d ≡ digit 7 k i) × (seven ≡ 7 ^ i) × (three ≡ 3 ^ i) ⌝ }
     ensures { λ _. ⌜ PushedAlong n (now (set .entry)) (now (look .entry)) h k i (now (ranks .entry)) (now (ranks .exit)) ⌝ }
 {
     let spot = spot_of(n, k, side, i, d, seven, three);

@@ -8,7 +8,7 @@ use super::scan::is_bare;
 use knowledge::Knowledge;
 ghost use mathlib.Core.Path.{_≡_};
 ghost use Prim.Native.Nat.{_+_, _^_, _≤_, _<_};
-ghost use Rattle.sides.specs.Sides.{nowNumber};
+ghost use Rattle.sides.specs.Sides.{nowSideNumber};
 ghost use Rattle.spread.specs.Inner.{Apart, Pushing, Visited, Sweeping, Swept};
 
 // A state taken apart: the digit of each setting, and the present side as a number.
@@ -40,7 +40,7 @@ fn take_apart(n: usize, k: usize) -> Parts
 // The present side of the state k, as a number.
 pub fn side_of(n: usize, k: usize) -> usize
     requires { ⌜ (n ≤ 7) × (k < 7 ^ n) ⌝ }
-    ensures { λ r. ⌜ r ≡ nowNumber n k ⌝ }
+    ensures { λ r. ⌜ r ≡ nowSideNumber n k ⌝ }
 {
     let parts = take_apart(n, k);
     parts.side

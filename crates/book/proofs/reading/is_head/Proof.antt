@@ -1,6 +1,6 @@
 -- `book::reading::is_head` meets its contract: each test is one part of `RightHead`.
 use native.Mathlib.Omega.{arith}
-use Rattle.book.proofs.Answers.{tells-iff}
+use Rattle.ground.proofs.Answers.{tells-iff}
 use Rattle.book.proofs.BookLaws.{whole-length, right-head, head-settings, head-posts, head-rest}
 use Rattle.book.proofs.reading.is_head.Statement.{statement}
 use Rattle.book.proofs.reading.is_head.Tie as tie

@@ -6,8 +6,8 @@ use denote.Ref.{now}
 use Rattle.book.specs.Block.{blocks, block, RightCheck}
 use Rattle.book.specs.Sound.{SettingBlock}
 use Rattle.book.specs.Refusals.{Whole, settingsOf, postsOf, RightHead}
-use Rattle.book.specs.Inner.{Lowest}
-use Rattle.book.proofs.Answers.{told, untold, lowest-all}
+use Rattle.ground.specs.Search.{Lowest}
+use Rattle.ground.proofs.Answers.{told, untold, lowest-all}
 use Rattle.book.proofs.BookLaws.{whole-length}
 use Rattle.book.proofs.RefusalLaws.{refuse-length, refuse-check, refuse-head, refuse-stray, is-sound, stray-blocks, sound-head, head-n, head-n-most}
 use borrow.Author.Needs.{needs}

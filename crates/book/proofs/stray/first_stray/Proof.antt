@@ -8,7 +8,7 @@ use denote.Ref.{now}
 use lib.ListN.{drop}
 use borrow.Author.Count.{below-none, below-more}
 use Rattle.book.specs.Inner.{Clean}
-use Rattle.book.proofs.Answers.{told, untold, lowest-at, lowest-none}
+use Rattle.ground.proofs.Answers.{told, untold, lowest-at, lowest-none}
 use Rattle.book.proofs.StrayLaws.{one-shifted, clean-tells}
 use Rattle.book.proofs.stray.first_stray.Statement.{statement}
 use Rattle.book.proofs.stray.first_stray.Tie as tie

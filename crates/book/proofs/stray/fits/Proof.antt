@@ -1,5 +1,5 @@
 -- `book::stray::fits` meets its contract: a shift by k leaves nothing of a number below 2^k alone.
-use Rattle.book.proofs.Bits.{shift-none, shift-some}
+use Rattle.ground.proofs.HighBits.{shift-none, shift-some}
 use borrow.Author.Needs.{needs}
 use Rattle.book.proofs.stray.fits.Statement.{statement}
 use Rattle.book.proofs.stray.fits.Tie as tie

@@ -6,7 +6,7 @@ use denote.Ref.{now}
 use lib.ListN.{drop}
 use borrow.Author.Count.{below-more}
 use Rattle.book.specs.Inner.{Clean}
-use Rattle.book.proofs.Answers.{told, untold}
+use Rattle.ground.proofs.Answers.{told, untold}
 use Rattle.book.proofs.StrayLaws.{live-most, Alive, byte-tells}
 use Rattle.book.proofs.stray.is_clean.Statement.{statement}
 use Rattle.book.proofs.stray.is_clean.Tie as tie

@@ -5,7 +5,7 @@ use native.Mathlib.Omega.{arith}
 use denote.Ref.{now}
 use borrow.Author.Count.{below-more}
 use Rattle.book.specs.Block.{block, RightCheck}
-use Rattle.book.proofs.Answers.{told, untold, tells-iff, lowest-at, lowest-none}
+use Rattle.ground.proofs.Answers.{told, untold, tells-iff, lowest-at, lowest-none}
 use Rattle.book.proofs.CheckLaws.{right-block, right-drop}
 use Rattle.book.proofs.sums.first_wrong.Statement.{statement}
 use Rattle.book.proofs.sums.first_wrong.Tie as tie

@@ -1,9 +1,10 @@
 -- `book::writing::judge` meets its contract: each way out is the first refusal in the order, or none, by what was tested before it.
 use native.Mathlib.Omega.{arith}
 use denote.Ref.{now}
-use Rattle.book.specs.Sound.{SettingsFit, PostsFit, Tables, tablesOf}
-use Rattle.book.specs.Inner.{Lowest}
-use Rattle.book.proofs.Answers.{lowest-all}
+use Rattle.ground.specs.Bounds.{SettingsFit, PostsFit}
+use Rattle.book.specs.Sound.{Tables, tablesOf}
+use Rattle.ground.specs.Search.{Lowest}
+use Rattle.ground.proofs.Answers.{lowest-all}
 use Rattle.book.proofs.RefusalLaws.{refuse-settings, refuse-posts, refuse-size, refuse-tables, refuse-room, lowest-tables}
 use borrow.Author.Needs.{needs}
 use Rattle.book.proofs.writing.judge.Statement.{statement}

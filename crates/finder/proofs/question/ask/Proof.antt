@@ -4,7 +4,7 @@ use mathlib.Core.Path.{_≡_, subst}
 use Rattle.book.specs.Promise.{Judges}
 use Rattle.book.specs.Refusals as B
 use Rattle.book.specs.declared.reading.ReadAnswer.{ReadAnswer}
-use Rattle.book.proofs.Answers.{told, untold}
+use Rattle.ground.proofs.Answers.{told, untold}
 use Rattle.finder.specs.Rows.{TeamFits, KnownFits, GoalFits}
 use Rattle.finder.proofs.RowLaws.{as-sound, as-refused, book-row, team-row, known-row, goal-row}
 use borrow.Author.Needs.{needs}

@@ -2,7 +2,7 @@
 use native.Mathlib.Omega.{arith}
 use lib.ListN.{drop}
 use Rattle.ground.specs.Table.{Within}
-use Rattle.book.proofs.Answers.{told, untold, tells-iff}
+use Rattle.ground.proofs.Answers.{told, untold, tells-iff}
 use Rattle.finder.specs.Rows.{LearnWithin, GoalFits}
 use borrow.Author.Needs.{needs}
 use Rattle.finder.proofs.question.goal_fits.Statement.{statement}

@@ -4,7 +4,7 @@ use Prim.Native.Nat.{_-_, _/_, _*_, _≤_}
 use lib.ListN.{length, drop}
 use native.Mathlib.Omega.{arith}
 use Rattle.ground.specs.Table.{Within}
-use Rattle.book.proofs.Answers.{told, untold}
+use Rattle.ground.proofs.Answers.{told, untold}
 use Rattle.finder.proofs.QuestionLaws.{LearnTo, learn-more, learn-bad, learn-all}
 use Rattle.finder.proofs.question.learn_within.Statement.{statement}
 use Rattle.finder.proofs.question.learn_within.Tie as tie

@@ -20,7 +20,7 @@ use Rattle.formula.proofs.parts.unit.Reads as unit
 use Rattle.formula.proofs.parts.unit.Kinds as unit-kinds
 use Rattle.formula.proofs.parts.+product+sum+unit.Lts-unit as unit-lts
 use Rattle.formula.proofs.parts.atom.Reads as atom-reads
-use Rattle.formula.proofs.parts.peek.Reads as peek-reads
+use Rattle.ground.proofs.peek.Reads as peek-reads
 use Rattle.formula.proofs.words.Words.and.Reads as and-reads
 use Rattle.formula.proofs.words.Words.negated.Reads as negated-reads
 use Rattle.formula.proofs.words.Words.or.Reads as or-reads

@@ -1,7 +1,7 @@
 -- `Words::byte` meets its contract: its word, then the shift and the remainder.
 use mathlib.Core.Path.{ap}
 use Prim.Native.Nat.{ℕ, _*_, _/_, _%_, _^_}
-use Rattle.formula.specs.Words.{byteOf}
+use Rattle.formula.specs.Words.{wordsByte}
 use borrow.Author.Needs.{needs}
 use Rattle.formula.proofs.words.Words.byte.Statement.{statement}
 use Rattle.formula.proofs.words.Words.byte.Tie as tie
@@ -19,7 +19,7 @@ cast-result : tie.Need-cast-result
 cast-result c = search needs
 
 returns : tie.Need-returns
-unfolding byteOf
+unfolding wordsByte
 returns c = ap (λ (x : ℕ). x / 2 ^ (8 * (c .before .args .j % 8)) % 256) (c .word .ensures)
 
 pub byte-spec : {M : Type 1} → statement M

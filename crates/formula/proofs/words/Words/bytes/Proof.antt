@@ -4,13 +4,13 @@ use Prim.Native.Nat.{ℕ, _-_, _<_}
 use mathlib.Core.Path.{_≡_, refl, _∙_}
 use lib.ListN.{length, getD, length-set}
 use native.Mathlib.Omega.{arith}
-use Rattle.formula.specs.Words.{byteOf}
+use Rattle.formula.specs.Words.{wordsByte}
 use Rattle.formula.proofs.TwoWords.{stored}
 use Rattle.formula.proofs.words.Words.bytes.Statement.{statement}
 use Rattle.formula.proofs.words.Words.bytes.Tie as tie
 
 abbrev Inv-loop : tie.InvT-loop
-Inv-loop self table₀ j₀ table j = (length table ≡ 16) × ((k : ℕ) → k < j → getD table k 0 ≡ byteOf self k)
+Inv-loop self table₀ j₀ table j = (length table ≡ 16) × ((k : ℕ) → k < j → getD table k 0 ≡ wordsByte self k)
 
 abbrev μ-loop : tie.MeasureT-loop
 μ-loop self table₀ j₀ table j = 16 - j

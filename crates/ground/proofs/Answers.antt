@@ -5,7 +5,8 @@ use Prim.Native.Nat.{ℕ, _≤_, _<_}
 use native.Mathlib.Omega.{arith}
 use native.Mathlib.Nat.{le-refl, lt-irrefl}
 use borrow.Author.Tests.{not-true, not-false}
-use Rattle.book.specs.Inner.{Tells, Lowest}
+use Rattle.ground.specs.Tells.{Tells}
+use Rattle.ground.specs.Search.{Lowest}
 
 -- in the two arms of `if !question() { .. }`
 pub untold : (A : Type 0) (r : Bool) → Tells r A → not r ≡ true → A → ⊥

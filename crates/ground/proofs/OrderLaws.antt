@@ -4,9 +4,9 @@ use mathlib.Core.List.{List, [], _∷_, _++_}
 use mathlib.Core.Logic.{_⊎_, inl, inr, ⊎-elim}
 use Prim.Native.Nat.{ℕ}
 use native.Mathlib.Nat.{not-suc-le-zero}
 use Rattle.ground.specs.Search.{Least}
-use Rattle.book.specs.Order.{Row, only, First, Clear}
+use Rattle.ground.specs.Order.{Row, only, First, Clear}
 use Rattle.ground.proofs.Search.{least-unique}
 
 -- a refusal whose place is 0
 pub least-only : {A : Type 0} → A → Least (only A) 0
