@@ -1,2 +1,3 @@
--- The three demands, on one page.
+-- The three demands, on one page; and that the finder and the plan check agree.
 pub mod Demands
+pub mod Agree

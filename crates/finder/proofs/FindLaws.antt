@@ -1,7 +1,7 @@
 -- From the ranks and the plan written to what `find` answers: one law for each return.
 use mathlib.Core.Path.{_≡_, refl, sym, ap, _∙_, subst}
 use mathlib.Core.Logic.{inl, inr}
-use mathlib.Core.List.{List, [], _++_}
+use mathlib.Core.List.{List, _++_}
 use Prim.Native.Nat.{ℕ, _+_, _^_, _≤_, _<_}
 use native.Mathlib.Omega.{arith}
 use lib.Dec.{lit<}
@@ -26,16 +26,17 @@ use Rattle.plan.proofs.Ranks.{rank-small}
 use Rattle.plan.proofs.Written.{written-unique}
 use Rattle.sides.specs.Over.{Marks}
 use Rattle.spread.specs.Spread.{Spread}
-use Rattle.finder.specs.Question.{startNumber}
-use Rattle.finder.specs.Rows.{number, place, KnownFits, questionRows, findRows}
-use Rattle.finder.specs.Finds.{ValidQuestion, Asks, RanksFilled, Answers}
+use Rattle.question.specs.Question.{startNumber}
+use Rattle.question.specs.Rows.{number, place, KnownFits, questionRows}
+use Rattle.question.specs.Asks.{ValidQuestion, Asks}
+use Rattle.finder.specs.Finds.{RanksFilled, Answers, findRows}
 use Rattle.finder.specs.Told.{Told, Room}
 use Rattle.finder.specs.declared.finding.Answer.the-variants.{Reach}
-use Rattle.finder.specs.declared.question.Refusal.{Refusal}
-use Rattle.finder.specs.declared.question.Question.{Question}
-use Rattle.finder.specs.declared.question.Asked.{Asked}
-use Rattle.finder.specs.declared.question.Asked.the-variants.{Valid, Not}
-use Rattle.finder.proofs.RowLaws.{question-clear}
+use Rattle.question.specs.declared.Refusal.{Refusal}
+use Rattle.question.specs.declared.Question.{Question}
+use Rattle.question.specs.declared.Asked.{Asked}
+use Rattle.question.specs.declared.Asked.the-variants.{Valid, Not}
+use Rattle.question.proofs.RowLaws.{question-clear}
 
 -- ---- the answer at a state
 

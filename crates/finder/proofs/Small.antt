@@ -1,49 +1,21 @@
 -- What a refusal of the finder or its plan can be at most: for those who pack the answer into one number.
 use mathlib.Core.Path.{_≡_, sym, subst}
 use mathlib.Core.Logic.{inl, inr}
-use mathlib.Core.List.{List, [], _++_}
-use Prim.Native.Nat.{ℕ, _≤_, _<_}
+use mathlib.Core.List.{List}
+use Prim.Native.Nat.{ℕ, _≤_}
 use native.Mathlib.Omega.{arith}
-use lib.Dec.{lit<}
 use lib.ListN.{length}
-use Rattle.ground.specs.Search.{Least}
-use Rattle.ground.specs.Order.{First, only}
-use Rattle.book.specs.Refusals.{bookRows, readRows}
-use Rattle.ground.proofs.OrderLaws.{first-left, first-split}
-use Rattle.book.proofs.Theorems.{read-place-most}
+use Rattle.ground.specs.Order.{First}
+use Rattle.ground.proofs.OrderLaws.{first-split}
 use Rattle.book.proofs.Small as B
 use Rattle.plan.specs.Plans.{System}
-use Rattle.finder.specs.Rows.{number, place, questionRows, findRows}
-use Rattle.finder.specs.Finds.{Answers, Finds}
-use Rattle.finder.specs.declared.question.Question.{Question}
-use Rattle.finder.specs.declared.question.Refusal.{Refusal}
-use Rattle.finder.specs.declared.question.Refusal.the-variants.{Book, Team, Known, Goal, Ranks, PlanRoom}
+use Rattle.question.specs.Rows.{number, place, questionRows}
+use Rattle.question.proofs.Small.{zero-small, question-most}
+use Rattle.finder.specs.Finds.{Answers, Finds, findRows}
+use Rattle.question.specs.declared.Question.{Question}
+use Rattle.question.specs.declared.Refusal.{Refusal}
+use Rattle.question.specs.declared.Refusal.the-variants.{Book, Team, Known, Goal, Ranks, PlanRoom}
 use Rattle.finder.specs.declared.finding.Answer.the-variants.{Reach, Refused}
-
-pub number-small : (r : Refusal) → number r < 256
-number-small (Book r) = B.number-small r
-number-small Team = lit< tt
-number-small Known = lit< tt
-number-small Goal = lit< tt
-number-small Ranks = lit< tt
-number-small PlanRoom = lit< tt
-
-zero-small : {given : Type 0} {p : ℕ} → Least (only given) p → p ≤ 8
-zero-small l = omega (arith, l .here .1)
-
-book-most : (book : List ℕ) (x p : ℕ) → First (bookRows book) x p → p ≤ 8
-unfolding readRows
-book-most book x p f = read-place-most book [] x p (first-left (bookRows book) _ x p f)
-
-question-most : (book : List ℕ) (team known values : ℕ) (make learn : List ℕ) (x p : ℕ) → First (questionRows book team known values make learn) x p → p ≤ 8
-unfolding questionRows
-question-most book team known values make learn x p f = elim (first-split (bookRows book) _ x p f) [
-  | inl g ↦ book-most book x p g
-  | inr (c, inl g) ↦ zero-small (g .1)
-  | inr (c, inr (a, inl g)) ↦ zero-small (g .1)
-  | inr (c, inr (a, inr (b, inl g))) ↦ zero-small (g .1)
-  | inr (c, inr (a, inr (b, inr (d, g)))) ↦ absurd g
-]
 
 find-most : (book : List ℕ) (team known values : ℕ) (make learn ranks : List ℕ) (x p : ℕ) → First (findRows book team known values make learn ranks) x p → p ≤ 8
 unfolding findRows

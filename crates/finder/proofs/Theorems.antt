@@ -2,7 +2,7 @@
 -- and demand 3, what "cannot" means for a secret.
 use mathlib.Core.Path.{_≡_, refl, sym, subst}
 use mathlib.Core.Logic.{inl, inr}
-use mathlib.Core.List.{List, [], _++_}
+use mathlib.Core.List.{List, _++_}
 use mathlib.Core.Bool.{true}
 use Prim.Native.Nat.{ℕ, suc, _-_, _^_, _≤_, _<_}
 use native.Mathlib.Omega.{arith}
@@ -10,7 +10,6 @@ use lib.Dec.{T}
 use lib.ListN.{length, getD, drop}
 use Rattle.ground.specs.Digits.{digit}
 use Rattle.ground.specs.Search.{all}
-use Rattle.ground.specs.Table.{truth}
 use Rattle.ground.proofs.Bools.{and-in, true→T}
 use Rattle.knowledge.specs.Fits.{known, learnSettled}
 use Rattle.knowledge.proofs.Known.{known-intro}
@@ -26,13 +25,15 @@ use Rattle.plan.proofs.Written.{written-works, written-height}
 use Rattle.plan.proofs.Accepted.{written-most}
 use Rattle.plan.proofs.Secret.{secret}
 use Rattle.sides.specs.Over.{learnCount, learnTable, allSettled}
-use Rattle.finder.specs.Question.{goalSettled, systemOf, startNumber, NoMaking}
-use Rattle.finder.specs.Rows.{number, place, findRows}
-use Rattle.finder.specs.Finds.{ValidQuestion, RanksFilled, Finds}
-use Rattle.finder.specs.declared.question.Question.{Question}
+use Rattle.question.specs.Question.{goalSettled, systemOf, startNumber, NoMaking}
+use Rattle.question.specs.Rows.{number, place}
+use Rattle.question.specs.Asks.{ValidQuestion}
+use Rattle.finder.specs.Finds.{RanksFilled, Finds, findRows}
+use Rattle.question.specs.declared.Question.{Question}
 use Rattle.finder.specs.declared.finding.Answer.{Answer}
 use Rattle.finder.specs.declared.finding.Answer.the-variants.{Reach, Cannot, Refused}
-use Rattle.finder.proofs.Unique.{late, lawful, few, find-clear}
+use Rattle.question.proofs.Unique.{lawful, few}
+use Rattle.finder.proofs.Unique.{late, find-clear}
 
 -- ---- demand 2: "reach" exactly when a working plan exists, the least height, and such a plan
 

@@ -1,13 +1,9 @@
--- What `find` and `ask` give is settled: any two results that their contracts allow are equal, both rooms included; and what a refusal leaves.
+-- What `find` gives is settled: any two results that its contract allows are equal, both rooms included; and what a refusal leaves.
 use mathlib.Core.Path.{_≡_, refl, sym, ap, ap₂, _∙_, subst}
 use mathlib.Core.Logic.{_⊎_, inl, inr}
-use mathlib.Core.List.{List, [], _++_}
-use mathlib.Core.Bool.{cond}
-use Prim.Native.Nat.{ℕ, zero, suc, _^_, _≤_, _<_}
-use native.Mathlib.Nat.{two-pow-succ}
-use lib.Pow.{pow-mono}
+use mathlib.Core.List.{List, _++_}
+use Prim.Native.Nat.{ℕ, _^_, _≤_, _<_}
 use native.Mathlib.Omega.{arith}
-use lib.Dec.{eqb, lit<}
 use lib.ListN.{length, drop}
 use lib.Seq.{ext-getD}
 use Rattle.ground.proofs.Bools.{lt-or-ge}
@@ -18,25 +14,22 @@ use Rattle.ground.proofs.OrderLaws.{first-unique, first-clear, clear-append, no
 use Rattle.book.proofs.SoundLaws.{sound-settings}
 use Rattle.book.proofs.Theorems.{sound-one}
 use Rattle.book.proofs.Theorems as B
-use Rattle.book.specs.declared.refusal.Refusal.the-variants.{Settings, Length, Check, Head, StrayBit, Room}
 use Rattle.plan.specs.Plans.{System, Lawful, Plan}
 use Rattle.plan.specs.Ranks.{Written}
 use Rattle.plan.specs.Bytes.{encode}
 use Rattle.plan.proofs.Ranks.{rank-unique}
 use Rattle.plan.proofs.Written.{written-works, written-unique}
-use Rattle.plan.proofs.Team.{team-lawful}
-use Rattle.finder.specs.Question.{goalSettled, systemOf, startNumber}
-use Rattle.finder.specs.Rows.{number, place, TeamFits, questionRows, findRows}
-use Rattle.finder.proofs.QuestionLaws.{low-bits}
-use Rattle.finder.specs.Finds.{ValidQuestion, Asks, RanksFilled, Answers, Finds}
-use Rattle.finder.specs.declared.question.Question.{Question}
-use Rattle.finder.specs.declared.question.Refusal.{Refusal}
-use Rattle.finder.specs.declared.question.Refusal.the-variants.{Book, Team, Known, Goal, Ranks, PlanRoom}
-use Rattle.finder.specs.declared.question.Asked.{Asked}
-use Rattle.finder.specs.declared.question.Asked.the-variants.{Valid, Not}
+use Rattle.question.specs.Question.{systemOf, startNumber}
+use Rattle.question.proofs.Unique.{lawful, few, refusal-same}
+use Rattle.question.specs.Rows.{number, place, questionRows}
+use Rattle.question.specs.Asks.{ValidQuestion}
+use Rattle.finder.specs.Finds.{RanksFilled, Answers, Finds, findRows}
+use Rattle.question.specs.declared.Question.{Question}
+use Rattle.question.specs.declared.Refusal.{Refusal}
+use Rattle.question.specs.declared.Refusal.the-variants.{Book, Team, Known, Goal, Ranks, PlanRoom}
 use Rattle.finder.specs.declared.finding.Answer.{Answer}
 use Rattle.finder.specs.declared.finding.Answer.the-variants.{Reach, Cannot, Refused}
-use Rattle.finder.proofs.RowLaws.{question-clear}
+use Rattle.question.proofs.RowLaws.{question-clear}
 
 -- ---- the answer to a valid question
 
@@ -79,49 +72,13 @@ ranks-unique {n} {S} {old} {new} {other} a b =
 
 -- ---- any two results that the contract allows are equal, the rank table and the plan room included
 
-pub below-power : (x : ℕ) → x < 2 ^ x
-below-power zero = lit< tt
-below-power (suc x) = rw two-pow-succ (omega (arith, below-power x))
-
--- a team of the book's posts is a byte
-team-byte : {m team : ℕ} → m ≤ 8 → TeamFits m team → team < 256
-team-byte {m} {team} h t = omega (arith, low-bits team m team (below-power team) (t .posts), pow-mono {i = m} {j = 8} h)
-
 module _ {book : List ℕ} {q : Question} {make learn : List ℕ} {n m : ℕ} (v : ValidQuestion book q make learn n m) where
-  pub lawful : Lawful n (systemOf n book (q .team) make learn)
-  unfolding systemOf
-  lawful = team-lawful n book (q .team) (goalSettled n make learn) (team-byte (v .sound .posts .most) (v .team))
-
-  pub few : n ≤ 7
-  few = v .sound .settings .most
-
   pub find-clear : (ranks : List ℕ) → 7 ^ n ≤ length ranks → Clear (findRows book (q .team) (q .known) (q .values) make learn ranks)
   unfolding findRows
   find-clear ranks h =
       clear-append (questionRows book (q .team) (q .known) (q .values) make learn) _
       (question-clear book (q .team) (q .known) (q .values) make learn (v .sound) (v .team) (v .known) (v .goal))
       (none-only (λ l. omega (arith, subst (λ (x : ℕ). length ranks < 7 ^ x) (sound-settings (v .sound)) l)), tt)
-
--- a refusal is known by its number and place
-named : ℕ → ℕ → Refusal
-named x p = cond (eqb x 10) Team (cond (eqb x 11) Known (cond (eqb x 12) Goal (cond (eqb x 13) Ranks (cond (eqb x 14) PlanRoom (Book (B.named x p))))))
-
-named-back : (r : Refusal) → named (number r) (place r) ≡ r
-unfolding named B.named
-named-back (Book Settings) = refl
-named-back (Book Length) = refl
-named-back (Book (Check k)) = refl
-named-back (Book Head) = refl
-named-back (Book (StrayBit k)) = refl
-named-back (Book Room) = refl
-named-back Team = refl
-named-back Known = refl
-named-back Goal = refl
-named-back Ranks = refl
-named-back PlanRoom = refl
-
-refusal-same : (r s : Refusal) → number r ≡ number s → place r ≡ place s → r ≡ s
-refusal-same r s e f = sym (named-back r) ∙ ap₂ named e f ∙ named-back s
 
 module _ (book : List ℕ) (q : Question) (make learn ranks plan : List ℕ) where
   pub find-unique : (a b : Answer) (r s x y : List ℕ) → Finds book q make learn ranks plan a r x → Finds book q make learn ranks plan b s y → (a ≡ b) × (r ≡ s) × (x ≡ y)
@@ -156,18 +113,3 @@ find-ranks book q make learn ranks plan a r x v l (inl u) =
     absurd (first-clear (findRows book (q .team) (q .known) (q .values) make learn ranks) (number (u .why)) (place (u .why)) (u .first) (find-clear v ranks l))
 find-ranks book q make learn ranks plan a r x v l (inr (k, o, w, d, f, g)) =
     subst (λ (j : ℕ). RanksFilled j (systemOf j book (q .team) make learn) ranks r) (sound-one (w .sound) (v .sound) .0) f
-
--- and of `ask`
-module _ (book : List ℕ) (q : Question) (make learn : List ℕ) where
-  not-both : {n m : ℕ} (r : Refusal) → ValidQuestion book q make learn n m → First (questionRows book (q .team) (q .known) (q .values) make learn) (number r) (place r) → ⊥
-  not-both r v f =
-      first-clear (questionRows book (q .team) (q .known) (q .values) make learn) (number r) (place r) f
-      (question-clear book (q .team) (q .known) (q .values) make learn (v .sound) (v .team) (v .known) (v .goal))
-
-  pub ask-unique : (a b : Asked) → Asks book q make learn a → Asks book q make learn b → a ≡ b
-  ask-unique (Valid n m) (Valid k o) v w = let e = sound-one (v .sound) (w .sound) in ap₂ Valid (e .0) (e .1)
-  ask-unique (Valid n m) (Not r) v f = absurd (not-both r v f)
-  ask-unique (Not r) (Valid n m) f v = absurd (not-both r v f)
-  ask-unique (Not r) (Not s) f g =
-      let e = first-unique (questionRows book (q .team) (q .known) (q .values) make learn) (number r) (number s) (place r) (place s) f g in
-      ap Not (refusal-same r s (e .0) (e .1))

@@ -1,36 +1,28 @@
 -- What `find` gives: the answer, and the lent rank table and plan room on return, for every book, question, goal and room.
 use mathlib.Core.Path.{_≡_}
 use mathlib.Core.Logic.{_⊎_}
-use mathlib.Core.List.{List, _++_}
+use mathlib.Core.List.{List, [], _∷_, _++_}
 use Prim.Native.Nat.{ℕ, _^_, _≤_, _<_}
 use lib.ListN.{length, getD, drop}
 use Rattle.ground.specs.Search.{Least}
-use Rattle.book.specs.Sound.{Sound}
-use Rattle.ground.specs.Order.{First}
+use Rattle.ground.specs.Order.{Row, only, First}
+use Rattle.book.specs.Refusals.{settingsOf}
 use Rattle.plan.specs.Plans.{System, Plan}
 use Rattle.plan.specs.Ranks.{Reach as ReachIn, Cannot as CannotFrom, IsRank, Written}
 use Rattle.plan.specs.Bytes.{encode}
-use Rattle.finder.specs.Question.{systemOf, startNumber}
-use Rattle.finder.specs.Rows.{number, place, TeamFits, KnownFits, GoalFits, questionRows, findRows}
-use Rattle.finder.specs.declared.question.Refusal.{Refusal}
-use Rattle.finder.specs.declared.question.Refusal.the-variants.{Book, Team, Known, Goal, Ranks, PlanRoom}
+use Rattle.question.specs.Question.{systemOf, startNumber}
+use Rattle.question.specs.Rows.{number, place, questionRows}
+use Rattle.question.specs.Asks.{ValidQuestion}
+use Rattle.question.specs.declared.Refusal.{Refusal}
+use Rattle.question.specs.declared.Refusal.the-variants.{Book, Team, Known, Goal, Ranks, PlanRoom}
 use Rattle.finder.specs.declared.finding.Answer.{Answer}
 use Rattle.finder.specs.declared.finding.Answer.the-variants.{Reach, Cannot, Refused}
-use Rattle.finder.specs.declared.question.Question.{Question}
-use Rattle.finder.specs.declared.question.Asked.{Asked}
-use Rattle.finder.specs.declared.question.Asked.the-variants.{Valid, Not}
+use Rattle.question.specs.declared.Question.{Question}
 
--- a question that refusals 6 to 12 let through, over a book of n settings and m posts
-pub record ValidQuestion (book : List ℕ) (q : Question) (make learn : List ℕ) (n m : ℕ) : Type 0 where
-  pub sound : Sound book n m
-  pub team : TeamFits m (q .team)
-  pub known : KnownFits n (q .known) (q .values)
-  pub goal : GoalFits n make learn
-
--- the first of refusals 6 to 12, or the book's numbers
-abbrev pub Asks : List ℕ → Question → List ℕ → List ℕ → Asked → Type 0
-Asks book q make learn (Valid n m) = ValidQuestion book q make learn n m
-Asks book q make learn (Not r) = First (questionRows book (q .team) (q .known) (q .values) make learn) (number r) (place r)
+-- "13 rank table under 7^n bytes" after them
+unfoldable pub findRows : List ℕ → ℕ → ℕ → ℕ → List ℕ → List ℕ → List ℕ → List Row
+findRows book team known values make learn ranks =
+    questionRows book team known values make learn ++ (record { number = 13; given = only (length ranks < 7 ^ settingsOf book) } ∷ [])
 
 -- "the first 7^n bytes of the rank table hold all ranks, for every knowledge number; later bytes [..] keep what they held"
 pub record RanksFilled (n : ℕ) (S : System) (old new : List ℕ) : Type 0 where

@@ -1,5 +1,3 @@
--- What a reader must believe of the finder: the question and its goal, the refusals and their order, what `find` gives.
-pub mod Question
-pub mod Rows
+-- What a reader must believe of the finder: what `find` gives. `Told` is for the private functions.
 pub mod Finds
 pub mod Told

@@ -1,20 +1,20 @@
 // The finder: refusals 6 to 13, the ranks of all knowledge numbers, then the answer and its plan.
-use crate::question::Asked;
-use crate::question::Question;
-use crate::question::Refusal;
-use crate::question::ask;
 use crate::written::length;
 use crate::written::write;
 use book::Right;
 use knowledge::Knowledge;
+use question::Asked;
+use question::Question;
+use question::Refusal;
+use question::ask;
 ghost use mathlib.Core.Path.{_≡_};
 ghost use Prim.Native.Nat.{ℕ, _^_, _≤_, _<_};
 ghost use lib.ListN.{length as size};
 ghost use Rattle.plan.specs.Plans.{System};
 ghost use Rattle.finder.specs.Told.{Told};
-ghost use Rattle.finder.specs.Rows.{KnownFits};
+ghost use Rattle.question.specs.Rows.{KnownFits};
 ghost use Rattle.finder.specs.Finds.{RanksFilled, Answers, Finds};
-ghost use Rattle.finder.specs.Question.{systemOf, startNumber};
+ghost use Rattle.question.specs.Question.{systemOf, startNumber};
 
 pub enum Answer {
     // A plan of this height, the least, stands in the first `length` bytes of the plan room.

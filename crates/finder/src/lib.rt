@@ -4,13 +4,8 @@
 // were. A valid question fills the first 7^n bytes of the rank table with the ranks of all knowledge
 // numbers, and a success the first bytes of the plan room with the plan; no other byte is touched.
 mod finding;
-mod question;
 mod steps;
 mod written;
 
 pub use finding::Answer;
 pub use finding::find;
-pub use question::Asked;
-pub use question::Question;
-pub use question::Refusal;
-pub use question::ask;

@@ -13,15 +13,15 @@ use Rattle.knowledge.proofs.States.{number-state, first-state}
 use Rattle.ground.specs.Order.{only, First}
 use Rattle.ground.proofs.OrderLaws.{least-only, first-left, first-right}
 use Rattle.plan.specs.Check.{Fault, no-act, not-permitted, not-settled, too-soon, left-over, Verdict, accepted, faulty, check}
-use Rattle.finder.specs.Question.{systemOf, startNumber}
-use Rattle.finder.specs.Rows.{questionRows}
-use Rattle.finder.specs.Rows as Q
-use Rattle.finder.specs.Finds.{ValidQuestion, Asks}
-use Rattle.finder.specs.declared.question.Question.{Question}
-use Rattle.finder.specs.declared.question.Refusal as Q2
-use Rattle.finder.specs.declared.question.Asked.{Asked}
-use Rattle.finder.specs.declared.question.Asked.the-variants.{Valid, Not}
-use Rattle.finder.proofs.RowLaws.{question-clear}
+use Rattle.question.specs.Question.{systemOf, startNumber}
+use Rattle.question.specs.Rows.{questionRows}
+use Rattle.question.specs.Rows as Q
+use Rattle.question.specs.Asks.{ValidQuestion, Asks}
+use Rattle.question.specs.declared.Question.{Question}
+use Rattle.question.specs.declared.Refusal as Q2
+use Rattle.question.specs.declared.Asked.{Asked}
+use Rattle.question.specs.declared.Asked.the-variants.{Valid, Not}
+use Rattle.question.proofs.RowLaws.{question-clear}
 use Rattle.plancheck.specs.Refusals.{number, place, faultNumber, refusalOf, checkRows}
 use Rattle.plancheck.specs.Checks.{questionStart, JudgedAs, Refuses, Checks}
 use Rattle.plancheck.specs.Inner.{answerOf}

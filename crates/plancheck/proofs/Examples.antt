@@ -21,9 +21,9 @@ use Rattle.plan.specs.Plans.{may}
 use Rattle.plan.proofs.Check.{judge-on, judge-fails, read-act, read-unsettled}
 use Rattle.plan.specs.Check.{not-settled, faulty, check}
 use Rattle.sides.specs.Over.{learnTable, allSettled}
-use Rattle.finder.specs.Question.{goalSettled, systemOf, startNumber}
-use Rattle.finder.specs.Finds.{ValidQuestion}
-use Rattle.finder.specs.declared.question.Question.{Question}
+use Rattle.question.specs.Question.{goalSettled, systemOf, startNumber}
+use Rattle.question.specs.Asks.{ValidQuestion}
+use Rattle.question.specs.declared.Question.{Question}
 use Rattle.plancheck.specs.Checks.{Checks}
 use Rattle.plancheck.specs.declared.answer.Refusal.the-variants.{NotSettled}
 use Rattle.plancheck.specs.declared.answer.CheckAnswer.the-variants.{Refused}

@@ -16,7 +16,7 @@ use Rattle.knowledge.specs.Fits.{startSide, known, learnSettled}
 use Rattle.knowledge.proofs.Fits.{always-take}
 use Rattle.knowledge.proofs.Number.{digits-are}
 use Rattle.sides.specs.Over.{learnTable, allSettled}
-use Rattle.finder.specs.Question.{goalSettled}
+use Rattle.question.specs.Question.{goalSettled}
 
 -- a judgement that is guarded by at most seven settings
 pub unguarded : (n : ℕ) (b : Bool) → n ≤ 7 → leb n 7 && b ≡ b

@@ -14,12 +14,12 @@ use Rattle.book.specs.declared.refusal.Refusal.the-variants.{Settings, Length, 
 use Rattle.ground.proofs.OrderLaws.{none-only, first-unique, first-clear, clear-append, first-split}
 use Rattle.book.proofs.Theorems.{sound-one}
 use Rattle.plan.specs.Check.{Fault, no-act, not-permitted, not-settled, too-soon, left-over, Verdict, accepted, faulty, check}
-use Rattle.finder.specs.Rows.{questionRows}
-use Rattle.finder.specs.Rows as Q
-use Rattle.finder.specs.declared.question.Question.{Question}
-use Rattle.finder.specs.declared.question.Refusal as R
-use Rattle.finder.specs.declared.question.Refusal.the-variants.{Book, Team, Known, Goal, Ranks, PlanRoom}
-use Rattle.finder.proofs.RowLaws.{question-clear}
+use Rattle.question.specs.Rows.{questionRows}
+use Rattle.question.specs.Rows as Q
+use Rattle.question.specs.declared.Question.{Question}
+use Rattle.question.specs.declared.Refusal as R
+use Rattle.question.specs.declared.Refusal.the-variants.{Book, Team, Known, Goal, Ranks, PlanRoom}
+use Rattle.question.proofs.RowLaws.{question-clear}
 use Rattle.plancheck.specs.Refusals.{number, place, faultNumber, refusalOf, checkRows}
 use Rattle.plancheck.specs.Checks.{systemFor, questionStart, JudgedAs, Checks}
 use Rattle.plancheck.specs.Inner.{answerOf}

@@ -20,7 +20,7 @@ use Rattle.knowledge.proofs.States.{number-state, set-state, look-state}
 use Rattle.knowledge.proofs.Outcomes.{set-below, look-below}
 use Rattle.plan.specs.Check.{goes-on, outcomes, readAct, readNamed, readByte}
 use Rattle.plan.proofs.Check.{read-named}
-use Rattle.finder.specs.Question.{goalSettled, systemOf}
+use Rattle.question.specs.Question.{goalSettled, systemOf}
 use Rattle.plancheck.specs.Inner.{readingOf}
 use Rattle.plancheck.specs.declared.answer.Refusal.the-variants.{NoAct, NotPermitted, NotSettled}
 use Rattle.plancheck.specs.declared.reading.Reading.{Reading}

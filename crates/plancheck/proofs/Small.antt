@@ -11,8 +11,8 @@ use Rattle.book.specs.Refusals.{bookRows, readRows}
 use Rattle.ground.proofs.OrderLaws.{first-left, first-split}
 use Rattle.book.proofs.Theorems.{read-place-most}
 use Rattle.plan.proofs.Faults.{fault-out}
-use Rattle.finder.specs.Rows.{questionRows}
-use Rattle.finder.specs.declared.question.Question.{Question}
+use Rattle.question.specs.Rows.{questionRows}
+use Rattle.question.specs.declared.Question.{Question}
 use Rattle.plancheck.specs.Refusals.{number, place, checkRows}
 use Rattle.plancheck.specs.Checks.{systemFor, Checks}
 use Rattle.plancheck.specs.declared.answer.Refusal.{Refusal}

@@ -9,10 +9,10 @@ use Rattle.knowledge.specs.Acts.{postOf, allowed}
 use Rattle.knowledge.specs.declared.act.Act.the-variants.{Look}
 use Rattle.knowledge.proofs.Allowed.{allowed-offered, allowed-permitted, permitted-look}
 use Rattle.plan.specs.Plans.{Lawful}
-use Rattle.finder.specs.Question.{systemOf}
-use Rattle.finder.specs.Finds.{ValidQuestion}
-use Rattle.finder.specs.declared.question.Question.{Question}
-use Rattle.finder.proofs.QuestionLaws.{bits-low}
+use Rattle.question.specs.Question.{systemOf}
+use Rattle.question.specs.Asks.{ValidQuestion}
+use Rattle.question.specs.declared.Question.{Question}
+use Rattle.question.proofs.QuestionLaws.{bits-low}
 
 pub lawful : (n : ℕ) (book : List ℕ) (team : ℕ) (make learn : List ℕ) → ((q : ℕ) → T (bit team q) → q < 8) → Lawful n (systemOf n book team make learn)
 unfolding systemOf allowed

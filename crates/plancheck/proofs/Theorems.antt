@@ -8,8 +8,7 @@ use Prim.Native.Nat.{ℕ, _≤_, _<_}
 use native.Mathlib.Nat.{zero-add}
 use native.Mathlib.Omega.{arith}
 use lib.Dec.{lit≤}
-use lib.ListN.{length, take, drop}
-use lib.Seq.{take-at}
+use lib.ListN.{length}
 use Rattle.ground.proofs.Bools.{lt-or-ge}
 use Rattle.ground.specs.Order.{First}
 use Rattle.book.proofs.Theorems.{sound-one}
@@ -23,12 +22,11 @@ use Rattle.plan.proofs.Check.{check-exact, judge-plan}
 use Rattle.plan.proofs.Faults.{Reads, fault-in, fault-out}
 use Rattle.plan.proofs.Faults as Faults
 use Rattle.plan.proofs.Accepted as Plans
-use Rattle.finder.specs.Rows.{questionRows}
-use Rattle.finder.specs.Rows as Q
-use Rattle.finder.specs.Finds.{ValidQuestion, Finds}
-use Rattle.finder.specs.declared.finding.Answer.the-variants.{Reach, Cannot}
-use Rattle.finder.specs.declared.question.Question.{Question}
-use Rattle.finder.specs.declared.question.Refusal as R
+use Rattle.question.specs.Rows.{questionRows}
+use Rattle.question.specs.Rows as Q
+use Rattle.question.specs.Asks.{ValidQuestion}
+use Rattle.question.specs.declared.Question.{Question}
+use Rattle.question.specs.declared.Refusal as R
 use Rattle.plancheck.specs.Refusals.{refusalOf}
 use Rattle.plancheck.specs.Checks.{systemFor, questionStart, JudgedAs, Checks}
 use Rattle.plancheck.specs.Inner.{answerOf}
@@ -174,26 +172,3 @@ written-accepted {book} {q} {make} {learn} {n} {m} valid p w =
       short = Plans.written-most law few (questionStart q) p (rank .0) w (rank .1) low;
       judged = Plans.written-accepted law few (questionStart q) p w;
     }
-
--- ---- the finder's answers and the check: a finder's contract is `Finds`
-
-module _ (book : List ℕ) (q : Question) (make learn ranks room : List ℕ) (ranks′ room′ : List ℕ) where
-  -- what `find` writes, `check` accepts
-  pub found-accepted : (h size : ℕ) → Finds book q make learn ranks room (Reach h size) ranks′ room′ → Checks book q make learn (take size room′) Yes
-  found-accepted h size (inl u) = absurd (let e = u .answered in let z : _≡_ {A = ℕ} 0 1 = cc in omega arith)
-  found-accepted h size (inr (n, m, valid, fits, filled, (least, (p, written, long, short, bytes)))) =
-      let same : take size room′ ≡ encode p = ap (take size) bytes ∙ take-at (encode p) (drop size room) size (sym long) in
-      rw same (written-accepted valid p written)
-
-  -- no accepted plan is lower than the height that `find` names
-  pub found-least : (h size : ℕ) → Finds book q make learn ranks room (Reach h size) ranks′ room′ → (plan : List ℕ) → Checks book q make learn plan Yes
-      → (p : Plan) × (plan ≡ encode p) × (h ≤ height p)
-  found-least h size (inl u) plan said = absurd (let e = u .answered in let z : _≡_ {A = ℕ} 0 1 = cc in omega arith)
-  found-least h size (inr (n, m, valid, fits, filled, (least, more))) plan said =
-      let w = accepted-height valid plan said h (inl least) in (w .0, w .2, w .3)
-
-  -- where `find` says "cannot", no plan is accepted
-  pub cannot-accepted : Finds book q make learn ranks room Cannot ranks′ room′ → (plan : List ℕ) → Checks book q make learn plan Yes → ⊥
-  cannot-accepted (inl u) plan said = let e = u .answered in let z : _≡_ {A = ℕ} 0 1 = cc in omega arith
-  cannot-accepted (inr (n, m, valid, fits, filled, (none, kept))) plan said =
-      let w = accepted-height valid plan said 255 (inr (refl, none)) in none (w .0) (w .1)

@@ -8,9 +8,9 @@ use lib.ListN.{length}
 use Rattle.ground.specs.Order.{First}
 use Rattle.plan.specs.Plans.{System}
 use Rattle.plan.specs.Check.{Fault, Verdict, accepted, faulty, check}
-use Rattle.finder.specs.Question.{systemOf, startNumber}
-use Rattle.finder.specs.Finds.{ValidQuestion}
-use Rattle.finder.specs.declared.question.Question.{Question}
+use Rattle.question.specs.Question.{systemOf, startNumber}
+use Rattle.question.specs.Asks.{ValidQuestion}
+use Rattle.question.specs.declared.Question.{Question}
 use Rattle.plancheck.specs.Refusals.{number, place, faultNumber, checkRows}
 use Rattle.plancheck.specs.declared.answer.CheckAnswer.{CheckAnswer}
 use Rattle.plancheck.specs.declared.answer.CheckAnswer.the-variants.{Yes, Refused}

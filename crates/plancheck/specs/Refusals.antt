@@ -4,9 +4,9 @@ use Prim.Native.Nat.{ℕ, _<_}
 use lib.ListN.{length}
 use Rattle.ground.specs.Order.{Row, only}
 use Rattle.plan.specs.Check.{Fault, no-act, not-permitted, not-settled, too-soon, left-over}
-use Rattle.finder.specs.Rows.{questionRows}
-use Rattle.finder.specs.Rows as Q
-use Rattle.finder.specs.declared.question.Question.{Question}
+use Rattle.question.specs.Rows.{questionRows}
+use Rattle.question.specs.Rows as Q
+use Rattle.question.specs.declared.Question.{Question}
 use Rattle.plancheck.specs.declared.answer.Refusal.{Refusal}
 use Rattle.plancheck.specs.declared.answer.Refusal.the-variants.{Question as OfQuestion, TooLong, NoAct, NotPermitted, NotSettled, TooSoon, LeftOver}
 

@@ -6,7 +6,7 @@ ghost use Rattle.plancheck.specs.Refusals.{number, place};
 // it is the first in reading order.
 pub enum Refusal {
     // The question is not valid: 6 to 12.
-    Question(finder::Refusal),
+    Question(question::Refusal),
     // The plan has more bytes than any plan that is written.
     TooLong,
     // The byte with this index names no act of this book and team.

@@ -5,7 +5,7 @@ ghost use mathlib.Core.Path.{_≡_};
 ghost use Prim.Native.Nat.{_^_, _≤_, _<_};
 ghost use Rattle.knowledge.specs.Number.{digitIn};
 ghost use Rattle.sides.specs.Over.{allSettled};
-ghost use Rattle.finder.specs.Question.{goalSettled};
+ghost use Rattle.question.specs.Question.{goalSettled};
 
 // Whether each learn formula has one same value at all start valuations that fit.
 fn learnt(n: u8, learn: &[u8], state: Knowledge) -> bool

@@ -9,7 +9,7 @@ ghost use Prim.Native.Nat.{_^_, _≤_, _<_};
 ghost use Rattle.ground.specs.Digits.{digit};
 ghost use Rattle.knowledge.specs.Acts.{settingOf, offered, permitted};
 ghost use Rattle.plan.specs.Check.{goes-on, outcomes, readAct, readByte};
-ghost use Rattle.finder.specs.Question.{systemOf};
+ghost use Rattle.question.specs.Question.{systemOf};
 ghost use Rattle.plancheck.specs.Inner.{readingOf};
 
 pub enum Reading {

@@ -5,13 +5,13 @@ use crate::answer::Refusal;
 use crate::desk::Desk;
 use crate::desk::Stands;
 use crate::reading::read_byte;
-use finder::Asked;
-use finder::Question;
 use knowledge::Knowledge;
+use question::Asked;
+use question::Question;
 ghost use mathlib.Core.Path.{_≡_};
 ghost use Prim.Native.Nat.{_^_, _≤_, _<_};
 ghost use Rattle.plan.specs.Check.{check};
-ghost use Rattle.finder.specs.Question.{systemOf};
+ghost use Rattle.question.specs.Question.{systemOf};
 ghost use Rattle.plancheck.specs.Inner.{answerOf, Ready, Turned};
 ghost use Rattle.plancheck.specs.Checks.{Checks};
 
@@ -67,7 +67,7 @@ fn walk(
 pub fn check(book: &[u8], question: Question, make: &[u8], learn: &[u8], plan: &[u8]) -> CheckAnswer
     ensures { λ r. ⌜ Checks (now (book .entry)) question (now (make .entry)) (now (learn .entry)) (now (plan .entry)) r ⌝ }
 {
-    match finder::ask(book, question, make, learn) {
+    match question::ask(book, question, make, learn) {
         Asked::Not(why) => CheckAnswer::Refused(Refusal::Question(why)),
         Asked::Valid { settings, posts: _ } => {
             if PLAN_MOST < plan.len() {

@@ -3,8 +3,8 @@ use mathlib.Core.Path.{_≡_, refl, sym, _∙_, subst}
 use mathlib.Core.Logic.{_⊎_, inl, inr}
 use Prim.Native.Nat.{ℕ, _<_, _≤_}
 use native.Mathlib.Omega.{arith}
-use Rattle.finder.specs.Rows.{number, place}
-use Rattle.finder.specs.declared.question.Refusal.the-variants.{Ranks}
+use Rattle.question.specs.Rows.{number, place}
+use Rattle.question.specs.declared.Refusal.the-variants.{Ranks}
 use Rattle.finder.proofs.FindLaws.{as-valid, as-not, early, short-table}
 use borrow.Author.Needs.{needs}
 use Rattle.finder.proofs.finding.find.Statement.{statement}

@@ -2,7 +2,7 @@
 use mathlib.Core.Path.{_≡_, sym, subst}
 use Prim.Native.Nat.{ℕ, _^_, _<_}
 use native.Mathlib.Omega.{arith}
-use Rattle.finder.specs.Question.{systemOf}
+use Rattle.question.specs.Question.{systemOf}
 use Rattle.finder.specs.Finds.{Answers}
 use Rattle.finder.proofs.Tables.{marks-ready, tables-tell}
 use Rattle.finder.proofs.FindLaws.{start-is, start-below, filled}

@@ -3,7 +3,7 @@ use borrow.Author.Needs.{needs}
 use Prim.Native.Nat.{_-_, _≤_}
 use native.Mathlib.Omega.{arith}
 use lib.ListN.{length}
-use Rattle.finder.specs.Question.{systemOf}
+use Rattle.question.specs.Question.{systemOf}
 use Rattle.plancheck.proofs.DeskLaws.{Walking, walking-first, walking-on, walking-done}
 use Rattle.plancheck.proofs.walk.walk.Statement.{statement}
 use Rattle.plancheck.proofs.walk.walk.Tie as tie

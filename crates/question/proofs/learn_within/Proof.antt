@@ -5,9 +5,9 @@ use lib.ListN.{length, drop}
 use native.Mathlib.Omega.{arith}
 use Rattle.ground.specs.Table.{Within}
 use Rattle.ground.proofs.Answers.{told, untold}
-use Rattle.finder.proofs.QuestionLaws.{LearnTo, learn-more, learn-bad, learn-all}
-use Rattle.finder.proofs.question.learn_within.Statement.{statement}
-use Rattle.finder.proofs.question.learn_within.Tie as tie
+use Rattle.question.proofs.QuestionLaws.{LearnTo, learn-more, learn-bad, learn-all}
+use Rattle.question.proofs.learn_within.Statement.{statement}
+use Rattle.question.proofs.learn_within.Tie as tie
 
 abbrev Inv-loop : tie.InvT-loop
 Inv-loop n learn count j₀ j = (j ≤ length learn / 16) × LearnTo n learn j

@@ -18,7 +18,7 @@ use Rattle.ground.proofs.Bits.{same-bits, bit-mod, bit-or}
 use Rattle.ground.proofs.Table.{truth-take}
 use Rattle.knowledge.proofs.Bytes.{bit-above}
 use Rattle.sides.specs.Over.{learnTable}
-use Rattle.finder.specs.Rows.{TeamFits, KnownFits, LearnWithin}
+use Rattle.question.specs.Rows.{TeamFits, KnownFits, LearnWithin}
 
 -- a test tells what it is equivalent to
 pub tells-by : {A : Type 0} (t : Bool) → (T t → A) → (A → T t) → Tells t A

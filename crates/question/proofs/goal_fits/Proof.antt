@@ -3,10 +3,10 @@ use native.Mathlib.Omega.{arith}
 use lib.ListN.{drop}
 use Rattle.ground.specs.Table.{Within}
 use Rattle.ground.proofs.Answers.{told, untold, tells-iff}
-use Rattle.finder.specs.Rows.{LearnWithin, GoalFits}
+use Rattle.question.specs.Rows.{LearnWithin, GoalFits}
 use borrow.Author.Needs.{needs}
-use Rattle.finder.proofs.question.goal_fits.Statement.{statement}
-use Rattle.finder.proofs.question.goal_fits.Tie as tie
+use Rattle.question.proofs.goal_fits.Statement.{statement}
+use Rattle.question.proofs.goal_fits.Tie as tie
 
 returns : tie.Need-returns
 returns c = search needs

@@ -1,9 +1,9 @@
 -- `known_fits` meets its contract: by the bits of the two masks.
 use native.Mathlib.Omega.{arith}
-use Rattle.finder.proofs.QuestionLaws.{known-past, known-tells}
+use Rattle.question.proofs.QuestionLaws.{known-past, known-tells}
 use borrow.Author.Needs.{needs}
-use Rattle.finder.proofs.question.known_fits.Statement.{statement}
-use Rattle.finder.proofs.question.known_fits.Tie as tie
+use Rattle.question.proofs.known_fits.Statement.{statement}
+use Rattle.question.proofs.known_fits.Tie as tie
 
 shr-if1 : tie.Need-shr-if1
 shr-if1 c = search needs

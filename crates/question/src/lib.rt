@@ -1,10 +1,11 @@
-// The question, and which of refusals 6 to 12 it meets.
+// A question to the finder or to the plan check: who asks, what they know, the goal, and which of refusals
+// 6 to 12 it meets. It writes nothing.
 use book::ReadAnswer;
 ghost use mathlib.Core.Path.{_≡_};
 ghost use Prim.Native.Nat.{_≤_};
 ghost use Rattle.ground.specs.Tells.{Tells};
-ghost use Rattle.finder.specs.Rows.{number, place, TeamFits, KnownFits, LearnWithin, GoalFits};
-ghost use Rattle.finder.specs.Finds.{Asks};
+ghost use Rattle.question.specs.Rows.{number, place, TeamFits, KnownFits, LearnWithin, GoalFits};
+ghost use Rattle.question.specs.Asks.{Asks};
 
 // Who asks and what they know: bit q of `team` for the post with index q, bit i of `known` for
 // setting i, and bit i of `values` where it is known to be true.

@@ -1,7 +1,8 @@
--- "A question: the book's 6 to 9, then 10, 11, 12, 13, 14." Each refusal is given exactly when what it denies does not hold.
+-- "A question: the book's 6 to 9, then 10, 11, 12, 13, 14." Each refusal is given exactly when what it denies does not hold. 13 and 14 are the
+-- finder's own (finder/specs/Finds).
 use mathlib.Core.Path.{_≡_}
 use mathlib.Core.List.{List, [], _∷_, _++_}
-use Prim.Native.Nat.{ℕ, _/_, _%_, _^_, _≤_, _<_}
+use Prim.Native.Nat.{ℕ, _%_, _≤_, _<_}
 use lib.Dec.{T}
 use lib.ListN.{length}
 use Rattle.ground.specs.Digits.{bit}
@@ -10,8 +11,8 @@ use Rattle.ground.specs.Order.{Row, only}
 use Rattle.book.specs.Refusals.{settingsOf, postsOf, bookRows}
 use Rattle.book.specs.Refusals as B
 use Rattle.sides.specs.Over.{learnCount, learnTable}
-use Rattle.finder.specs.declared.question.Refusal.{Refusal}
-use Rattle.finder.specs.declared.question.Refusal.the-variants.{Book, Team, Known, Goal, Ranks, PlanRoom}
+use Rattle.question.specs.declared.Refusal.{Refusal}
+use Rattle.question.specs.declared.Refusal.the-variants.{Book, Team, Known, Goal, Ranks, PlanRoom}
 
 -- paper 01's number and place of each refusal
 abbrev pub number : Refusal → ℕ
@@ -60,8 +61,3 @@ questionRows book team known values make learn =
     ∷ record { number = 11; given = only (KnownFits (settingsOf book) known values → ⊥) }
     ∷ record { number = 12; given = only (GoalFits (settingsOf book) make learn → ⊥) }
     ∷ [])
-
--- "13 rank table under 7^n bytes" after them
-unfoldable pub findRows : List ℕ → ℕ → ℕ → ℕ → List ℕ → List ℕ → List ℕ → List Row
-findRows book team known values make learn ranks =
-    questionRows book team known values make learn ++ (record { number = 13; given = only (length ranks < 7 ^ settingsOf book) } ∷ [])

@@ -13,7 +13,7 @@ use Rattle.book.specs.declared.reading.ReadAnswer.{ReadAnswer}
 use Rattle.book.specs.declared.reading.ReadAnswer.the-variants.{Book, Refused}
 use Rattle.ground.proofs.OrderLaws.{least-only, none-only, first-left, first-right, clear-append}
 use Rattle.book.proofs.SoundLaws.{sound-settings, sound-posts, sound-clear}
-use Rattle.finder.specs.Rows.{TeamFits, KnownFits, GoalFits, questionRows}
+use Rattle.question.specs.Rows.{TeamFits, KnownFits, GoalFits, questionRows}
 
 -- what `sound` ensures of its answer, once the answer is known
 pub as-sound : (book : List ℕ) {r : ReadAnswer} {n m : ℕ} → r ≡ Book n m → Judges book r → Sound book n m

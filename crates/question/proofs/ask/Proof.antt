@@ -5,11 +5,11 @@ use Rattle.book.specs.Promise.{Judges}
 use Rattle.book.specs.Refusals as B
 use Rattle.book.specs.declared.reading.ReadAnswer.{ReadAnswer}
 use Rattle.ground.proofs.Answers.{told, untold}
-use Rattle.finder.specs.Rows.{TeamFits, KnownFits, GoalFits}
-use Rattle.finder.proofs.RowLaws.{as-sound, as-refused, book-row, team-row, known-row, goal-row}
+use Rattle.question.specs.Rows.{TeamFits, KnownFits, GoalFits}
+use Rattle.question.proofs.RowLaws.{as-sound, as-refused, book-row, team-row, known-row, goal-row}
 use borrow.Author.Needs.{needs}
-use Rattle.finder.proofs.question.ask.Statement.{statement}
-use Rattle.finder.proofs.question.ask.Tie as tie
+use Rattle.question.proofs.ask.Statement.{statement}
+use Rattle.question.proofs.ask.Tie as tie
 
 sound-requires : tie.Need-sound-requires
 sound-requires c κs = search needs

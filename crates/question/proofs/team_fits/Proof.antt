@@ -1,9 +1,9 @@
 -- `team_fits` meets its contract: a shift leaves nothing of the team exactly where all its posts are below m.
 use native.Mathlib.Omega.{arith}
-use Rattle.finder.proofs.QuestionLaws.{team-tells}
+use Rattle.question.proofs.QuestionLaws.{team-tells}
 use borrow.Author.Needs.{needs}
-use Rattle.finder.proofs.question.team_fits.Statement.{statement}
-use Rattle.finder.proofs.question.team_fits.Tie as tie
+use Rattle.question.proofs.team_fits.Statement.{statement}
+use Rattle.question.proofs.team_fits.Tie as tie
 
 returns : tie.Need-returns
 returns c = λ f. f .someone (c .if1 .taken)
