@@ -3,20 +3,21 @@ use mathlib.Core.Path.{_≡_, sym, ap, _∙_, subst}
 use mathlib.Core.Logic.{inl, inr}
 use mathlib.Core.List.{List}
 use mathlib.Core.Bool.{Bool, true, false, _||_}
-use Prim.Native.Nat.{ℕ, _+_, _*_, _/_, _%_, _^_, _≤_, _<_}
-use native.Mathlib.Nat.{mod-lt, mod-eq-of-lt, div-eq-of-lt, le-div-iff-mul-le, one-mul}
+use Prim.Native.Nat.{ℕ, _+_, _-_, _*_, _/_, _^_, _≤_, _<_}
+use native.Mathlib.Nat.{div-eq-of-lt}
 use native.Mathlib.Omega.{arith}
 use lib.Bits.{bitOr, or-lt}
 use lib.Dec.{T, eqb, eqb→eq}
 use lib.ListN.{length, take, drop}
-use lib.Pow.{pow-pos, pow-mono}
+use lib.Pow.{pow-mono}
 use Rattle.ground.specs.Digits.{bit}
 use Rattle.ground.specs.Table.{Within}
 use Rattle.ground.specs.Tells.{Tells}
 use Rattle.ground.proofs.Bools.{T→false, false→T, both, decide, or-left, or-right, T-iff, or-out, eq→eqb, lt-or-ge}
-use Rattle.ground.proofs.Bits.{same-bits, bit-mod, bit-or}
+use Rattle.ground.proofs.Bits.{same-bits, bit-or}
+use Rattle.ground.proofs.HighBits.{high-bit, shift-none}
+use Rattle.ground.proofs.HighBits as High
 use Rattle.ground.proofs.Table.{truth-take}
-use Rattle.knowledge.proofs.Bytes.{bit-above}
 use Rattle.sides.specs.Over.{learnTable}
 use Rattle.question.specs.Rows.{TeamFits, KnownFits, LearnWithin}
 
@@ -32,41 +33,22 @@ tells-eqb a b f g = tells-by (eqb a b) (λ h. f (eqb→eq a b h)) (λ x. eq→eq
 
 -- a number whose bits all stand below m is below 2 ^ m
 pub low-bits : (k m v : ℕ) → v < 2 ^ k → ((q : ℕ) → T (bit v q) → q < m) → v < 2 ^ m
-low-bits k m v h f = subst (λ (x : ℕ). x < 2 ^ m) (sym same) (mod-lt v (pow-pos m))
+low-bits k m v h f = elim (lt-or-ge k m) [
+  | inl l ↦ omega (arith, pow-mono {i = k} {j = m} (omega (arith, l)))
+  | inr l ↦ (let split : k ≡ m + (k - m) = omega (arith, l) in High.low-bits m (k - m) v (subst (λ (x : ℕ). v < 2 ^ x) split h) (λ i low up. past i low))
+]
   where
     past : (i : ℕ) → m ≤ i → bit v i ≡ false
     past i l = elim (decide (bit v i)) [ inl t ↦ absurd (omega (arith, f i t)) | inr t ↦ T→false (bit v i) t ]
 
-    at : (i : ℕ) → bit v i ≡ bit (v % 2 ^ m) i
-    at i = elim (lt-or-ge i m) [
-      | inl l ↦ sym (bit-mod m v i l)
-      | inr l ↦ past i l ∙ sym (bit-above (v % 2 ^ m) i (omega (arith, mod-lt v (pow-pos m), pow-mono l)))
-    ]
-
-    same : v ≡ v % 2 ^ m
-    same = elim (lt-or-ge v (2 ^ m)) [
-      | inl l ↦ sym (mod-eq-of-lt l)
-      | inr l ↦ same-bits k v (v % 2 ^ m) h (omega (arith, mod-lt v (pow-pos m))) (λ i q. at i)
-    ]
-
 -- and the other way
 pub bits-low : (m v : ℕ) → v < 2 ^ m → (q : ℕ) → T (bit v q) → q < m
-bits-low m v h q t = elim (lt-or-ge q m) [
-  | inl l ↦ l
-  | inr l ↦ both (bit v q) t (false→T (bit-above v q (omega (arith, pow-mono l))))
-]
-
--- nothing is left above the shift exactly where the number is below 2 ^ m
-pub shifted-out : (m v : ℕ) → v / 2 ^ m ≡ 0 → v < 2 ^ m
-shifted-out m v e = elim (lt-or-ge v (2 ^ m)) [
-  | inl l ↦ l
-  | inr l ↦ absurd (omega (arith, le-div-iff-mul-le (pow-pos m) .1 (subst (λ (x : ℕ). x ≤ v) (sym (one-mul (2 ^ m))) l)))
-]
+bits-low m v h q t = elim (lt-or-ge q m) [ inl l ↦ l | inr l ↦ both (bit v q) t (false→T (high-bit v m q h l)) ]
 
 pub team-tells : (m team : ℕ) → team < 256 → (team ≡ 0 → ⊥) → Tells (eqb (team / 2 ^ m) 0) (TeamFits m team)
 team-tells m team h ne =
     tells-eqb (team / 2 ^ m) 0
-    (λ e. record { someone = ne; posts = bits-low m team (shifted-out m team e) })
+    (λ e. record { someone = ne; posts = bits-low m team (shift-none team m e) })
     (λ f. div-eq-of-lt (low-bits 8 m team h (f .posts)))
 
 pub known-past : (n known values : ℕ) → known < 256 → (known / 2 ^ n ≡ 0 → ⊥) → KnownFits n known values → ⊥
@@ -76,7 +58,7 @@ pub known-tells : (n known values : ℕ) → known < 256 → values < 256 → kn
 known-tells n known values hk hv z =
     tells-eqb (bitOr known values) known
     (λ e. record {
-      settings = bits-low n known (shifted-out n known z);
+      settings = bits-low n known (shift-none known n z);
       valued = λ i t. subst T (sym (bit-or known values i) ∙ ap (λ (x : ℕ). bit x i) e) (or-right (bit known i) (bit values i) t);
     })
     (λ f. same-bits 8 (bitOr known values) known (or-lt 8 known values hk hv) hk
