@@ -1,8 +1,9 @@
-// The ground that every other crate stands on: valuations and the 16-byte tables that are read at
-// them. It refuses nothing and lends nothing; its specs say what a bit, a digit and a table are, and
+// The ground that every other crate stands on: bytes and bits, valuations, and the 16-byte tables that are
+// read at them. It refuses nothing and lends nothing; its specs say what a bit, a digit and a table are, and
 // its proofs hold the laws about them that the other crates cite.
 ghost use mathlib.Core.Path.{_≡_};
 ghost use lib.ListN.{drop, getD};
+ghost use Rattle.ground.specs.Digits.{bit};
 ghost use Rattle.ground.specs.Table.{truth, Within};
 ghost use Rattle.ground.specs.Tells.{Tells};
 
@@ -23,6 +24,16 @@ pub fn peek(bytes: &[u8], at: usize) -> u8
     ensures { λ r. ⌜ r ≡ getD (now (bytes .entry)) at 0 ⌝ }
 {
     if at < bytes.len() { bytes[at] } else { 0 }
+}
+
+// Bit i of the byte: false past its eight bits.
+pub fn bit_of(byte: u8, i: u8) -> bool
+    ensures { λ r. ⌜ r ≡ bit byte i ⌝ }
+{
+    if 8 <= i {
+        return false;
+    }
+    (byte >> i) % 2 == 1
 }
 
 // Bit v of the bytes from `from` on, lowest first; bytes that are not there count as 0. A table has

@@ -11,5 +11,4 @@ pub mod Acts
 pub mod Allowed
 pub mod Unique
 pub mod Examples
-pub mod Bytes
 mod Loop

@@ -4,11 +4,9 @@ use mathlib.Core.Path.{_≡_, refl, sym, _∙_}
 use mathlib.Core.Bool.{Bool}
 use mathlib.Core.List.{List}
 use Prim.Native.Nat.{ℕ, zero, suc, _^_, _≤_, _<_}
-use native.Mathlib.Nat.{lt-of-lt-of-le}
 use native.Mathlib.Omega.{arith}
 use lib.Dec.{lit<}
 use lib.ListN.{length, getD, set}
-use lib.Pow.{pow-mono}
 use lib.Seq.{ext-getD}
 use Rattle.ground.specs.Digits.{digit, bit}
 use Rattle.ground.proofs.Digits.{digit-lt}
@@ -16,7 +14,7 @@ use Rattle.knowledge.specs.Seven.{afterSet, afterLook, firstDigit}
 use Rattle.knowledge.specs.Number.{digitIn, numberOf, digitsOf, firstAt, firstDigits}
 use Rattle.knowledge.specs.Acts.{setTo, lookAt}
 use Rattle.knowledge.proofs.Seven.{set-lt, look-lt, first-lt}
-use Rattle.knowledge.proofs.Bytes.{bit-above}
+use Rattle.ground.proofs.HighBits.{high-bit}
 use Rattle.knowledge.proofs.Number.{digit-in, digits-are, digits-long, digits-put, sum-digits, sum-lt, sum-short, digits-sum}
 
 seven : 0 < 7
@@ -74,4 +72,4 @@ module _ (known values : ℕ) where
       (sum-lt seven (firstAt known values) n (λ i l. first-small i (omega arith)))
     where
       none : (i : ℕ) → n ≤ i → firstAt known values i ≡ 0
-      none i l = rw (bit-above known i (lt-of-lt-of-le small (pow-mono l)))
+      none i l = rw (high-bit known _ i small l)

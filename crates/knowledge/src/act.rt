@@ -1,7 +1,7 @@
 // What a team can do, the byte of it in a plan, and whether it is allowed where a team knows so much.
-use crate::bits::bit_of;
 use crate::state::Knowledge;
 use book::Right;
+use ground::bit_of;
 ghost use mathlib.Core.Path.{_≡_};
 ghost use mathlib.Core.Bool.{_&&_};
 ghost use Prim.Native.Nat.{_+_, _*_, _≤_};

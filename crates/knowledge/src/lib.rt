@@ -2,7 +2,6 @@
 // valuations fit, and when a rule is known to hold. A rule over more settings than seven is not known
 // to hold. Nothing is written to what a caller lends.
 mod act;
-mod bits;
 mod digit;
 mod judge;
 mod state;
@@ -10,7 +9,6 @@ mod valuation;
 
 pub use act::Act;
 pub use act::Named;
-pub use bits::bit_of;
 pub use digit::now_side;
 pub use digit::start_side;
 pub use state::Knowledge;

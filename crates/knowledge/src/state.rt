@@ -1,6 +1,6 @@
 // A knowledge state, by value: an act changes one digit and hands back the new state.
-use crate::bits::bit_of;
 use crate::digit;
+use ground::bit_of;
 ghost use mathlib.Core.Path.{_≡_};
 ghost use Prim.Native.Nat.{_*_, _≤_};
 ghost use lib.ListN.{set};

@@ -1,10 +1,10 @@
 // Which valuations fit a knowledge state. Start and present valuations have types of their own, so
 // that neither stands in for the other.
-use crate::bits::bit_of;
 use crate::digit;
 use crate::state::Knowledge;
 use ground::Present;
 use ground::Start;
+use ground::bit_of;
 ghost use mathlib.Core.Path.{_≡_};
 ghost use Rattle.ground.specs.Digits.{bit};
 ghost use Rattle.knowledge.specs.Number.{digitIn};
