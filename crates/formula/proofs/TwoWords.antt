@@ -2,7 +2,7 @@
 use mathlib.Core.Path.{_≡_, refl, sym, ap, ap₂, _∙_, subst}
 use mathlib.Core.Logic.{inl, inr}
 use mathlib.Core.List.{List, [], _∷_}
-use mathlib.Core.Bool.{Bool, true, false, not, _&&_, _||_, Bool·beq}
+use mathlib.Core.Bool.{Bool, true, false, not, _&&_, _||_, cond, Bool·beq}
 use Prim.Native.Nat.{ℕ, _+_, _*_, _-_, _/_, _%_, _^_, _<_}
 use native.Mathlib.Nat.{mod-lt}
 use native.Mathlib.Omega.{arith}
@@ -18,7 +18,7 @@ use Rattle.ground.specs.Table.{truth, Within, TableOf}
 use Rattle.ground.proofs.Bools.{beq→eq, lt-or-ge, and-true}
 use Rattle.ground.proofs.Search.{all-at}
 use Rattle.ground.proofs.Bits.{bit-and, bit-or, bit-xor, bit-shr, bit-mod, bit-of-zero}
-use Rattle.formula.specs.Words.{pick, has, Holds, wordsByte, BytesOf}
+use Rattle.formula.specs.Words.{has, Holds, wordsByte, BytesOf}
 use Rattle.formula.specs.declared.words.Words.{Words}
 
 abbrev words : ℕ → ℕ → Words
@@ -66,7 +66,7 @@ last-letter-holds i e = subst (λ (i : ℕ). Holds (words 0 every) (λ v. bit v 
 
 -- ---- the operations
 
-picked : (g : Bool → Bool → Bool) (b x y x′ y′ : Bool) → pick b (g x y) (g x′ y′) ≡ g (pick b x x′) (pick b y y′)
+picked : (g : Bool → Bool → Bool) (b x y x′ y′ : Bool) → cond b (g x y) (g x′ y′) ≡ g (cond b x x′) (cond b y y′)
 picked g true x y x′ y′ = refl
 picked g false x y x′ y′ = refl
 
@@ -75,7 +75,7 @@ module _ (op : ℕ → ℕ → ℕ) (g : Bool → Bool → Bool) (law : (a b i :
   both-words : (a b : Words) → Holds (words (op (a .low) (b .low)) (op (a .high) (b .high))) (λ v. g (has a v) (has b v))
   unfolding Holds has
   both-words a b v h =
-      ap₂ (pick (ltb v 64)) (law (a .low) (b .low) v) (law (a .high) (b .high) (v - 64))
+      ap₂ (cond (ltb v 64)) (law (a .low) (b .low) v) (law (a .high) (b .high) (v - 64))
       ∙ picked g (ltb v 64) (bit (a .low) v) (bit (b .low) v) (bit (a .high) (v - 64)) (bit (b .high) (v - 64))
 
 pub and-holds : (a b : Words) → Holds (words (bitAnd (a .low) (b .low)) (bitAnd (a .high) (b .high))) (λ v. has a v && has b v)
@@ -116,7 +116,7 @@ and-false false = refl
 pub within-low : (a : Words) (n : ℕ) → n < 6 → Holds (words (bitAnd (a .low) (getD masks n 0)) 0) (λ v. has a v && below n v)
 unfolding Holds has
 within-low a n h v l =
-    ap₂ (pick (ltb v 64)) (bit-and (a .low) (getD masks n 0) v) (bit-of-zero (v - 64) ∙ sym (and-false (bit (a .high) (v - 64))) ∙ ap (λ (x : Bool). bit (a .high) (v - 64) && x) (sym (bit-of-zero (v - 64))))
+    ap₂ (cond (ltb v 64)) (bit-and (a .low) (getD masks n 0) v) (bit-of-zero (v - 64) ∙ sym (and-false (bit (a .high) (v - 64))) ∙ ap (λ (x : Bool). bit (a .high) (v - 64) && x) (sym (bit-of-zero (v - 64))))
     ∙ picked _&&_ (ltb v 64) (bit (a .low) v) (bit (getD masks n 0) v) (bit (a .high) (v - 64)) (bit 0 (v - 64))
     ∙ ap (λ (x : Bool). has a v && x) (mask-holds n h v l)
 
@@ -150,7 +150,7 @@ bytes-tell w t b v l = ap (λ (x : ℕ). bit x (v % 8)) (b .each (v / 8) (omega 
 bytes-small : (w : Words) (t : List ℕ) → BytesOf w t → (j : ℕ) → getD t j 0 < 256
 unfolding wordsByte
 bytes-small w t b j = elim (lt-or-ge j 16) [
-  | inl h ↦ subst (λ (x : ℕ). x < 256) (sym (b .each j h)) (mod-lt (pick (ltb j 8) (w .low) (w .high) / 2 ^ (8 * (j % 8))) (lit< tt))
+  | inl h ↦ subst (λ (x : ℕ). x < 256) (sym (b .each j h)) (mod-lt (cond (ltb j 8) (w .low) (w .high) / 2 ^ (8 * (j % 8))) (lit< tt))
   | inr h ↦ subst (λ (x : ℕ). x < 256) (sym (List·getD-eq-default t 0 (omega (arith, b .sixteen)))) (lit< tt)
 ]
 

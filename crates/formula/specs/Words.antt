@@ -1,20 +1,16 @@
 -- Inside: a table while it is worked on, as two words of 64 bits. Bit v of the low word is its truth at v, and the high word goes on at 64.
 use mathlib.Core.Path.{_≡_}
 use mathlib.Core.List.{List}
-use mathlib.Core.Bool.{Bool, true, false}
+use mathlib.Core.Bool.{Bool, cond}
 use Prim.Native.Nat.{ℕ, _*_, _-_, _/_, _%_, _^_, _<_}
 use lib.Dec.{ltb}
 use lib.ListN.{length, getD}
 use Rattle.ground.specs.Digits.{bit}
 use Rattle.formula.specs.declared.words.Words.{Words}
 
-abbrev pub pick : {A : Type 0} → Bool → A → A → A
-pick true a b = a
-pick false a b = b
-
 -- what the words say at v
 unfoldable pub has : Words → ℕ → Bool
-has w v = pick (ltb v 64) (bit (w .low) v) (bit (w .high) (v - 64))
+has w v = cond (ltb v 64) (bit (w .low) v) (bit (w .high) (v - 64))
 
 -- the words say what f says, at each of the 128 valuations of seven settings
 unfoldable pub Holds : Words → (ℕ → Bool) → Type 0
@@ -22,7 +18,7 @@ Holds w f = (v : ℕ) → v < 128 → has w v ≡ f v
 
 -- byte j of the words
 unfoldable pub wordsByte : Words → ℕ → ℕ
-wordsByte w j = pick (ltb j 8) (w .low) (w .high) / 2 ^ (8 * (j % 8)) % 256
+wordsByte w j = cond (ltb j 8) (w .low) (w .high) / 2 ^ (8 * (j % 8)) % 256
 
 -- t is the sixteen bytes of the words
 pub record BytesOf (w : Words) (t : List ℕ) : Type 0 where

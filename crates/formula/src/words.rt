@@ -1,10 +1,10 @@
 // A formula's table while it is worked on: two words, whose bit v is its truth at the valuation v.
 ghost use mathlib.Core.Path.{_≡_};
-ghost use mathlib.Core.Bool.{true, false, not, _&&_, _||_};
+ghost use mathlib.Core.Bool.{true, false, not, _&&_, _||_, cond};
 ghost use Prim.Native.Nat.{ℕ, _<_, _^_};
 ghost use lib.Dec.{ltb};
 ghost use Rattle.ground.specs.Digits.{bit};
-ghost use Rattle.formula.specs.Words.{pick, has, Holds, wordsByte, BytesOf};
+ghost use Rattle.formula.specs.Words.{has, Holds, wordsByte, BytesOf};
 
 // Bit v of `low` for the valuations below 64, and bit v - 64 of `high` for the others.
 pub struct Words {
@@ -108,7 +108,7 @@ impl Words {
 
     // The word that holds byte j.
     fn word(self, j: usize) -> u64
-        ensures { λ r. ⌜ r ≡ pick (ltb j 8) (self .low) (self .high) ⌝ }
+        ensures { λ r. ⌜ r ≡ cond (ltb j 8) (self .low) (self .high) ⌝ }
     {
         if j < 8 {
             return self.low;

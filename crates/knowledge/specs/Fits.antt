@@ -49,6 +49,10 @@ fitsStart n d v = fits n (startSide d) v
 unfoldable pub known : ℕ → (ℕ → ℕ) → List ℕ → Bool
 known n d rule = always true n (nowSide d) rule
 
+-- a formula's table has "one same value" at all valuations that fit the side
+abbrev pub oneValue : ℕ → (ℕ → ℕ) → List ℕ → Bool
+oneValue n side table = always true n side table || always false n side table
+
 -- "each learn formula has one same value at all fitting start valuations"
 unfoldable pub learnSettled : ℕ → (ℕ → ℕ) → List ℕ → Bool
-learnSettled n d learn = always true n (startSide d) learn || always false n (startSide d) learn
+learnSettled n d learn = oneValue n (startSide d) learn

@@ -15,9 +15,9 @@ use Rattle.ground.specs.Search.{all}
 use Rattle.ground.specs.Table.{truth}
 use Rattle.ground.proofs.Bits.{below-2, bit-of-zero}
 use Rattle.ground.proofs.Bools.{T→true, lt-or-ge}
-use Rattle.knowledge.specs.Fits.{always, is}
+use Rattle.knowledge.specs.Fits.{always, is, oneValue}
 use Rattle.knowledge.proofs.Fits.{always-intro, always-take}
-use Rattle.sides.specs.Over.{oneOf, SideTable, Made, settled, learnTable, Learnt}
+use Rattle.sides.specs.Over.{oneOf, SideTable, Made, learnTable, Learnt}
 use Rattle.sides.proofs.FillLaws.{sides-most}
 use Rattle.sides.proofs.Tables.{one-lt, side-some}
 use Rattle.sides.specs.Inner.{Filled, EachColumn, MadeAt, sameOf, SettledAt, Settled, bothOf, Meets}
@@ -69,7 +69,6 @@ module _ {n : ℕ} {columns t : List ℕ} (filled : Filled n columns t) where
   made-table make cols = side-table true make cols
 
   pub settled-table : (table : List ℕ) → EachColumn (SettledAt table) (2 ^ n) columns → Settled n table t
-  unfolding settled
   settled-table table cols = record {
     long = filled .long;
     each = λ s h.
@@ -100,13 +99,12 @@ and-turned true false = refl
 and-turned false true = refl
 and-turned false false = refl
 
-settled-take : (n : ℕ) (side : ℕ → ℕ) (t : List ℕ) → n ≤ 7 → settled n side t ≡ settled n side (take 16 t)
-unfolding settled
+settled-take : (n : ℕ) (side : ℕ → ℕ) (t : List ℕ) → n ≤ 7 → oneValue n side t ≡ oneValue n side (take 16 t)
 settled-take n side t h = sym (ap₂ _||_ (always-take true n side t h) (always-take false n side t h))
 
 -- the first j learn formulas
 abbrev pub LearntTo : ℕ → List ℕ → ℕ → List ℕ → Type 0
-LearntTo n learn j t = SideTable n (λ s. all j (λ i. settled n (digit 3 s) (learnTable learn i))) t
+LearntTo n learn j t = SideTable n (λ s. all j (λ i. oneValue n (digit 3 s) (learnTable learn i))) t
 
 pub learnt-none : {n : ℕ} {t : List ℕ} (learn : List ℕ) → n ≤ 7 → Filled n (replicate 128 1) t → LearntTo n learn 0 t
 unfolding all
@@ -122,7 +120,7 @@ learnt-more {n} j {a} {b} {t} learn most x y m = record {
       (m .each s (omega (arith, h, sides-most n most))
       ∙ ap oneOf (ap₂ _&&_ (side-some x s h)
       (y .each s h ∙ settled-take n (digit 3 s) (drop (16 * j) learn) most)
-      ∙ and-turned (all j (λ i. settled n (digit 3 s) (take 16 (drop (16 * i) learn)))) (settled n (digit 3 s) (take 16 (drop (16 * j) learn)))));
+      ∙ and-turned (all j (λ i. oneValue n (digit 3 s) (take 16 (drop (16 * i) learn)))) (oneValue n (digit 3 s) (take 16 (drop (16 * j) learn)))));
   past = λ s h. elim (lt-or-ge s 2187) [
     | inl l ↦ m .each s l ∙ rw (x .past s h) refl
     | inr l ↦ List·getD-eq-default t 0 (omega (arith, m .long))

@@ -7,9 +7,10 @@ use native.Mathlib.Numerals.{add-one}
 use native.Mathlib.Omega.{arith}
 use lib.ListN.{getD}
 use Rattle.ground.specs.Digits.{digit}
+use Rattle.knowledge.specs.Number.{sumOf}
 use Rattle.knowledge.specs.Seven.{nowOf, startOf}
 use Rattle.knowledge.proofs.Seven.{now-lt, start-lt}
-use Rattle.sides.specs.Sides.{sideNumber, nowSideNumber, startSideNumber}
+use Rattle.sides.specs.Sides.{nowSideNumber, startSideNumber}
 use Rattle.sides.specs.Over.{markOf, Marks}
 use Rattle.sides.specs.Inner.{Stored, markAt}
 use Rattle.sides.proofs.Numbers.{now-number-lt, start-number-lt, now-low, start-low}
@@ -23,7 +24,7 @@ pub record ShownTo (number i rest power now start : ℕ) : Type 0 where
   pub start-is : start ≡ startSideNumber i number
 
 pub nothing-shown : (number : ℕ) → ShownTo number 0 number 1 0 0
-unfolding nowSideNumber startSideNumber sideNumber
+unfolding nowSideNumber startSideNumber sumOf
 nothing-shown number = record { left = sym (rw pow-zero (div-one number)); place = sym (pow-zero 3); now-is = refl; start-is = refl }
 
 module _ {number i rest power now start : ℕ} (s : ShownTo number i rest power now start) where
@@ -35,7 +36,7 @@ module _ {number i rest power now start : ℕ} (s : ShownTo number i rest power 
 
   pub one-more-shown : (x y : ℕ) → x ≡ nowOf (rest % 7) → y ≡ startOf (rest % 7)
       → ShownTo number (i + 1) (rest / 7) (power * 3) (now + x * power) (start + y * power)
-  unfolding nowSideNumber startSideNumber sideNumber digit
+  unfolding nowSideNumber startSideNumber sumOf digit
   one-more-shown x y e f = record {
     left = ap (λ (z : ℕ). z / 7) (s .left) ∙ div-div-eq-div-mul number (7 ^ i) 7 ∙ ap (λ (z : ℕ). number / z) (sym (rw (add-one i) (pow-suc 7 i)));
     place = ap (λ (z : ℕ). z * 3) (s .place) ∙ sym (rw (add-one i) (pow-suc 3 i));

@@ -2,17 +2,18 @@
 -- knowledge digit as a side, by recursion on the settings; the present and the start are the two that paper 01 has.
 use mathlib.Core.Path.{_≡_, sym, ap, _∙_}
 use Prim.Native.Nat.{ℕ, zero, suc, _+_, _*_, _^_, _<_}
-use native.Mathlib.Nat.{pow-zero, pow-succ', add-comm}
+use native.Mathlib.Nat.{pow-succ'}
 use native.Mathlib.Omega.{arith}
-use lib.Arith.{digits-lt, digits-div, digits-mod}
+use lib.Arith.{digits-div, digits-mod}
 use lib.Dec.{lit<}
 use Rattle.ground.specs.Digits.{digit}
 use Rattle.ground.proofs.Bits.{digit-zero, digit-suc}
-use Rattle.ground.proofs.Digits.{digit-lt, digit-top, digit-low, same-digits}
-use Rattle.ground.proofs.Search.{below-suc}
+use Rattle.ground.proofs.Digits.{digit-lt, same-digits}
 use Rattle.knowledge.specs.Seven.{startOf, nowOf}
 use Rattle.knowledge.proofs.Seven.{now-lt, start-lt}
-use Rattle.sides.specs.Sides.{sideNumber, nowSideNumber, startSideNumber}
+use Rattle.knowledge.specs.Number.{sumOf}
+use Rattle.knowledge.proofs.Number.{sum-lt, digits-sum}
+use Rattle.sides.specs.Sides.{nowSideNumber, startSideNumber}
 
 pub three : 0 < 3
 three = lit< tt
@@ -20,34 +21,16 @@ three = lit< tt
 pub seven : 0 < 7
 seven = lit< tt
 
-module _ (f : ℕ → ℕ) where
-  pub side-lt : (n : ℕ) → ((i : ℕ) → i < n → f i < 3) → sideNumber n f < 3 ^ n
-  unfolding sideNumber
-  side-lt zero small = rw pow-zero (lit< tt)
-  side-lt (suc n) small =
-      rw (pow-succ', add-comm (sideNumber n f) (f n * 3 ^ n))
-      (digits-lt (small n (omega arith)) (side-lt n (λ i h. small i (omega arith))))
-
-  pub side-digit : (n : ℕ) → ((i : ℕ) → i < n → f i < 3) → (i : ℕ) → i < n → digit 3 (sideNumber n f) i ≡ f i
-  unfolding sideNumber
-  side-digit zero small i h = absurd (omega arith)
-  side-digit (suc n) small i h =
-      let low = side-lt n (λ j l. small j (omega arith)) in
-      rw (add-comm (sideNumber n f) (f n * 3 ^ n))
-      (below-suc i n h
-      (λ e. rw e (digit-top three n (sideNumber n f) (f n) low (small n (omega arith))))
-      (λ l. digit-low three n (sideNumber n f) (f n) i low l ∙ side-digit n (λ j m. small j (omega arith)) i l))
-
 -- what a knowledge number shows, by a reading g of its digits
 abbrev pub seen : (ℕ → ℕ) → ℕ → ℕ → ℕ
-seen g n k = sideNumber n (λ i. g (digit 7 k i))
+seen g n k = sumOf 3 n (λ i. g (digit 7 k i))
 
 module _ (g : ℕ → ℕ) (small : (d : ℕ) → d < 7 → g d < 3) where
   pub seen-lt : (n k : ℕ) → seen g n k < 3 ^ n
-  seen-lt n k = side-lt (λ i. g (digit 7 k i)) n (λ i h. small (digit 7 k i) (digit-lt seven k i))
+  seen-lt n k = sum-lt three (λ i. g (digit 7 k i)) n (λ i h. small (digit 7 k i) (digit-lt seven k i))
 
   pub seen-digit : (n k i : ℕ) → i < n → digit 3 (seen g n k) i ≡ g (digit 7 k i)
-  seen-digit n k i h = side-digit (λ i. g (digit 7 k i)) n (λ i h. small (digit 7 k i) (digit-lt seven k i)) i h
+  seen-digit n k i h = digits-sum three (λ i. g (digit 7 k i)) n (λ i h. small (digit 7 k i) (digit-lt seven k i)) i h
 
   -- one more setting below the others
   pub seen-low : (n r d : ℕ) → d < 7 → seen g (suc n) (r * 7 + d) ≡ seen g n r * 3 + g d

@@ -10,10 +10,10 @@ use Rattle.ground.specs.Digits.{digit, bit}
 use Rattle.ground.proofs.Search.{all-ext}
 use Rattle.book.specs.Rule.{rule}
 use Rattle.book.specs.declared.rule.Right.{Right}
-use Rattle.knowledge.specs.Fits.{always, nowSide, startSide, known, learnSettled}
+use Rattle.knowledge.specs.Fits.{always, nowSide, startSide, known, oneValue, learnSettled}
 use Rattle.knowledge.proofs.Fits.{always-ext}
 use Rattle.sides.specs.Sides.{nowSideNumber, startSideNumber}
-use Rattle.sides.specs.Over.{entry, Judged, PostTables, oneOf, SideTable, Made, settled, learnCount, learnTable, allSettled, Learnt, rankIf, markOf, Marks}
+use Rattle.sides.specs.Over.{entry, PostTables, oneOf, SideTable, Made, learnCount, learnTable, allSettled, Learnt, rankIf, markOf, Marks}
 use Rattle.sides.proofs.Numbers.{now-number-lt, start-number-lt, now-digit, start-digit}
 
 pub one-lt : (b : Bool) → oneOf b < 2
@@ -28,9 +28,6 @@ one-some false = refl
 pub side-some : {n : ℕ} {f : ℕ → Bool} {t : List ℕ} → SideTable n f t → (s : ℕ) → s < 3 ^ n → not (eqb (getD t s 0) 0) ≡ f s
 side-some {n} {f} {t} table s h = ap (λ (e : ℕ). not (eqb e 0)) (table .each s h) ∙ one-some (f s)
 
-pub made-judged : {n : ℕ} (make : List ℕ) {t : List ℕ} → Made n make t → Judged true n make t
-made-judged make table s h = side-some table s h
-
 -- a judgement at the side that a knowledge number shows
 module _ (n k : ℕ) (t : List ℕ) where
   pub always-now : (b : Bool) → always b n (digit 3 (nowSideNumber n k)) t ≡ always b n (nowSide (digit 7 k)) t
@@ -43,17 +40,14 @@ module _ (n k : ℕ) (t : List ℕ) where
   unfolding known
   known-now = always-now true
 
-  pub settled-start : settled n (digit 3 (startSideNumber n k)) t ≡ learnSettled n (digit 7 k) t
-  unfolding settled learnSettled
+  pub settled-start : oneValue n (digit 3 (startSideNumber n k)) t ≡ learnSettled n (digit 7 k) t
+  unfolding learnSettled
   settled-start = ap₂ _||_ (always-start true) (always-start false)
 
 -- "A rule is known to hold", "the make formula is true at every fitting present valuation"
 module _ (n : ℕ) (rule t : List ℕ) where
-  pub judged-known : Judged true n rule t → (k : ℕ) → not (eqb (getD t (nowSideNumber n k) 0) 0) ≡ known n (digit 7 k) rule
-  judged-known table k = table (nowSideNumber n k) (now-number-lt n k) ∙ known-now n k rule
-
   pub made-known : Made n rule t → (k : ℕ) → not (eqb (getD t (nowSideNumber n k) 0) 0) ≡ known n (digit 7 k) rule
-  made-known table k = judged-known (made-judged rule table) k
+  made-known table k = side-some table (nowSideNumber n k) (now-number-lt n k) ∙ known-now n k rule
 
 -- "each learn formula has one same value at all fitting start valuations"
 pub learnt-settled : (n : ℕ) (learn t : List ℕ) → Learnt n learn t → (k : ℕ) → not (eqb (getD t (startSideNumber n k) 0) 0) ≡ allSettled n (digit 7 k) learn

@@ -8,11 +8,11 @@ use lib.ListN.{length, getD, drop}
 use Rattle.ground.specs.Digits.{digit, bit}
 use Rattle.ground.specs.Table.{truth}
 use Rattle.knowledge.specs.Seven.{unknown, told}
-use Rattle.knowledge.specs.Fits.{always, is}
+use Rattle.knowledge.specs.Fits.{always, is, oneValue}
 use Rattle.book.specs.Rule.{rulePlace}
 use Rattle.book.specs.declared.rule.Right.{Right}
 use Rattle.sides.specs.Sides.{nowSideNumber, startSideNumber}
-use Rattle.sides.specs.Over.{settled, oneOf, markOf}
+use Rattle.sides.specs.Over.{oneOf, markOf}
 use Rattle.sides.specs.declared.told.Told.{Told}
 use Rattle.sides.specs.declared.told.Told.the-variants.{Unknown, Valuation}
 
@@ -67,7 +67,7 @@ SettledAt t v x = x ≡ sameOf (truth t v)
 -- not 0 exactly where the formula is settled
 pub record Settled (n : ℕ) (table t : List ℕ) : Type 0 where
   pub long : length t ≡ 2187
-  pub each : (s : ℕ) → s < 3 ^ n → not (eqb (getD t s 0) 0) ≡ settled n (digit 3 s) table
+  pub each : (s : ℕ) → s < 3 ^ n → not (eqb (getD t s 0) 0) ≡ oneValue n (digit 3 s) table
   pub past : (s : ℕ) → 3 ^ n ≤ s → getD t s 0 ≡ 0
 
 unfoldable pub bothOf : ℕ → ℕ → ℕ

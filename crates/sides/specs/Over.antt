@@ -1,13 +1,13 @@
 -- Tables over all 3^n sides: what a rule or a formula comes to at each, which posts of a team may act there, and the marks of a goal.
 use mathlib.Core.Path.{_≡_}
 use mathlib.Core.List.{List, []}
-use mathlib.Core.Bool.{Bool, true, false, not, _&&_, _||_}
+use mathlib.Core.Bool.{Bool, true, false, not, _&&_}
 use Prim.Native.Nat.{ℕ, _*_, _/_, _^_, _≤_, _<_}
 use lib.Dec.{eqb}
 use lib.ListN.{length, getD, take, drop}
 use Rattle.ground.specs.Digits.{digit, bit}
 use Rattle.ground.specs.Search.{all}
-use Rattle.knowledge.specs.Fits.{always, learnSettled}
+use Rattle.knowledge.specs.Fits.{always, oneValue, learnSettled}
 use Rattle.book.specs.Rule.{rule}
 use Rattle.book.specs.declared.rule.Right.{Right}
 use Rattle.sides.specs.Sides.{nowSideNumber, startSideNumber}
@@ -15,10 +15,6 @@ use Rattle.sides.specs.Sides.{nowSideNumber, startSideNumber}
 -- the entry of setting i and side s
 unfoldable pub entry : List (List ℕ) → ℕ → ℕ → ℕ
 entry t i s = getD (getD t i []) s 0
-
--- entry s tells, by not being 0, that the table has the value b at every valuation that fits the side s
-abbrev pub Judged : Bool → ℕ → List ℕ → List ℕ → Type 0
-Judged b n table t = (s : ℕ) → s < 3 ^ n → not (eqb (getD t s 0) 0) ≡ always b n (digit 3 s) table
 
 -- bit q of the entry of setting i and side s: the post q is of the team, and its rule on the setting is known to hold at the side
 abbrev pub Posts : ℕ → List ℕ → ℕ → Right → List (List ℕ) → Type 0
@@ -48,10 +44,6 @@ pub record SideTable (n : ℕ) (f : ℕ → Bool) (t : List ℕ) : Type 0 where
 abbrev pub Made : ℕ → List ℕ → List ℕ → Type 0
 Made n make t = SideTable n (λ s. always true n (digit 3 s) make) t
 
--- "one same value at all fitting start valuations": of a formula's table, at those that fit the side
-unfoldable pub settled : ℕ → (ℕ → ℕ) → List ℕ → Bool
-settled n side table = always true n side table || always false n side table
-
 -- "learn tables not 0 to 4 times 16 bytes" are refused: how many there are, and the one with index j
 abbrev pub learnCount : List ℕ → ℕ
 learnCount learn = length learn / 16
@@ -65,7 +57,7 @@ allSettled n d learn = all (learnCount learn) (λ j. learnSettled n d (learnTabl
 
 -- the same, at each side
 abbrev pub Learnt : ℕ → List ℕ → List ℕ → Type 0
-Learnt n learn t = SideTable n (λ s. all (learnCount learn) (λ j. settled n (digit 3 s) (learnTable learn j))) t
+Learnt n learn t = SideTable n (λ s. all (learnCount learn) (λ j. oneValue n (digit 3 s) (learnTable learn j))) t
 
 -- the mark of a state: 0 where its entries in both tables are not 0, else 255
 abbrev pub rankIf : Bool → ℕ

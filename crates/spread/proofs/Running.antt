@@ -10,9 +10,9 @@ use lib.ListN.{length, set, length-set}
 use lib.Seq.{getD-set-same, getD-set-other}
 use Rattle.ground.specs.Digits.{digit}
 use Rattle.knowledge.specs.Seven.{nowOf}
-use Rattle.knowledge.specs.Number.{digitIn, digitsOf}
+use Rattle.knowledge.specs.Number.{digitIn, digitsOf, sumOf}
 use Rattle.knowledge.proofs.Number.{digit-in}
-use Rattle.sides.specs.Sides.{sideNumber, nowSideNumber}
+use Rattle.sides.specs.Sides.{nowSideNumber}
 use Rattle.spread.specs.Inner.{Apart}
 
 pub power-none : (b : ℕ) → 1 ≡ b ^ 0
@@ -22,12 +22,12 @@ pub power-up : (b i p : ℕ) → p ≡ b ^ i → p * b ≡ b ^ (i + 1)
 power-up b i p e = rw (add-one, pow-suc, e)
 
 pub side-none : (k : ℕ) → 0 ≡ nowSideNumber 0 k
-unfolding nowSideNumber sideNumber
+unfolding nowSideNumber sumOf
 side-none k = refl
 
 pub side-up : (k i : ℕ) {side three d told : ℕ} → side ≡ nowSideNumber i k → three ≡ 3 ^ i → d ≡ digit 7 k i → told ≡ nowOf d
     → side + told * three ≡ nowSideNumber (i + 1) k
-unfolding nowSideNumber sideNumber
+unfolding nowSideNumber sumOf
 side-up k i s t e f = rw (add-one, s, t, f, e)
 
 -- the digit that a state of the number k hands out

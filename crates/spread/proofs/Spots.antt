@@ -1,17 +1,18 @@
 -- A state's number and its present side, as one digit changes: each moves by the digit's place, in base 7 and in base 3. So both are running sums.
-use mathlib.Core.Path.{_≡_, refl, sym, ap, _∙_}
+use mathlib.Core.Path.{_≡_, sym, ap, _∙_}
 use Prim.Native.Nat.{ℕ, zero, suc, _+_, _*_, _/_, _%_, _^_, _≤_, _<_}
-use native.Mathlib.Nat.{pow-zero, pow-succ', add-comm, pow-le-pow-right, lt-of-lt-of-le}
+use native.Mathlib.Nat.{pow-le-pow-right, lt-of-lt-of-le}
 use native.Mathlib.Omega.{arith}
-use lib.Arith.{digits-lt}
 use lib.Dec.{lit<}
 use Rattle.ground.specs.Digits.{digit, put}
 use Rattle.ground.specs.Search.{all}
 use Rattle.ground.proofs.Search.{below-suc}
 use Rattle.ground.proofs.Digits.{digit-lt, put-same, put-other, put-lt, put-sum, put-digit}
+use Rattle.knowledge.specs.Number.{sumOf}
 use Rattle.knowledge.specs.Seven.{nowOf}
+use Rattle.knowledge.proofs.Number.{sum-lt, sum-ext}
 use Rattle.knowledge.proofs.Seven.{now-lt, at-digit}
-use Rattle.sides.specs.Sides.{sideNumber, nowSideNumber}
+use Rattle.sides.specs.Sides.{nowSideNumber}
 use Rattle.spread.specs.Inner.{Spotted}
 
 pub pos : 0 < 7
@@ -23,30 +24,19 @@ pow-seven n l = pow-le-pow-right pos l
 pub pow-three : (n : ℕ) → n ≤ 7 → 3 ^ n ≤ 2187
 pow-three n l = pow-le-pow-right (lit< {m = 0} {n = 3} tt) l
 
--- a side of n settings has n digits in base 3
-side-lt : (n : ℕ) (f : ℕ → ℕ) → ((i : ℕ) → f i < 3) → sideNumber n f < 3 ^ n
-unfolding sideNumber
-side-lt zero f small = rw pow-zero (lit< tt)
-side-lt (suc n) f small = rw (pow-succ', add-comm (sideNumber n f) (f n * 3 ^ n)) (digits-lt (small n) (side-lt n f small))
-
-side-same : (n : ℕ) (f g : ℕ → ℕ) → ((j : ℕ) → j < n → f j ≡ g j) → sideNumber n f ≡ sideNumber n g
-unfolding sideNumber
-side-same zero f g same = refl
-side-same (suc n) f g same = rw (side-same n f g (λ j l. same j (omega arith)), same n (omega arith))
-
 -- a side that differs at one setting
 side-change : (n i : ℕ) (f g : ℕ → ℕ) → i < n → ((j : ℕ) → (j ≡ i → ⊥) → f j ≡ g j)
-    → sideNumber n f + g i * 3 ^ i ≡ sideNumber n g + f i * 3 ^ i
-unfolding sideNumber
+    → sumOf 3 n f + g i * 3 ^ i ≡ sumOf 3 n g + f i * 3 ^ i
+unfolding sumOf
 side-change zero i f g l other = absurd (omega arith)
 side-change (suc n) i f g l other =
     below-suc i n l
-    (λ e. rw (side-same n f g (λ j m. other j (λ q. absurd (omega arith))), e) (omega arith))
+    (λ e. rw (sum-ext 3 n f g (λ j m. other j (λ q. absurd (omega arith))), e) (omega arith))
     (λ m. rw (other n (λ q. absurd (omega arith))) (omega (arith, side-change n i f g m other)))
 
 pub now-below : (n k : ℕ) → nowSideNumber n k < 3 ^ n
 unfolding nowSideNumber
-now-below n k = side-lt n (λ i. nowOf (digit 7 k i)) (λ i. now-lt (digit 7 k i))
+now-below n k = sum-lt (lit< tt) (λ i. nowOf (digit 7 k i)) n (λ i h. now-lt (digit 7 k i))
 
 pub below-sides : (n k : ℕ) → n ≤ 7 → nowSideNumber n k < 2187
 below-sides n k l = lt-of-lt-of-le (now-below n k) (pow-three n l)
