@@ -25,11 +25,6 @@ pub use sums::check_of;
 pub use writing::WriteAnswer;
 pub use writing::write;
 
-// The most settings and the most posts that a book has.
-pub const SETTINGS_MOST: usize = 7;
-
-pub const POSTS_MOST: usize = 8;
-
 // The bytes of a block, of the part of it that its check is over, where the check's two sums stand
 // after that, and the fewest and most blocks of a book: the head and 1 to 7 settings.
 pub const BLOCK: usize = 512;

@@ -2,10 +2,8 @@
 // that all of it fits.
 use super::BLOCK;
 use super::HEAD_ZEROS;
-use super::POSTS_MOST;
 use super::S_AT;
 use super::SETTING_ZEROS;
-use super::SETTINGS_MOST;
 use super::T_AT;
 use super::TABLES;
 use super::bytes::copy;
@@ -14,6 +12,8 @@ use super::bytes::zeros;
 use super::refusal::Refusal;
 use super::stray::first_stray;
 use super::sums::check_of;
+use ground::POSTS_MOST;
+use ground::SETTINGS_MOST;
 ghost use mathlib.Core.Path.{_≡_};
 ghost use mathlib.Core.List.{_++_};
 ghost use Prim.Native.Nat.{_+_, _*_, _≤_};

@@ -2,11 +2,13 @@
 use crate::written::length;
 use crate::written::write;
 use book::Right;
+use ground::SETTINGS_MOST;
 use knowledge::Knowledge;
 use question::Asked;
 use question::Question;
 use question::Refusal;
 use question::ask;
+use sides::SIDES;
 ghost use mathlib.Core.Path.{_≡_};
 ghost use Prim.Native.Nat.{ℕ, _^_, _≤_, _<_};
 ghost use lib.ListN.{length as size};
@@ -28,8 +30,8 @@ pub enum Answer {
 // The answer at the start, by the ranks; a plan is written only where it fits.
 fn from_start(
     n: u8,
-    set: &[[u8; 2187]; 7],
-    look: &[[u8; 2187]; 7],
+    set: &[[u8; SIDES]; SETTINGS_MOST],
+    look: &[[u8; SIDES]; SETTINGS_MOST],
     ranks: &[u8],
     start: u32,
     plan: &mut [u8],

@@ -1,8 +1,10 @@
 // One step of the plan written: at a state, the act with the smallest byte whose outcomes all have a
 // lower rank, or a stop. The two tables have, for each setting and present side, a bit for each post
 // of the team that may set it, or look at it.
+use ground::SETTINGS_MOST;
 use knowledge::Act;
 use knowledge::Knowledge;
+use sides::SIDES;
 ghost use mathlib.Core.Path.{_≡_};
 ghost use mathlib.Core.List.{List};
 ghost use Prim.Native.Nat.{ℕ, _^_, _≤_, _<_, _*_, _+_};
@@ -57,8 +59,8 @@ pub fn look_at(k: u32, setting: u8, value: bool) -> u32
 // Setting i to the value, by the lowest post that may, where that leads to a lower rank.
 fn set_step(
     n: u8,
-    set: &[[u8; 2187]; 7],
-    look: &[[u8; 2187]; 7],
+    set: &[[u8; SIDES]; SETTINGS_MOST],
+    look: &[[u8; SIDES]; SETTINGS_MOST],
     ranks: &[u8],
     k: u32,
     side: usize,
@@ -86,8 +88,8 @@ fn set_step(
 // Looking at setting i, by the lowest post that may, where both outcomes have a lower rank.
 fn look_step(
     n: u8,
-    set: &[[u8; 2187]; 7],
-    look: &[[u8; 2187]; 7],
+    set: &[[u8; SIDES]; SETTINGS_MOST],
+    look: &[[u8; SIDES]; SETTINGS_MOST],
     ranks: &[u8],
     k: u32,
     side: usize,
@@ -121,8 +123,8 @@ fn look_step(
 // The step with the lowest post of one kind and setting: pair number kind × 7 + setting.
 fn step_of(
     n: u8,
-    set: &[[u8; 2187]; 7],
-    look: &[[u8; 2187]; 7],
+    set: &[[u8; SIDES]; SETTINGS_MOST],
+    look: &[[u8; SIDES]; SETTINGS_MOST],
     ranks: &[u8],
     k: u32,
     side: usize,
@@ -146,7 +148,13 @@ fn step_of(
 
 // The step that the plan written takes at the state k. For this crate alone: k is a state of n settings,
 // and the rank table holds them all.
-pub fn choose(n: u8, set: &[[u8; 2187]; 7], look: &[[u8; 2187]; 7], ranks: &[u8], k: u32) -> Step
+pub fn choose(
+    n: u8,
+    set: &[[u8; SIDES]; SETTINGS_MOST],
+    look: &[[u8; SIDES]; SETTINGS_MOST],
+    ranks: &[u8],
+    k: u32,
+) -> Step
     requires { ⌜ (n ≤ 7) × (k < 7 ^ n) × (7 ^ n ≤ length (now ranks)) ⌝ }
     ensures { λ r. ⌜ ((S : System) → Told n (now (set .entry)) (now (look .entry)) (now (ranks .entry)) S → Chooses S (now (ranks .entry)) k r) ⌝ }
 {

@@ -4,7 +4,9 @@ use crate::steps::Step;
 use crate::steps::choose;
 use crate::steps::look_at;
 use crate::steps::set_to;
+use ground::SETTINGS_MOST;
 use knowledge::Act;
+use sides::SIDES;
 ghost use mathlib.Core.Path.{_≡_};
 ghost use Prim.Native.Nat.{ℕ, _+_, _^_, _≤_, _<_};
 ghost use lib.ListN.{length, getD};
@@ -15,7 +17,13 @@ ghost use Rattle.plan.specs.Bytes.{encode};
 ghost use Rattle.finder.specs.Told.{Told, Ranked, Room};
 
 // How many bytes the plan written from k has. For this crate alone: k has a rank below 255.
-pub fn length(n: u8, set: &[[u8; 2187]; 7], look: &[[u8; 2187]; 7], ranks: &[u8], k: u32) -> usize
+pub fn length(
+    n: u8,
+    set: &[[u8; SIDES]; SETTINGS_MOST],
+    look: &[[u8; SIDES]; SETTINGS_MOST],
+    ranks: &[u8],
+    k: u32,
+) -> usize
     requires { ⌜ Ranked n (now set) (now look) (now ranks) k ⌝ }
     ensures { λ r. ⌜ (r ≤ 32640) × ((S : System) → Told n (now (set .entry)) (now (look .entry)) (now (ranks .entry)) S → (p : Plan) × Written S k p × (r ≡ length (encode p))) ⌝ }
 {
@@ -40,8 +48,8 @@ pub fn length(n: u8, set: &[[u8; 2187]; 7], look: &[[u8; 2187]; 7], ranks: &[u8]
 // a rank below 255, and the plan fits.
 pub fn write(
     n: u8,
-    set: &[[u8; 2187]; 7],
-    look: &[[u8; 2187]; 7],
+    set: &[[u8; SIDES]; SETTINGS_MOST],
+    look: &[[u8; SIDES]; SETTINGS_MOST],
     ranks: &[u8],
     k: u32,
     room: &mut [u8],

@@ -16,6 +16,9 @@ pub struct Present(pub u8);
 // The most settings: "Settings n: 1 to 7".
 pub const SETTINGS_MOST: usize = 7;
 
+// The most posts: "Posts m: 1 to 8".
+pub const POSTS_MOST: usize = 8;
+
 // The bytes of one formula's table: "A formula's table is 16 bytes".
 pub const TABLE: usize = 16;
 

@@ -29,7 +29,7 @@ fn first_at(known: u8, values: u8, i: u8) -> u8
 
 impl Knowledge {
     // The most settings that a state has digits for.
-    pub const MOST: usize = book::SETTINGS_MOST;
+    pub const MOST: usize = ground::SETTINGS_MOST;
 
     // The state with this knowledge number; of a number with more than seven digits, the lowest seven.
     pub fn from_number(number: u32) -> Self

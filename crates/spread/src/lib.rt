@@ -6,16 +6,14 @@ mod push;
 mod round;
 mod scan;
 
+use ground::SETTINGS_MOST;
 use round::round;
 pub use round::side_of;
+use sides::SIDES;
 ghost use mathlib.Core.Path.{_≡_};
 ghost use Prim.Native.Nat.{_^_, _≤_};
 ghost use Rattle.spread.specs.Spread.{Ready, Spread};
 
-// How many present sides seven settings have.
-const SIDES: usize = 2187;
-// The most settings.
-const SETTINGS: usize = 7;
 // The entry of a state from which no plan works.
 const NONE: u8 = 255;
 
@@ -38,8 +36,8 @@ pub fn states(n: usize) -> usize
 // is settled and with 255 elsewhere. Round h pushes from the states of rank h - 1 to those before them.
 pub fn spread(
     n: u8,
-    set: &[[u8; SIDES]; SETTINGS],
-    look: &[[u8; SIDES]; SETTINGS],
+    set: &[[u8; SIDES]; SETTINGS_MOST],
+    look: &[[u8; SIDES]; SETTINGS_MOST],
     ranks: &mut [u8],
 )
     requires { ⌜ Ready n (now ranks) ⌝ }

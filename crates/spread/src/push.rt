@@ -1,8 +1,8 @@
 // From a state of rank h - 1 to the states before it, by acts on one setting. The functions ask what
 // `visit` has shown of the state, and say in which way the table grew.
 use super::NONE;
-use super::SETTINGS;
-use super::SIDES;
+use ground::SETTINGS_MOST;
+use sides::SIDES;
 ghost use mathlib.Core.Path.{_≡_};
 ghost use Prim.Native.Nat.{_^_, _≤_, _<_};
 ghost use lib.Dec.{ltb};
@@ -32,7 +32,7 @@ pub(crate) fn now_of(digit: u8) -> usize
 }
 
 // Whether the table's entry for the setting and the side is not 0.
-fn may(table: &[[u8; SIDES]; SETTINGS], i: usize, side: usize) -> bool
+fn may(table: &[[u8; SIDES]; SETTINGS_MOST], i: usize, side: usize) -> bool
     requires { ⌜ (i < 7) × (side < 2187) ⌝ }
     ensures { λ r. ⌜ r ≡ ltb 0 (entry (now (table .entry)) i side) ⌝ }
 {
@@ -59,7 +59,7 @@ fn from_digit(
     spot: Spot,
     e: u8,
     h: u8,
-    set: &[[u8; SIDES]; SETTINGS],
+    set: &[[u8; SIDES]; SETTINGS_MOST],
     ranks: &mut [u8],
 )
     requires { ⌜ Spotted n k i (spot .rest) (spot .side) (spot .seven) (spot .three) × Pushing n k h (now ranks) × (e < 7) × SetsTo e (digit 7 k i) ⌝ }
@@ -80,7 +80,7 @@ fn by_set(
     spot: Spot,
     d: u8,
     h: u8,
-    set: &[[u8; SIDES]; SETTINGS],
+    set: &[[u8; SIDES]; SETTINGS_MOST],
     ranks: &mut [u8],
 )
     requires { ⌜ Spotted n k i (spot .rest) (spot .side) (spot .seven) (spot .three) × Pushing n k h (now ranks) × (d ≡ digit 7 k i) ⌝ }
@@ -105,7 +105,7 @@ fn beside(
     spot: Spot,
     e: u8,
     h: u8,
-    look: &[[u8; SIDES]; SETTINGS],
+    look: &[[u8; SIDES]; SETTINGS_MOST],
     ranks: &mut [u8],
 )
     requires { ⌜ Spotted n k i (spot .rest) (spot .side) (spot .seven) (spot .three) × Pushing n k h (now ranks) × (e < 7) × Beside e (digit 7 k i) ⌝ }
@@ -127,7 +127,7 @@ fn by_look(
     spot: Spot,
     d: u8,
     h: u8,
-    look: &[[u8; SIDES]; SETTINGS],
+    look: &[[u8; SIDES]; SETTINGS_MOST],
     ranks: &mut [u8],
 )
     requires { ⌜ Spotted n k i (spot .rest) (spot .side) (spot .seven) (spot .three) × Pushing n k h (now ranks) × (d ≡ digit 7 k i) ⌝ }
@@ -165,8 +165,8 @@ pub(crate) fn push(
     seven: usize,
     three: usize,
     h: u8,
-    set: &[[u8; SIDES]; SETTINGS],
-    look: &[[u8; SIDES]; SETTINGS],
+    set: &[[u8; SIDES]; SETTINGS_MOST],
+    look: &[[u8; SIDES]; SETTINGS_MOST],
     ranks: &mut [u8],
 )
     requires { ⌜ Pushing n k h (now ranks) × (n ≤ 7) × (k < 7 ^ n) × (side ≡ nowSideNumber n k) × (i < n) × (d ≡ digit 7 k i) × (seven ≡ 7 ^ i) × (three ≡ 3 ^ i) ⌝ }

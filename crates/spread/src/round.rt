@@ -1,11 +1,11 @@
 // One round: every state of rank h - 1 is found and pushed from.
-use super::SETTINGS;
-use super::SIDES;
 use super::push::now_of;
 use super::push::push;
 use super::scan::BLOCK;
 use super::scan::is_bare;
+use ground::SETTINGS_MOST;
 use knowledge::Knowledge;
+use sides::SIDES;
 ghost use mathlib.Core.Path.{_≡_};
 ghost use Prim.Native.Nat.{_+_, _^_, _≤_, _<_};
 ghost use Rattle.sides.specs.Sides.{nowSideNumber};
@@ -13,7 +13,7 @@ ghost use Rattle.spread.specs.Inner.{Apart, Pushing, Visited, Sweeping, 
 
 // A state taken apart: the digit of each setting, and the present side as a number.
 struct Parts {
-    digits: [u8; SETTINGS],
+    digits: [u8; SETTINGS_MOST],
     side: usize,
 }
 
@@ -23,7 +23,7 @@ fn take_apart(n: usize, k: usize) -> Parts
     ensures { λ r. ⌜ Apart n k (r .side) (r .digits) ⌝ }
 {
     let state = Knowledge::from_number(k as u32);
-    let mut digits = [0u8; SETTINGS];
+    let mut digits = [0u8; SETTINGS_MOST];
     let mut side = 0;
     let mut three = 1;
     let mut i = 0;
@@ -51,8 +51,8 @@ fn visit(
     n: usize,
     k: usize,
     h: u8,
-    set: &[[u8; SIDES]; SETTINGS],
-    look: &[[u8; SIDES]; SETTINGS],
+    set: &[[u8; SIDES]; SETTINGS_MOST],
+    look: &[[u8; SIDES]; SETTINGS_MOST],
     ranks: &mut [u8],
 )
     requires { ⌜ (n ≤ 7) × (k < 7 ^ n) × Pushing n k h (now ranks) ⌝ }
@@ -77,8 +77,8 @@ fn visit_if(
     n: usize,
     k: usize,
     h: u8,
-    set: &[[u8; SIDES]; SETTINGS],
-    look: &[[u8; SIDES]; SETTINGS],
+    set: &[[u8; SIDES]; SETTINGS_MOST],
+    look: &[[u8; SIDES]; SETTINGS_MOST],
     ranks: &mut [u8],
 ) -> usize
     requires { ⌜ Sweeping n h (now ranks) × (k < 7 ^ n) ⌝ }
@@ -97,8 +97,8 @@ fn sweep(
     at: usize,
     end: usize,
     h: u8,
-    set: &[[u8; SIDES]; SETTINGS],
-    look: &[[u8; SIDES]; SETTINGS],
+    set: &[[u8; SIDES]; SETTINGS_MOST],
+    look: &[[u8; SIDES]; SETTINGS_MOST],
     ranks: &mut [u8],
 ) -> usize
     requires { ⌜ Sweeping n h (now ranks) × (at ≤ end) × (end ≤ 7 ^ n) ⌝ }
@@ -119,8 +119,8 @@ fn block(
     at: usize,
     end: usize,
     h: u8,
-    set: &[[u8; SIDES]; SETTINGS],
-    look: &[[u8; SIDES]; SETTINGS],
+    set: &[[u8; SIDES]; SETTINGS_MOST],
+    look: &[[u8; SIDES]; SETTINGS_MOST],
     ranks: &mut [u8],
 ) -> usize
     requires { ⌜ Sweeping n h (now ranks) × (at ≤ end) × (end ≤ at + 64) × (end ≤ 7 ^ n) ⌝ }
@@ -148,8 +148,8 @@ pub(crate) fn round(
     n: usize,
     size: usize,
     h: u8,
-    set: &[[u8; SIDES]; SETTINGS],
-    look: &[[u8; SIDES]; SETTINGS],
+    set: &[[u8; SIDES]; SETTINGS_MOST],
+    look: &[[u8; SIDES]; SETTINGS_MOST],
     ranks: &mut [u8],
 ) -> usize
     requires { ⌜ Sweeping n h (now ranks) × (size ≡ 7 ^ n) ⌝ }
