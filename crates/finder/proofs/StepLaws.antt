@@ -25,7 +25,7 @@ use Rattle.knowledge.proofs.States.{number-state, set-state, look-state}
 use Rattle.plan.specs.Plans.{System, may, after-set, after-look}
 use Rattle.plan.specs.Ranks.{Chosen}
 use native.Mathlib.Nat.{pow-le-pow-right}
-use Rattle.sides.proofs.Numbers.{now-number-lt}
+use Rattle.sides.proofs.Shown.{now-number-lt}
 use Rattle.plan.proofs.Acts.{after-a-set, after-a-look}
 use Rattle.plan.proofs.Certificate.{setTo-lt, lookAt-lt, numbers-closed}
 use Rattle.plan.proofs.Table.{chosen}

@@ -96,15 +96,18 @@ module _ (book : List ℕ) (q : Question) (make learn ranks plan : List ℕ) whe
       let z = answers-unique (lawful v) (few v) (startNumber (q .known) (q .values)) plan a b x y g answered in
       (z .0, ranks-unique f filled, z .1)
 
--- a refusal leaves the plan room as it was; it is the first of 6 to 13 and leaves the rank table too, or 14, which fills it
+-- a refusal leaves the plan room as it was; it is the first of 6 to 13 and leaves the rank table too, or it is 14: of a valid question, whose plan does
+-- not fit the room, and the rank table is filled
 pub find-refused : (book : List ℕ) (q : Question) (make learn ranks plan : List ℕ) (w : Refusal) (r x : List ℕ) → Finds book q make learn ranks plan (Refused w) r x
     → (x ≡ plan) × ((First (findRows book (q .team) (q .known) (q .values) make learn ranks) (number w) (place w) × (r ≡ ranks))
-    ⊎ ((w ≡ PlanRoom) × ((n : ℕ) × RanksFilled n (systemOf n book (q .team) make learn) ranks r)))
+    ⊎ ((w ≡ PlanRoom) × ((n : ℕ) × (m : ℕ) × ValidQuestion book q make learn n m × (7 ^ n ≤ length ranks)
+    × RanksFilled n (systemOf n book (q .team) make learn) ranks r
+    × ((p : Plan) × Written (systemOf n book (q .team) make learn) (startNumber (q .known) (q .values)) p × (length plan < length (encode p))))))
 find-refused book q make learn ranks plan w r x (inl u) =
     let same : u .why ≡ w = let e = u .answered in cc in
     (u .plan-kept, inl (subst (λ (y : Refusal). First (findRows book (q .team) (q .known) (q .values) make learn ranks) (number y) (place y)) same (u .first), u .ranks-kept))
 find-refused book q make learn ranks plan w r x (inr (n, m, v, l, f, a)) =
-    let z = late (systemOf n book (q .team) make learn) (startNumber (q .known) (q .values)) plan x w a in (z .2, inr (z .0, (n, f)))
+    let z = late (systemOf n book (q .team) make learn) (startNumber (q .known) (q .values)) plan x w a in (z .2, inr (z .0, (n, m, v, l, f, z .1)))
 
 -- whatever the answer to a valid question with room for the ranks, they are filled in
 pub find-ranks : (book : List ℕ) (q : Question) (make learn ranks plan : List ℕ) {n m : ℕ} (a : Answer) (r x : List ℕ) → ValidQuestion book q make learn n m → 7 ^ n ≤ length ranks

@@ -30,8 +30,8 @@ pub record RanksFilled (n : ℕ) (S : System) (old new : List ℕ) : Type 0 wher
   pub ranks : (k : ℕ) → k < 7 ^ n → IsRank S k (getD new k 0)
   pub later : (j : ℕ) → 7 ^ n ≤ j → getD new j 0 ≡ getD old j 0
 
--- the answer to a valid question, from its start, with the plan room before and after. "The height named is the least; the plan written is such a plan";
--- "for "cannot" and 14, the plan room keep[s] what [it] held. A success writes only the plan's bytes there"
+-- the answer to a valid question, from its start, with the plan room before and after. The height named is the least, and the plan written is such a
+-- plan (demand 2); "for "cannot" and 14, the plan room keep[s] what [it] held. A success writes only the plan's bytes there"
 abbrev pub Answers : System → ℕ → List ℕ → Answer → List ℕ → Type 0
 Answers S start old (Reach h size) new =
     Least (ReachIn S start) h × ((p : Plan) × Written S start p × (size ≡ length (encode p)) × (size ≤ length old) × (new ≡ encode p ++ drop size old))

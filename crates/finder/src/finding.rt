@@ -93,7 +93,7 @@ pub fn find(
     match ask(book, question, make, learn) {
         Asked::Not(why) => Answer::Refused(why),
         Asked::Valid { settings, posts: _ } => {
-            if ranks.len() < spread::states(settings as usize) {
+            if ranks.len() < sides::numbers(settings) {
                 return Answer::Refused(Refusal::Ranks);
             }
             let team = question.team;

@@ -152,7 +152,7 @@ module _ {book : List ℕ} {q : Question} {make learn : List ℕ} {n m : ℕ} (v
       → (p : Plan) × Works (systemFor n book q make learn) (questionStart q) p × (plan ≡ encode p) × (rank ≤ height p)
   accepted-height j rank is = Plans.accepted-plan law few (questionStart q) plan rank is (judged-at j)
 
--- "the empty plan is 20 at 0"
+-- the empty plan is 20 at 0
 pub empty-plan : {book : List ℕ} {q : Question} {make learn : List ℕ} {n m : ℕ} → ValidQuestion book q make learn n m
     → Checks book q make learn [] (Refused (TooSoon 0))
 empty-plan {n = n} {m = m} valid = inr (too-soon, refl, record { n = n; m = m; valid = valid; short = lit≤ tt; judged = refl })

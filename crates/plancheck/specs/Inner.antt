@@ -85,7 +85,7 @@ HeldAt n Open k ks = Held n k ks
 HeldAt n Whole k ks = Unit
 HeldAt n (Failed why) k ks = Unit
 
--- a desk over n settings: "the stack never holds more than n"
+-- a desk over n settings: no more than n states wait
 pub record Ready (n : ℕ) (d : Desk) : Type 0 where
   pub room : length (d .waiting) ≡ 7
   pub most : d .count ≤ n

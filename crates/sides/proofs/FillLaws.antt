@@ -20,7 +20,7 @@ use Rattle.ground.proofs.Digits.{put-same, put-other, put-lt, put-sum}
 use Rattle.knowledge.specs.Seven.{unknown, told}
 use Rattle.knowledge.specs.Fits.{always, is}
 use Rattle.knowledge.proofs.Fits.{always-split, always-one}
-use Rattle.sides.proofs.Numbers.{three}
+use Rattle.sides.proofs.Shown.{three}
 use Rattle.sides.specs.Inner.{SideTells, FilledAt, FilledFrom, Filled}
 use Rattle.sides.specs.declared.told.Told.{Told}
 use Rattle.sides.specs.declared.told.Told.the-variants.{Unknown, Valuation}

@@ -13,7 +13,7 @@ use Rattle.knowledge.proofs.Seven.{now-lt, start-lt}
 use Rattle.sides.specs.Sides.{nowSideNumber, startSideNumber}
 use Rattle.sides.specs.Over.{markOf, Marks}
 use Rattle.sides.specs.Inner.{Stored, markAt}
-use Rattle.sides.proofs.Numbers.{now-number-lt, start-number-lt, now-low, start-low}
+use Rattle.sides.proofs.Shown.{now-number-lt, start-number-lt, now-low, start-low}
 use Rattle.sides.proofs.FillLaws.{sides-most}
 
 -- the sides of the lowest i settings

@@ -14,7 +14,7 @@ use Rattle.knowledge.specs.Fits.{always, nowSide, startSide, known, oneValue, l
 use Rattle.knowledge.proofs.Fits.{always-ext}
 use Rattle.sides.specs.Sides.{nowSideNumber, startSideNumber}
 use Rattle.sides.specs.Over.{entry, PostTables, oneOf, SideTable, Made, learnCount, learnTable, allSettled, Learnt, rankIf, markOf, Marks}
-use Rattle.sides.proofs.Numbers.{now-number-lt, start-number-lt, now-digit, start-digit}
+use Rattle.sides.proofs.Shown.{now-number-lt, start-number-lt, now-digit, start-digit}
 
 pub one-lt : (b : Bool) → oneOf b < 2
 one-lt true = lit< tt
@@ -56,7 +56,7 @@ learnt-settled n learn t table k =
     side-some table (startSideNumber n k) (start-number-lt n k)
     ∙ all-ext (learnCount learn) _ _ (λ j h. settled-start n k (learnTable learn j))
 
--- "by a post of the team .. where its rule for that post is known to hold"
+-- "by a post of the team", where "its set rule for that post is known to hold", or its look rule
 pub post-known : {n team : ℕ} {book : List ℕ} {right : Right} {t : List (List ℕ)} → PostTables n book team right t → (k i q : ℕ) → i < n → q < 8
     → bit (entry t i (nowSideNumber n k)) q ≡ (bit team q && known n (digit 7 k) (rule book i q right))
 post-known {n} {team} {book} {right} table k i q h l =

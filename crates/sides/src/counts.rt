@@ -20,6 +20,7 @@ pub fn sides(n: u8) -> usize
     THREES[n as usize]
 }
 
+// For this repository alone.
 pub fn numbers(n: u8) -> usize
     requires { ⌜ n ≤ 7 ⌝ }
     ensures { λ r. ⌜ r ≡ 7 ^ n ⌝ }

@@ -12,6 +12,7 @@ mod marks;
 mod posts;
 mod told;
 
+pub use counts::numbers;
 pub use goal::learnt;
 pub use goal::made;
 pub use marks::mark;

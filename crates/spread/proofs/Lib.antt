@@ -1,3 +1,4 @@
+-- The laws of a push, a round and the whole spread, and that its certificate settles the table.
 pub mod Grown
 pub mod Spots
 pub mod Running

@@ -10,26 +10,13 @@ use ground::SETTINGS_MOST;
 use round::round;
 pub use round::side_of;
 use sides::SIDES;
+use sides::numbers;
 ghost use mathlib.Core.Path.{_≡_};
 ghost use Prim.Native.Nat.{_^_, _≤_};
 ghost use Rattle.spread.specs.Spread.{Ready, Spread};
 
 // The entry of a state from which no plan works.
 const NONE: u8 = 255;
-
-// How many knowledge numbers n settings have.
-pub fn states(n: usize) -> usize
-    requires { ⌜ n ≤ 7 ⌝ }
-    ensures { λ r. ⌜ r ≡ 7 ^ n ⌝ }
-{
-    let mut power = 1;
-    let mut i = 0;
-    while i < n {
-        power *= 7;
-        i += 1;
-    }
-    power
-}
 
 // Gives every knowledge number of n settings its rank. An entry of `set` and of `look`, by setting and
 // present side, is not 0 where the setting may be set, or looked at. `ranks` comes with 0 where the goal
@@ -44,7 +31,7 @@ pub fn spread(
     ensures { λ _. ⌜ Spread n (now (set .entry)) (now (look .entry)) (now (ranks .entry)) (now (ranks .exit)) ⌝ }
 {
     let settings = n as usize;
-    let size = states(settings);
+    let size = numbers(n);
     let mut h: u8 = 1;
     while h < NONE {
         if round(settings, size, h, set, look, ranks) == 0 {

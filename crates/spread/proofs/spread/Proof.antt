@@ -13,20 +13,20 @@ Inv-loop n set look ranks₀ settings size h₀ ranks h = (0 < h) × (h ≤ 255)
 abbrev μ-loop : tie.MeasureT-loop
 μ-loop n set look ranks₀ settings size h₀ ranks h = 255 - h
 
-states-requires : tie.Need-states-requires Inv-loop μ-loop
-states-requires c κs = c .before .pre .few
+numbers-requires : tie.Need-numbers-requires Inv-loop μ-loop
+numbers-requires c κs = c .before .pre .few
 
 loop-holds : tie.Need-loop-holds Inv-loop μ-loop
 loop-holds c = (omega arith, omega arith, first (c .before .before .pre))
 
 round-requires : tie.Need-round-requires Inv-loop μ-loop
-round-requires c κs = (record { few = c .before .before .before .before .before .pre .few; room = c .before .before .loop .inv .2 .room; low = c .before .before .loop .inv .0; high = omega (arith, c .before .loop-test .taken) }, c .before .before .before .states .ensures)
+round-requires c κs = (record { few = c .before .before .before .before .before .pre .few; room = c .before .before .loop .inv .2 .room; low = c .before .before .loop .inv .0; high = omega (arith, c .before .loop-test .taken) }, c .before .before .before .numbers .ensures)
 
 same-length : tie.Need-same-length Inv-loop μ-loop
 same-length c = c .before .before .before .round .ensures .grew .same-length ∙ c .before .before .before .before .before .before .loop .inv .2 .same-length
 
 returns : tie.Need-returns Inv-loop μ-loop
-returns c = still (c .before .before .before .before .before .before .loop .inv .0) (omega (arith, c .before .before .before .before .before .loop-test .taken)) (c .before .before .before .before .before .before .loop .inv .2) (swept-all (c .before .before .before .before .before .before .before .states .ensures) (c .before .before .before .round .ensures)) (c .if1 .taken)
+returns c = still (c .before .before .before .before .before .before .loop .inv .0) (omega (arith, c .before .before .before .before .before .loop-test .taken)) (c .before .before .before .before .before .before .loop .inv .2) (swept-all (c .before .before .before .before .before .before .before .numbers .ensures) (c .before .before .before .round .ensures)) (c .if1 .taken)
 
 add-h : tie.Need-add-h Inv-loop μ-loop
 add-h c = omega (arith, c .before .before .before .before .before .loop-test .taken)
@@ -35,7 +35,7 @@ loop-less : tie.Need-loop-less Inv-loop μ-loop
 loop-less c = omega (arith, c .before .before .before .before .before .loop-test .taken)
 
 loop-again : tie.Need-loop-again Inv-loop μ-loop
-loop-again c = (omega arith, omega (arith, c .before .before .before .before .before .loop-test .taken), next (c .before .before .before .before .before .before .loop .inv .0) (omega (arith, c .before .before .before .before .before .loop-test .taken)) (c .before .before .before .before .before .before .loop .inv .2) (swept-all (c .before .before .before .before .before .before .before .states .ensures) (c .before .before .before .round .ensures)))
+loop-again c = (omega arith, omega (arith, c .before .before .before .before .before .loop-test .taken), next (c .before .before .before .before .before .before .loop .inv .0) (omega (arith, c .before .before .before .before .before .loop-test .taken)) (c .before .before .before .before .before .before .loop .inv .2) (swept-all (c .before .before .before .before .before .before .before .numbers .ensures) (c .before .before .before .round .ensures)))
 
 same-length-2 : tie.Need-same-length-2 Inv-loop μ-loop
 same-length-2 c = c .before .loop .inv .2 .same-length
@@ -49,7 +49,7 @@ spread-spec =
     (tie.spec
     Inv-loop
     μ-loop
-    states-requires
+    numbers-requires
     loop-holds
     round-requires
     same-length
