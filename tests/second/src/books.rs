@@ -43,6 +43,7 @@ pub fn reading(subject: &mut Subject) {
 
 pub fn writing(subject: &mut Subject) {
     subject.group("valid rights of every n and m, and what is written reads back", valid_rights);
+    subject.group("what the library reads, it writes back as the same bytes, and the other way", round_trips);
     subject.group("every bit of rights turned", every_bit_of_rights);
     subject.group("rights of wrong lengths", rights_lengths);
     subject.group("n and m of any size", sizes);
@@ -222,6 +223,29 @@ fn valid_rights(group: &mut Group) {
                     let back = book::read(&book, AMPLE);
                     group.case(back.is_ok_and(|back| back == Book { n, m, rights: rights.clone() }), || sparse(&book));
                     expect_write(group, n as u64, m as u64, &rights, AMPLE, Ok(book));
+                }
+            }
+        }
+    }
+}
+
+/// Demand 2's two round trips, by the library alone: a book read and written, and the rights that were read.
+fn round_trips(group: &mut Group) {
+    for _ in group.times(4) {
+        for n in 1..=7 {
+            for m in 1..=8 {
+                for rights in each_kind_of_rights(&mut group.rng, n, m) {
+                    let book = written(n, m, &rights);
+                    let mut lent = Room::holding(&book, &[0], &mut group.rng);
+                    let mut read = Room::of(rights.len(), &mut group.rng);
+                    let word = ffi::book_read(&mut lent, &mut read);
+                    let mut found = Room::holding(read.lent(), &[0], &mut group.rng);
+                    let mut again = Room::of(book.len(), &mut group.rng);
+                    let done = ffi::book_write(word / 256, word % 256, &mut found, &mut again);
+                    let mut second = Room::of(rights.len(), &mut group.rng);
+                    let reread = ffi::book_read(&mut again, &mut second);
+                    let same = done == 0 && again.lent() == book && reread == word && second.lent() == read.lent();
+                    group.case(same && read.lent() == rights, || sparse(&book));
                 }
             }
         }

@@ -7,8 +7,9 @@ use crate::books::{repaired, written};
 use crate::damage::replaced;
 use crate::fast;
 use crate::ffi;
-use crate::finder::{self, Found, Solution};
+use crate::finder::{self, Found, Solution, NEVER};
 use crate::knowledge::{known_to_hold, learnt, Act, Kind, Knowledge, DIGITS};
+use crate::plan::PLAN_MOST;
 use crate::question::{bits, Question};
 use crate::questions::{any_letters, any_question, by_hand, climb, plain_letters, spoilt_climb};
 use crate::refusal::{told, Refusal};
@@ -104,7 +105,8 @@ fn expect(
         Err(refusal) => refusal.word(),
     };
     let only_read = book.untouched() && make.untouched() && learn.untouched();
-    let right = word == expected_word && ranks.holds(&ranks_left) && plan.holds(&plan_left) && only_read;
+    let bounded = solution.as_ref().map_or(true, |solution| within_bounds(solution));
+    let right = bounded && word == expected_word && ranks.holds(&ranks_left) && plan.holds(&plan_left) && only_read;
     group.case(right, || {
         let mut more = String::new();
         if let Some(k) = (0..rank_room).find(|&k| ranks.lent()[k] != ranks_left[k]) {
@@ -124,6 +126,17 @@ fn expect(
         )
     });
     group.came_to(expected);
+}
+
+/// A rank that is not 255 is at most 2^(n+1) - 2, and no plan that is written is longer than one that may be checked.
+fn within_bounds(solution: &Solution) -> bool {
+    let settings = (1..=7).find(|&n| ranks_of(n) == solution.ranks.len());
+    let most = settings.map_or(0, |n| (1 << (n + 1)) - 2);
+    let short = match &solution.found {
+        Found::Reach { plan, .. } => plan.len() <= PLAN_MOST,
+        Found::Cannot => true,
+    };
+    short && solution.ranks.iter().all(|&rank| rank == NEVER || u32::from(rank) <= most)
 }
 
 pub fn shown_question(question: &Question) -> String {
@@ -366,12 +379,13 @@ fn rooms(group: &mut Group) {
             expect(group, &question, ranks_of(n) - 1, plan_room, &solution);
         }
     }
-    let letters = plain_letters(5);
-    let question = climb(&mut group.rng, &letters, 1);
-    let solution = finder::find(&question);
-    if let Ok(Solution { found: Found::Reach { plan, .. }, .. }) = &solution {
-        for plan_room in [plan.len() - 1, plan.len()] {
-            expect(group, &question, ranks_of(5), plan_room, &solution);
+    for n in 5..=7 {
+        let question = climb(&mut group.rng, &plain_letters(n), 1);
+        let solution = finder::find(&question);
+        if let Ok(Solution { found: Found::Reach { plan, .. }, .. }) = &solution {
+            for plan_room in [plan.len() - 1, plan.len()] {
+                expect(group, &question, ranks_of(n) + 9, plan_room, &solution);
+            }
         }
     }
 }
