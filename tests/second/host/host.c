@@ -7,6 +7,8 @@
 // reply on standard output is the result, one word, then all bytes of all rooms as the call left them.
 // The host ends where its input ends. It has no header of the C library at hand, and needs four functions.
 
+#include "../../../include/parjolenc.h"
+
 typedef unsigned char u8;
 typedef unsigned long u64;
 
@@ -14,15 +16,6 @@ long read(int file, void *bytes, u64 size);
 long write(int file, const void *bytes, u64 size);
 void *realloc(void *old, u64 size);
 _Noreturn void _exit(int status);
-
-u64 pj_formula_read(u64 n, const u8 *text, u64 len, u8 *table);
-u64 pj_book_read(const u8 *book, u64 len, u8 *rights, u64 rights_len);
-u64 pj_book_write(u64 n, u64 m, const u8 *rights, u64 len, u8 *book, u64 book_len);
-u64 pj_find(const u8 *book, u64 book_len, u8 team, u8 known, u8 values, const u8 *make, u64 make_len,
-            const u8 *learn, u64 learn_len, u8 *ranks, u64 ranks_len, u8 *plan, u64 plan_len);
-u64 pj_plan_check(const u8 *book, u64 book_len, u8 team, u8 known, u8 values, const u8 *make, u64 make_len,
-                  const u8 *learn, u64 learn_len, const u8 *plan, u64 plan_len);
-u64 pj_sheet(const u8 *sheet, u64 len, u8 *out, u64 out_len);
 
 enum { GUARD = 32, ROOMS_MOST = 8 };
 enum { FORMULA_READ = 1, BOOK_READ = 2, BOOK_WRITE = 3, FIND = 4, PLAN_CHECK = 5, SHEET = 6 };
