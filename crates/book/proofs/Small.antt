@@ -12,3 +12,11 @@ number-small (Check k) = lit< tt
 number-small Head = lit< tt
 number-small (StrayBit k) = lit< tt
 number-small Room = lit< tt
+
+pub number-some : (r : Refusal) → 0 < number r
+number-some Settings = lit< tt
+number-some Length = lit< tt
+number-some (Check k) = lit< tt
+number-some Head = lit< tt
+number-some (StrayBit k) = lit< tt
+number-some Room = lit< tt

@@ -7,8 +7,12 @@ use native.Mathlib.Omega.{arith}
 use lib.ListN.{length}
 use Rattle.ground.specs.Order.{First}
 use Rattle.ground.proofs.OrderLaws.{first-split}
-use Rattle.book.proofs.Small as B
-use Rattle.plan.specs.Plans.{System}
+use Rattle.plan.specs.Plans.{System, height}
+use Rattle.plan.proofs.Ranks.{rank-small}
+use Rattle.plan.proofs.Size.{works-permitted, size-most}
+use Rattle.plan.proofs.Written.{written-works, written-height}
+use Rattle.question.specs.Question.{systemOf, startNumber}
+use Rattle.question.proofs.Unique.{lawful, few}
 use Rattle.question.specs.Rows.{number, place, questionRows}
 use Rattle.question.proofs.Small.{zero-small, question-most}
 use Rattle.finder.specs.Finds.{Answers, Finds, findRows}
@@ -44,3 +48,13 @@ module _ (book : List ℕ) (q : Question) (make learn ranks plan ranks′ plan�
   pub plan-fits : (h size : ℕ) → Finds book q make learn ranks plan (Reach h size) ranks′ plan′ → size ≤ length plan
   plan-fits h size (inl u) = let e : Reach h size ≡ Refused (u .why) = u .answered in let z : _≡_ {A = ℕ} 0 1 = cc in absurd (omega arith)
   plan-fits h size (inr (n, m, v, l, f, a)) = a .1 .3
+
+  -- a height is below 255, and a plan no longer than one that may be checked
+  pub reach-most : (h size : ℕ) → Finds book q make learn ranks plan (Reach h size) ranks′ plan′ → (h ≤ 254) × (size ≤ 32640)
+  reach-most h size (inl u) = let e : Reach h size ≡ Refused (u .why) = u .answered in let z : _≡_ {A = ℕ} 0 1 = cc in absurd (omega arith)
+  reach-most h size (inr (n, m, v, l, f, (least, (p, w, long, short, bytes)))) =
+      let S : System = systemOf n book (q .team) make learn in
+      let k : ℕ = startNumber (q .known) (q .values) in
+      let low : h ≤ 254 = omega (arith, rank-small (lawful v) k h (few v) least) in
+      let high : height p ≡ h = written-height S p k h w (inl least) in
+      (low, omega (arith, long, size-most (lawful v) p k (few v) (works-permitted S p k (written-works S p k w)) (omega (arith, high, low))))

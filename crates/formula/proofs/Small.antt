@@ -15,6 +15,13 @@ number-small (LetterPast i) = lit< tt
 number-small (NotSentence i) = lit< tt
 number-small Settings = lit< tt
 
+pub number-some : (r : Refusal) → 0 < number r
+number-some Length = lit< tt
+number-some (StrayByte i) = lit< tt
+number-some (LetterPast i) = lit< tt
+number-some (NotSentence i) = lit< tt
+number-some Settings = lit< tt
+
 breaks-inside : {s : List ℕ} {i : ℕ} → BreaksAt s i → i ≤ length s
 breaks-inside (at-byte l) = omega (arith, l .here .0)
 breaks-inside (at-end f) = omega arith

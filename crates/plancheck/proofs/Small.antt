@@ -2,17 +2,16 @@
 -- byte, or the plan's length.
 use mathlib.Core.Path.{ap}
 use mathlib.Core.Logic.{inl, inr}
-use mathlib.Core.List.{List, []}
+use mathlib.Core.List.{List}
 use Prim.Native.Nat.{ℕ, _≤_, _<_}
 use native.Mathlib.Omega.{arith}
 use lib.ListN.{length, length-append}
 use Rattle.ground.specs.Order.{First}
-use Rattle.book.specs.Refusals.{bookRows, readRows}
-use Rattle.ground.proofs.OrderLaws.{first-left, first-split}
-use Rattle.book.proofs.Theorems.{read-place-most}
+use Rattle.ground.proofs.OrderLaws.{first-split}
 use Rattle.plan.proofs.Faults.{fault-out}
 use Rattle.question.specs.Rows.{questionRows}
 use Rattle.question.specs.declared.Question.{Question}
+use Rattle.question.proofs.Small as Q
 use Rattle.plancheck.specs.Refusals.{number, place, checkRows}
 use Rattle.plancheck.specs.Checks.{systemFor, Checks}
 use Rattle.plancheck.specs.declared.answer.Refusal.{Refusal}
@@ -29,25 +28,20 @@ number-small (NotSettled i) = omega arith
 number-small (TooSoon i) = omega arith
 number-small (LeftOver i) = omega arith
 
-book-place : (book : List ℕ) (x p : ℕ) → First (bookRows book) x p → p ≤ 8
-unfolding readRows
-book-place book x p f = read-place-most book [] x p (first-left (bookRows book) _ x p f)
-
-question-place : (book : List ℕ) (team known values : ℕ) (make learn : List ℕ) (x p : ℕ) → First (questionRows book team known values make learn) x p → p ≤ 8
-unfolding questionRows
-question-place book team known values make learn x p f = elim (first-split (bookRows book) _ x p f) [
-  | inl g ↦ book-place book x p g
-  | inr (c, inl a) ↦ omega (arith, a .1 .here .1)
-  | inr (c, inr (d, inl a)) ↦ omega (arith, a .1 .here .1)
-  | inr (c, inr (d, inr (e, inl a))) ↦ omega (arith, a .1 .here .1)
-  | inr (c, inr (d, inr (e, inr a))) ↦ absurd (a .1)
-]
+pub number-some : (r : Refusal) → 0 < number r
+number-some (OfQuestion w) = Q.number-some w
+number-some TooLong = omega arith
+number-some (NoAct i) = omega arith
+number-some (NotPermitted i) = omega arith
+number-some (NotSettled i) = omega arith
+number-some (TooSoon i) = omega arith
+number-some (LeftOver i) = omega arith
 
 row-place : (book : List ℕ) (q : Question) (make learn plan : List ℕ) (x p : ℕ) → First (checkRows book q make learn plan) x p → p ≤ 8
 unfolding checkRows
 row-place book q make learn plan x p f =
     elim (first-split (questionRows book (q .team) (q .known) (q .values) make learn) _ x p f) [
-      | inl g ↦ question-place book (q .team) (q .known) (q .values) make learn x p g
+      | inl g ↦ Q.question-most book (q .team) (q .known) (q .values) make learn x p g
       | inr (c, inl a) ↦ omega (arith, a .1 .here .1)
       | inr (c, inr a) ↦ absurd (a .1)
     ]

@@ -22,6 +22,14 @@ number-small Goal = lit< tt
 number-small Ranks = lit< tt
 number-small PlanRoom = lit< tt
 
+pub number-some : (r : Refusal) → 0 < number r
+number-some (Book r) = B.number-some r
+number-some Team = lit< tt
+number-some Known = lit< tt
+number-some Goal = lit< tt
+number-some Ranks = lit< tt
+number-some PlanRoom = lit< tt
+
 pub zero-small : {given : Type 0} {p : ℕ} → Least (only given) p → p ≤ 8
 zero-small l = omega (arith, l .here .1)
 
