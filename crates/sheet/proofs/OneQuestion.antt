@@ -28,8 +28,9 @@ use Rattle.finder.specs.Question.{systemOf, startNumber}
 use Rattle.finder.proofs.Unique.{below-power}
 use Rattle.printing.specs.Printed.{reachText, Prints}
 use Rattle.printing.proofs.Theorems.{prints-unique}
-use Rattle.sheet.specs.Sheet.{Sheet}
-use Rattle.sheet.specs.Answer.{TablesOf, Question, Tells}
+use Rattle.lines.specs.Sheet.{Sheet}
+use Rattle.lines.specs.Desk.{TablesOf}
+use Rattle.sheet.specs.Answer.{Question, Tells}
 
 -- ---- masks and tables
 

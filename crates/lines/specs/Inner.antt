@@ -1,0 +1,49 @@
+-- Inside: what the private functions mean. No public contract cites this.
+use mathlib.Core.Path.{_≡_}
+use mathlib.Core.List.{List}
+use Prim.Native.Nat.{ℕ, _+_, _*_}
+use lib.ListN.{set}
+use lib.Seq.{sets}
+use Rattle.lines.specs.Reading.{Step, fault, next}
+use Rattle.lines.specs.Desk.{number, Holds}
+use Rattle.lines.specs.declared.desk.Desk.{Desk}
+use Rattle.lines.specs.declared.desk.Taken.{Taken}
+use Rattle.lines.specs.declared.desk.Taken.the-variants.{Next, No}
+
+-- the desk with these for its own
+abbrev pub laid : Desk → List ℕ → List ℕ → ℕ → ℕ → ℕ → List ℕ → ℕ → List ℕ → Desk
+laid d rights marks team known values make asks learn = record {
+  settings = d .settings;
+  posts = d .posts;
+  rights = rights;
+  stated = marks;
+  team = team;
+  known = known;
+  values = values;
+  make = make;
+  asks = asks;
+  learn = learn;
+}
+
+-- and the desk with one line more
+unfoldable pub ruledDesk : Desk → ℕ → List ℕ → Desk
+ruledDesk d slot t = laid d (sets (d .rights) (16 * slot) t) (set (d .stated) slot 1) (d .team) (d .known) (d .values) (d .make) (d .asks) (d .learn)
+
+abbrev pub teamDesk : Desk → ℕ → Desk
+teamDesk d team = laid d (d .rights) (d .stated) team (d .known) (d .values) (d .make) (d .asks) (d .learn)
+
+abbrev pub knownDesk : Desk → ℕ → ℕ → Desk
+knownDesk d known values = laid d (d .rights) (d .stated) (d .team) known values (d .make) (d .asks) (d .learn)
+
+abbrev pub makeDesk : Desk → List ℕ → Desk
+makeDesk d t = laid d (d .rights) (d .stated) (d .team) (d .known) (d .values) t (d .asks) (d .learn)
+
+unfoldable pub askedDesk : Desk → List ℕ → Desk
+askedDesk d t = laid d (d .rights) (d .stated) (d .team) (d .known) (d .values) (d .make) (d .asks + 1) (sets (d .learn) (16 * d .asks) t)
+
+-- what a line does, on the desk
+abbrev pub Steps : Step → Taken → Desk → Type 0
+Steps (fault x) (No why) d = number why ≡ x
+Steps (fault x) (Next due) d = ⊥
+Steps (next due sheet) (No why) d = ⊥
+Steps (next due sheet) (Next now) d = (now ≡ due) × Holds sheet d

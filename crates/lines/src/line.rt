@@ -1,0 +1,262 @@
+// Each line of a sheet, by what is due: the desk after it, or what is wrong with it.
+use crate::desk::Desk;
+use crate::desk::Due;
+use crate::desk::Fault;
+use crate::desk::SETTINGS_MOST;
+use crate::desk::Taken;
+use crate::desk::Turn;
+use crate::desk::put_table;
+use crate::rules::is_rule;
+use crate::rules::rule_line;
+use book::Right;
+use formula::Answer;
+use words::Marks;
+use words::Naming;
+use words::among;
+use words::begins;
+use words::marks_of;
+use words::peek;
+ghost use mathlib.Core.Path.{_≡_};
+ghost use Prim.Native.Nat.{_≤_, _<_};
+ghost use lib.ListN.{length};
+ghost use lib.Dec.{T};
+ghost use Rattle.lines.specs.Sheet.{Sheet};
+ghost use Rattle.lines.specs.Forms.{isSize, isKnown};
+ghost use Rattle.lines.specs.Reading.{sizeStep, rightsStep, teamStep, knownStep, makeStep, askStep, step, sized};
+ghost use Rattle.lines.specs.Desk.{Holds};
+ghost use Rattle.lines.specs.Inner.{Steps, askedDesk};
+
+// A desk on which only the size is stated.
+fn sized(settings: u8, posts: u8) -> Desk
+    requires { ⌜ (1 ≤ settings) × (settings ≤ 5) × (1 ≤ posts) × (posts ≤ 8) ⌝ }
+    ensures { λ r. ⌜ Holds (sized settings posts) r ⌝ }
+{
+    Desk {
+        settings,
+        posts,
+        rights: [0u8; 1280],
+        stated: [0u8; 80],
+        team: 0,
+        known: 0,
+        values: 0,
+        make: [0u8; 16],
+        asks: 0,
+        learn: [0u8; 64],
+    }
+}
+
+// Whether the line is `size N M`.
+fn is_size(line: &[u8]) -> bool
+    ensures { λ r. ⌜ r ≡ isSize (now (line .entry)) ⌝ }
+{
+    if !begins(b"size ", line) {
+        return false;
+    }
+    if line.len() != 8 {
+        return false;
+    }
+    if !among(b'1', 7, peek(line, 5)) {
+        return false;
+    }
+    if peek(line, 6) != b' ' {
+        return false;
+    }
+    among(b'1', 8, peek(line, 7))
+}
+
+// The first line.
+pub(crate) fn size_line(line: &[u8]) -> Turn
+    ensures { λ r. ⌜ Steps (sizeStep (now (line .entry))) (r .taken) (r .desk) ⌝ }
+{
+    if !is_size(line) {
+        return Turn {
+            taken: Taken::No(Fault::Malformed),
+            desk: sized(1, 1),
+        };
+    }
+    let settings = peek(line, 5) - b'0';
+    if SETTINGS_MOST < settings {
+        return Turn {
+            taken: Taken::No(Fault::Settings),
+            desk: sized(1, 1),
+        };
+    }
+    Turn {
+        taken: Taken::Next(Due::Rights),
+        desk: sized(settings, peek(line, 7) - b'0'),
+    }
+}
+
+// A line at fault.
+fn fault(why: Fault, desk: Desk) -> Turn
+    ensures { λ r. ⌜ r .taken ≡ Taken.No why ⌝ }
+{
+    Turn {
+        taken: Taken::No(why),
+        desk,
+    }
+}
+
+// What the line `team G ..` names, where it is one.
+fn team_names(m: u8, line: &[u8]) -> Naming
+    requires { ⌜ m ≤ 8 ⌝ }
+    ensures { λ r. ⌜ Names (isTeam m (now (line .entry))) 49 (postWords (now (line .entry))) r ⌝ }
+{
+    if !begins(b"team ", line) {
+        return Naming::No;
+    }
+    marks_of(false, b'1', m, &line[5..])
+}
+
+// The line `team G ..`.
+fn team_line(desk: Desk, line: &[u8]) -> Turn
+    requires { ⌜ ((sheet : Sheet) × Holds sheet desk) ⌝ }
+    ensures { λ r. ⌜ ((sheet : Sheet) → Holds sheet desk → Steps (teamStep sheet (now (line .entry))) (r .taken) (r .desk)) ⌝ }
+{
+    let naming = team_names(desk.posts, line);
+    match naming {
+        Naming::No => fault(Fault::Malformed, desk),
+        Naming::Of(marks) => {
+            if marks.twice {
+                return fault(Fault::Twice, desk);
+            }
+            let mut next = desk;
+            next.team = marks.named;
+            Turn {
+                taken: Taken::Next(Due::Known),
+                desk: next,
+            }
+        }
+    }
+}
+
+// What the line `known` names, with settings or alone, where it is one.
+fn known_names(n: u8, line: &[u8]) -> Naming
+    requires { ⌜ n ≤ 8 ⌝ }
+    ensures { λ r. ⌜ Names (isKnown n (now (line .entry))) 97 (settingWords (now (line .entry))) r ⌝ }
+{
+    if !begins(b"known", line) {
+        return Naming::No;
+    }
+    if line.len() == 5 {
+        return Naming::Of(Marks {
+            named: 0,
+            values: 0,
+            twice: false,
+        });
+    }
+    if peek(line, 5) != b' ' {
+        return Naming::No;
+    }
+    marks_of(true, b'a', n, &line[6..])
+}
+
+// The line `known`.
+fn known_line(desk: Desk, line: &[u8]) -> Turn
+    requires { ⌜ ((sheet : Sheet) × Holds sheet desk) ⌝ }
+    ensures { λ r. ⌜ ((sheet : Sheet) → Holds sheet desk → Steps (knownStep sheet (now (line .entry))) (r .taken) (r .desk)) ⌝ }
+{
+    let naming = known_names(desk.settings, line);
+    match naming {
+        Naming::No => fault(Fault::Malformed, desk),
+        Naming::Of(marks) => {
+            if marks.twice {
+                return fault(Fault::Twice, desk);
+            }
+            let mut next = desk;
+            next.known = marks.named;
+            next.values = marks.values;
+            Turn {
+                taken: Taken::Next(Due::Make),
+                desk: next,
+            }
+        }
+    }
+}
+
+// The line `make F`.
+fn make_line(desk: Desk, line: &[u8]) -> Turn
+    requires { ⌜ ((sheet : Sheet) × Holds sheet desk) ⌝ }
+    ensures { λ r. ⌜ ((sheet : Sheet) → Holds sheet desk → Steps (makeStep sheet (now (line .entry))) (r .taken) (r .desk)) ⌝ }
+{
+    if !begins(b"make ", line) {
+        return fault(Fault::Malformed, desk);
+    }
+    let reading = formula::read(desk.settings as usize, &line[5..]);
+    let answer = reading.answer;
+    let table = reading.table;
+    match answer {
+        Answer::Refused(why) => fault(Fault::Formula(why.number()), desk),
+        Answer::Accepted => {
+            let mut next = desk;
+            next.make = table;
+            Turn {
+                taken: Taken::Next(Due::Asks),
+                desk: next,
+            }
+        }
+    }
+}
+
+// The desk with one more formula to learn.
+fn asked(desk: Desk, table: &[u8; 16]) -> Desk
+    requires { ⌜ (length (now table) ≡ 16) × (desk .asks < 4) × (length (desk .learn) ≡ 64) ⌝ }
+    ensures { λ r. ⌜ r ≡ askedDesk desk (now (table .entry)) ⌝ }
+{
+    let mut next = desk;
+    let mut learn = desk.learn;
+    put_table(table, &mut learn, 16 * (desk.asks as usize));
+    next.learn = learn;
+    next.asks = desk.asks + 1;
+    next
+}
+
+// The line `ask F`.
+fn ask_line(desk: Desk, line: &[u8]) -> Turn
+    requires { ⌜ ((sheet : Sheet) × Holds sheet desk) ⌝ }
+    ensures { λ r. ⌜ ((sheet : Sheet) → Holds sheet desk → Steps (askStep sheet (now (line .entry))) (r .taken) (r .desk)) ⌝ }
+{
+    if !begins(b"ask ", line) {
+        return fault(Fault::Malformed, desk);
+    }
+    if 4 <= desk.asks {
+        return fault(Fault::Malformed, desk);
+    }
+    let reading = formula::read(desk.settings as usize, &line[4..]);
+    let answer = reading.answer;
+    let table = reading.table;
+    match answer {
+        Answer::Refused(why) => fault(Fault::Formula(why.number()), desk),
+        Answer::Accepted => Turn {
+            taken: Taken::Next(Due::Asks),
+            desk: asked(desk, &table),
+        },
+    }
+}
+
+// One more right, or the team.
+fn rights_line(desk: Desk, line: &[u8]) -> Turn
+    requires { ⌜ ((sheet : Sheet) × Holds sheet desk) ⌝ }
+    ensures { λ r. ⌜ ((sheet : Sheet) → Holds sheet desk → Steps (rightsStep sheet (now (line .entry))) (r .taken) (r .desk)) ⌝ }
+{
+    if is_rule(b"read ", desk.settings, desk.posts, line) {
+        return rule_line(desk, Right::Look, b"read ", line);
+    }
+    if is_rule(b"write ", desk.settings, desk.posts, line) {
+        return rule_line(desk, Right::Set, b"write ", line);
+    }
+    team_line(desk, line)
+}
+
+// Any line but the first.
+pub(crate) fn later_line(due: Due, desk: Desk, text: &[u8]) -> Turn
+    requires { ⌜ ((sheet : Sheet) × Holds sheet desk) ⌝ }
+    ensures { λ r. ⌜ ((sheet : Sheet) → Holds sheet desk → Steps (step due sheet (now (text .entry))) (r .taken) (r .desk)) ⌝ }
+{
+    match due {
+        Due::Rights => rights_line(desk, text),
+        Due::Known => known_line(desk, text),
+        Due::Make => make_line(desk, text),
+        Due::Asks => ask_line(desk, text),
+    }
+}

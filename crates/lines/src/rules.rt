@@ -1,0 +1,100 @@
+// The lines that state a right, `read P G F` and `write P G F`.
+use crate::desk::Desk;
+use crate::desk::Due;
+use crate::desk::Fault;
+use crate::desk::Taken;
+use crate::desk::Turn;
+use crate::desk::put_table;
+use book::Right;
+use formula::Answer;
+use words::among;
+use words::begins;
+use words::peek;
+ghost use mathlib.Core.Path.{_≡_};
+ghost use Prim.Native.Nat.{_<_, _+_};
+ghost use lib.Dec.{T};
+ghost use lib.ListN.{length};
+ghost use Rattle.lines.specs.Sheet.{Sheet};
+ghost use Rattle.lines.specs.Forms.{isRule, ruleOf};
+ghost use Rattle.lines.specs.Reading.{ruleStep};
+ghost use Rattle.lines.specs.Desk.{Holds, slotOf};
+ghost use Rattle.lines.specs.Inner.{Steps, ruledDesk};
+
+// Whether the line states a right, where `word` is its first word with the space after it.
+pub(crate) fn is_rule(word: &[u8], n: u8, m: u8, line: &[u8]) -> bool
+    requires { ⌜ length (now word) < 8 ⌝ }
+    ensures { λ r. ⌜ r ≡ isRule (now (word .entry)) n m (now (line .entry)) ⌝ }
+{
+    if !begins(word, line) {
+        return false;
+    }
+    let at = word.len();
+    if !among(b'a', n, peek(line, at)) {
+        return false;
+    }
+    if peek(line, at + 1) != b' ' {
+        return false;
+    }
+    if !among(b'1', m, peek(line, at + 2)) {
+        return false;
+    }
+    peek(line, at + 3) == b' '
+}
+
+// The place of a right among all: its table begins at 16 times that.
+fn slot_of(right: Right, setting: u8, post: u8) -> usize
+    ensures { λ r. ⌜ r ≡ slotOf right setting post ⌝ }
+{
+    let look = 16 * (setting as usize) + 2 * (post as usize);
+    match right {
+        Right::Look => look,
+        Right::Set => look + 1,
+    }
+}
+
+// The desk with one right more.
+fn ruled(desk: Desk, slot: usize, table: &[u8; 16]) -> Desk
+    requires { ⌜ (length (now table) ≡ 16) × (slot < 80) × (length (desk .rights) ≡ 1280) × (length (desk .stated) ≡ 80) ⌝ }
+    ensures { λ r. ⌜ r ≡ ruledDesk desk slot (now (table .entry)) ⌝ }
+{
+    let mut next = desk;
+    let mut rights = desk.rights;
+    put_table(table, &mut rights, 16 * slot);
+    next.rights = rights;
+    let mut stated = desk.stated;
+    stated[slot] = 1;
+    next.stated = stated;
+    next
+}
+
+// A line that states a right.
+pub(crate) fn rule_line(desk: Desk, right: Right, word: &[u8], line: &[u8]) -> Turn
+    requires { ⌜ ((sheet : Sheet) × Holds sheet desk) × (length (now word) < 8) × T (isRule (now word) (desk .settings) (desk .posts) (now line)) ⌝ }
+    ensures { λ r. ⌜ ((sheet : Sheet) → Holds sheet desk → Steps (ruleStep sheet (ruleOf (now (word .entry)) right (now (line .entry)))) (r .taken) (r .desk)) ⌝ }
+{
+    let at = word.len();
+    let setting = peek(line, at) - b'a';
+    let post = peek(line, at + 2) - b'1';
+    let slot = slot_of(right, setting, post);
+    let stated = desk.stated;
+    if stated[slot] != 0 {
+        return Turn {
+            taken: Taken::No(Fault::Twice),
+            desk,
+        };
+    }
+    let from = at + 4;
+    let reading = formula::read(desk.settings as usize, &line[from..]);
+    let answer = reading.answer;
+    let table = reading.table;
+    match answer {
+        Answer::Refused(why) => Turn {
+            taken: Taken::No(Fault::Formula(why.number())),
+            desk,
+        },
+        Answer::Accepted => Turn {
+            taken: Taken::Next(Due::Rights),
+            desk: ruled(desk, slot, &table),
+        },
+    }
+}
