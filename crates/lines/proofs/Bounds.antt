@@ -3,21 +3,22 @@
 use mathlib.Core.Path.{sym, subst}
 use mathlib.Core.Logic.{inl, inr}
 use mathlib.Core.List.{List, [], _∷_}
-use mathlib.Core.Bool.{Bool, true, false, not, _&&_, cond}
+use mathlib.Core.Bool.{Bool, true, false, not, _&&_}
 use Prim.Native.Nat.{ℕ, zero, suc, _+_, _≤_}
 use native.Mathlib.Omega.{arith}
-use lib.Dec.{T, eqb, leb, ltb, leb→le, nltb→le}
+use lib.Dec.{T, leb, ltb, leb→le, nltb→le}
 use lib.ListN.{length, drop}
 use Rattle.ground.specs.Text.{bytes}
 use Rattle.ground.proofs.Bools.{decide, T→true, T→false}
 use Rattle.formula.specs.Numbered.{formulaNumber}
 use Rattle.book.specs.declared.rule.Right.the-variants.{Look, Set}
 use Rattle.lines.specs.Sheet.{Rule, Sheet, isStated, knownSettings}
-use Rattle.words.specs.Words.{onto, split, newline, begins, twice}
+use Rattle.words.specs.Words.{split, newline, begins, twice}
 use Rattle.lines.specs.Forms.{isSize, digitAt, isRule, ruleOf, isTeam, teamOf, isKnown, knownOf}
 use Rattle.lines.specs.Reading.{Step, fault, next, unless, unlessNumbered, unlessRefused, sized, withRule, withTeam, withKnown, withMake, withAsk, sizeStep, ruleStep, teamStep, knownStep, makeStep, askStep, oneOf, rightsStep, step, Outcome, refused, stated, ending, lines, firstLine, meaning}
 use Rattle.lines.specs.declared.desk.Due.{Due}
 use Rattle.lines.specs.declared.desk.Due.the-variants.{Rights, Known, Make, Asks}
+use Rattle.words.proofs.Split.{split-length}
 use Rattle.lines.proofs.LineByLine.{after, lines-after, first-after}
 use Rattle.lines.proofs.Grammar.{number-small}
 
@@ -127,24 +128,10 @@ small-first (line ∷ another ∷ more) =
 
 -- ---- the sheet
 
-onto-length : (c : ℕ) (pieces : List (List ℕ)) → length (onto c pieces) ≤ suc (length pieces)
-unfolding onto
-onto-length c [] = omega arith
-onto-length c (piece ∷ pieces) = omega arith
-
-split-length : (s : List ℕ) → length (split newline s) ≤ suc (length s)
-unfolding split
-split-length [] = omega arith
-split-length (c ∷ s) = by-mark (eqb c newline) (split-length s)
-  where
-    by-mark : (b : Bool) → length (split newline s) ≤ suc (length s) → length (cond b ([] ∷ split newline s) (onto c (split newline s))) ≤ suc (suc (length s))
-    by-mark true l = omega arith
-    by-mark false l = omega (arith, onto-length c (split newline s))
-
 pub small-meaning : (s : List ℕ) → Small 32770 (meaning s)
 unfolding meaning
 small-meaning s = elim (decide (ltb 32768 (length s))) [
   | inl t ↦ rw (T→true (ltb 32768 (length s)) t) (omega arith, omega arith)
   | inr t ↦ rw (T→false (ltb 32768 (length s)) t)
-      (small-later (firstLine (split newline s)) (1 + length (split newline s)) 32770 (omega (arith, nltb→le 32768 (length s) t, split-length s)) (small-first (split newline s)))
+      (small-later (firstLine (split newline s)) (1 + length (split newline s)) 32770 (omega (arith, nltb→le 32768 (length s) t, split-length newline s)) (small-first (split newline s)))
 ]

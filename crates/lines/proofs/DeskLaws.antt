@@ -26,7 +26,7 @@ use Rattle.lines.specs.declared.desk.Desk.{Desk}
 
 -- ---- one right more
 
-getD-sets-other : (l : List ℕ) (i : ℕ) (vs : List ℕ) (j : ℕ) → (j < i) ⊎ (i + length vs ≤ j) → getD (sets l i vs) j 0 ≡ getD l j 0
+pub getD-sets-other : (l : List ℕ) (i : ℕ) (vs : List ℕ) (j : ℕ) → (j < i) ⊎ (i + length vs ≤ j) → getD (sets l i vs) j 0 ≡ getD l j 0
 getD-sets-other l i [] j h = refl
 getD-sets-other l i (v ∷ vs) j (inl h) = getD-sets-other (set l i v) (suc i) vs j (inl (omega arith)) ∙ getD-set-other l i j v 0 (λ e. omega arith)
 getD-sets-other l i (v ∷ vs) j (inr h) = getD-sets-other (set l i v) (suc i) vs j (inr (omega arith)) ∙ getD-set-other l i j v 0 (λ e. omega arith)
@@ -180,4 +180,5 @@ module _ (sheet : Sheet) (d : Desk) (h : Holds sheet d) (r : Rule) (t : List ℕ
     asks-most = h .asks-most;
     learn-size = h .learn-size;
     learn = h .learn;
+    learn-rest = h .learn-rest;
   }

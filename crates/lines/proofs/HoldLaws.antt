@@ -88,4 +88,5 @@ sized-holds n m h k l o = record {
   asks-most = omega arith;
   learn-size = length-replicate {A = ℕ} 64 0;
   learn = refl;
+  learn-rest = λ j l. zero-at 64 j;
 }

@@ -1,10 +1,11 @@
 -- The desk after the lines `team`, `known`, `make` and `ask`: each changes its own part.
 use mathlib.Core.Path.{_≡_, refl, sym, ap, _∙_, subst}
+use mathlib.Core.Logic.{inr}
 use mathlib.Core.Bool.{Bool, true, false, not, cond}
 use mathlib.Core.List.{List, [], _∷_, _++_, append-nil, append-assoc}
 use Prim.Native.Nat.{ℕ, _+_, _*_, _≤_, _<_}
 use native.Mathlib.Omega.{arith}
-use lib.ListN.{length, take, drop, length-append}
+use lib.ListN.{length, getD, take, drop, length-append}
 use lib.Seq.{sets, sets-eq, length-sets, length-take-le, take-at}
 use Rattle.ground.specs.Digits.{bit}
 use Rattle.formula.specs.Read.{Accepts}
@@ -15,6 +16,7 @@ use Rattle.lines.specs.Reading.{stating, withTeam, withKnown, withMake, 
 use Rattle.lines.specs.Desk.{TablesOf, Holds}
 use Rattle.lines.specs.Inner.{laid, teamDesk, knownDesk, makeDesk, askedDesk}
 use Rattle.lines.specs.declared.desk.Desk.{Desk}
+use Rattle.lines.proofs.DeskLaws.{getD-sets-other}
 
 -- the words of `known` as they are marked, and as they are read
 pub known-settings : (ws : List (List ℕ)) → knownSettings (knownBy ws) ≡ indexes 97 ws
@@ -41,9 +43,9 @@ module _ (sheet : Sheet) (d : Desk) (h : Holds sheet d) where
   holds-goal : (team : List ℕ) (mask : ℕ) → ((q : ℕ) → bit mask q ≡ member q team)
       → (known : List Known) (is-known values : ℕ) → ((i : ℕ) → bit is-known i ≡ member i (knownSettings known)) → ((i : ℕ) → bit values i ≡ member i (knownTrue known))
       → (make t : List ℕ) → Accepts (d .settings) make t
-      → (asks : List (List ℕ)) (count : ℕ) (learn : List ℕ) → count ≡ length asks → count ≤ 4 → length learn ≡ 64 → TablesOf (d .settings) asks (take (16 * count) learn)
+      → (asks : List (List ℕ)) (count : ℕ) (learn : List ℕ) → count ≡ length asks → count ≤ 4 → length learn ≡ 64 → TablesOf (d .settings) asks (take (16 * count) learn) → ((j : ℕ) → 16 * count ≤ j → getD learn j 0 ≡ 0)
       → Holds (stating sheet (sheet .rules) team known make asks) (laid d (d .rights) (d .stated) mask is-known values t count learn)
-  holds-goal team mask m known is-known values k v make t a asks count learn c few size l = record {
+  holds-goal team mask m known is-known values k v make t a asks count learn c few size l z = record {
     settings = h .settings;
     posts = h .posts;
     settings-least = h .settings-least;
@@ -61,23 +63,24 @@ module _ (sheet : Sheet) (d : Desk) (h : Holds sheet d) where
     asks-most = few;
     learn-size = size;
     learn = l;
+    learn-rest = z;
   }
 
   pub holds-team : (line : List ℕ) (mask : ℕ) → ((q : ℕ) → bit mask q ≡ member q (teamOf line)) → Holds (withTeam sheet line) (teamDesk d mask)
   unfolding withTeam
   holds-team line mask m =
-      holds-goal (teamOf line) mask m (sheet .known) (d .known) (d .values) (h .known) (h .values) (sheet .make) (d .make) (h .make) (sheet .asks) (d .asks) (d .learn) (h .asks) (h .asks-most) (h .learn-size) (h .learn)
+      holds-goal (teamOf line) mask m (sheet .known) (d .known) (d .values) (h .known) (h .values) (sheet .make) (d .make) (h .make) (sheet .asks) (d .asks) (d .learn) (h .asks) (h .asks-most) (h .learn-size) (h .learn) (h .learn-rest)
 
   pub holds-known : (line : List ℕ) (mask values : ℕ) → ((i : ℕ) → bit mask i ≡ member i (knownSettings (knownOf line))) → ((i : ℕ) → bit values i ≡ member i (knownTrue (knownOf line)))
       → Holds (withKnown sheet line) (knownDesk d mask values)
   unfolding withKnown
   holds-known line mask values m v =
-      holds-goal (sheet .team) (d .team) (h .team) (knownOf line) mask values m v (sheet .make) (d .make) (h .make) (sheet .asks) (d .asks) (d .learn) (h .asks) (h .asks-most) (h .learn-size) (h .learn)
+      holds-goal (sheet .team) (d .team) (h .team) (knownOf line) mask values m v (sheet .make) (d .make) (h .make) (sheet .asks) (d .asks) (d .learn) (h .asks) (h .asks-most) (h .learn-size) (h .learn) (h .learn-rest)
 
   pub holds-make : (F t : List ℕ) → Accepts (d .settings) F t → Holds (withMake sheet F) (makeDesk d t)
   unfolding withMake
   holds-make F t a =
-      holds-goal (sheet .team) (d .team) (h .team) (sheet .known) (d .known) (d .values) (h .known) (h .values) F t a (sheet .asks) (d .asks) (d .learn) (h .asks) (h .asks-most) (h .learn-size) (h .learn)
+      holds-goal (sheet .team) (d .team) (h .team) (sheet .known) (d .known) (d .values) (h .known) (h .values) F t a (sheet .asks) (d .asks) (d .learn) (h .asks) (h .asks-most) (h .learn-size) (h .learn) (h .learn-rest)
 
   module _ (F t : List ℕ) (few : d .asks < 4) (sixteen : length t ≡ 16) (a : Accepts (d .settings) F t) where
     learn-more : take (16 * (d .asks + 1)) (sets (d .learn) (16 * d .asks) t) ≡ take (16 * d .asks) (d .learn) ++ t
@@ -94,3 +97,4 @@ module _ (sheet : Sheet) (d : Desk) (h : Holds sheet d) where
         (omega arith)
         (length-sets (d .learn) (16 * d .asks) t ∙ h .learn-size)
         (subst (TablesOf (d .settings) (sheet .asks ++ (F ∷ []))) (sym learn-more) (tables-snoc (d .settings) (sheet .asks) F (take (16 * d .asks) (d .learn)) t (h .learn) a))
+        (λ j l. getD-sets-other (d .learn) (16 * d .asks) t j (inr (omega (arith, sixteen))) ∙ h .learn-rest j (omega arith))

@@ -4,14 +4,15 @@ use mathlib.Core.Bool.{Bool, true, false, cond}
 use mathlib.Core.List.{List, [], _∷_}
 use Prim.Native.Nat.{ℕ, suc, _-_, _≤_, _<_}
 use native.Mathlib.Omega.{arith}
-use lib.Dec.{eqb}
 use lib.ListN.{length, take, drop}
 use borrow.Author.Tests.{lt-ltb, le-ltb}
 use Rattle.lines.specs.Sheet.{Sheet}
-use Rattle.words.specs.Words.{newline, onto, split}
-use Rattle.lines.specs.Reading.{Step, fault, next, sizeStep, step, Outcome, refused, stated, ending, lines, firstLine, meaning}
-use Rattle.lines.specs.Desk.{number, Holds, Reads}
+use Rattle.words.specs.Words.{newline, split}
+use Rattle.lines.specs.Reading.{Step, fault, next, sized, sizeStep, step, Outcome, refused, stated, ending, lines, firstLine, meaning}
+use Rattle.lines.specs.Desk.{number, Proper, Holds, Reads}
+use Rattle.words.proofs.Split.{some-piece}
 use Rattle.words.proofs.Pieces.{part, PieceEnd}
+use Rattle.lines.proofs.LineByLine.{after, lines-after, first-after}
 use Rattle.lines.specs.Inner.{Steps}
 use Rattle.lines.specs.declared.desk.Due.{Due}
 use Rattle.lines.specs.declared.desk.Due.the-variants.{Rights, Known, Make, Asks}
@@ -24,58 +25,34 @@ use Rattle.lines.specs.declared.Told.the-variants.{Refused}
 
 -- ---- a turn tells the step
 
-pub faulted : (st : Step) (why : Fault) (d : Desk) → Steps st (No why) d → st ≡ fault (number why)
-faulted (fault x) why d e = ap fault (sym e)
+faulted : (st : Step) (why : Fault) (d : Desk) → Steps st (No why) d → (st ≡ fault (number why)) × Proper why
+faulted (fault x) why d (e, p) = (ap fault (sym e), p)
 faulted (next due sheet) why d e = absurd e
 
-pub went-on : (st : Step) (due : Due) (d : Desk) → Steps st (Next due) d → (sheet : Sheet) × (st ≡ next due sheet) × Holds sheet d
+went-on : (st : Step) (due : Due) (d : Desk) → Steps st (Next due) d → (sheet : Sheet) × (st ≡ next due sheet) × Holds sheet d
 went-on (fault x) due d e = absurd e
 went-on (next now sheet) due d (e, h) = (sheet, ap (λ (x : Due). next x sheet) (sym e), h)
 
 -- the same, where the turn's answer is known by an equation
-pub faulted-by : (st : Step) {t : Taken} (d : Desk) {why : Fault} → t ≡ No why → Steps st t d → st ≡ fault (number why)
+pub faulted-by : (st : Step) {t : Taken} (d : Desk) {why : Fault} → t ≡ No why → Steps st t d → (st ≡ fault (number why)) × Proper why
 faulted-by st {t} d {why} e s = faulted st why d (subst (λ (x : Taken). Steps st x d) e s)
 
 pub went-on-by : (st : Step) {t : Taken} (d : Desk) {due : Due} → t ≡ Next due → Steps st t d → (sheet : Sheet) × (st ≡ next due sheet) × Holds sheet d
 went-on-by st {t} d {due} e s = went-on st due d (subst (λ (x : Taken). Steps st x d) e s)
 
 -- a sheet that is refused
-pub refused-is : {o : Outcome} {t : Told} (d : Desk) (why : Fault) (line : ℕ) → o ≡ refused (number why) line → t ≡ Refused why line → Reads o t d
-refused-is {o} {t} d why line e f = subst (λ (x : Outcome). Reads x t d) (sym e) (subst (λ (x : Told). Reads (refused (number why) line) x d) (sym f) (refl, refl))
+pub refused-is : {o : Outcome} {t : Told} (d : Desk) (why : Fault) (line : ℕ) → Proper why → o ≡ refused (number why) line → (t ≡ Refused why line) × Holds (sized 1 1) d → Reads o t d
+refused-is {o} {t} d why line p e (f, h) = subst (λ (x : Outcome). Reads x t d) (sym e) (subst (λ (x : Told). Reads (refused (number why) line) x d) (sym f) (refl, p, refl, h))
 
 -- ---- line by line
 
--- there is always a piece
-first-piece : (mark c : ℕ) (b : Bool) (p : List ℕ) (ps : List (List ℕ)) → (q : List ℕ) × (qs : List (List ℕ)) × (cond b ([] ∷ p ∷ ps) (onto c (p ∷ ps)) ≡ q ∷ qs)
-unfolding onto
-first-piece mark c true p ps = ([], p ∷ ps, refl)
-first-piece mark c false p ps = (c ∷ p, ps, refl)
+-- what a line does to the lines from it on
+line-on : (L : ℕ) (due : Due) (sheet : Sheet) (line s : List ℕ) → lines L due sheet (line ∷ split newline s) ≡ after L (split newline s) (step due sheet line)
+line-on L due sheet line s = some-piece newline (λ q. lines L due sheet (line ∷ q) ≡ after L q (step due sheet line)) (lines-after L due sheet line) s
 
-some-piece : (mark : ℕ) (s : List ℕ) → (p : List ℕ) × (ps : List (List ℕ)) × (split mark s ≡ p ∷ ps)
-unfolding split
-some-piece mark [] = ([], [], refl)
-some-piece mark (c ∷ s) =
-    let r = some-piece mark s in let z = first-piece mark c (eqb c mark) (r .0) (r .1) in
-    (z .0, z .1, ap (λ (w : List (List ℕ)). cond (eqb c mark) ([] ∷ w) (onto c w)) (r .2) ∙ z .2)
-
--- what a line does to the lines from it on, and the size to the whole
-module _ (L : ℕ) (due : Due) (sheet : Sheet) (line s : List ℕ) where
-  line-on : lines L due sheet (line ∷ split newline s) ≡ elim (step due sheet line) [ fault x ↦ refused x L | next d v ↦ lines (suc L) d v (split newline s) ]
-  unfolding lines
-  line-on = let r = some-piece newline s in
-      ap (λ (w : List (List ℕ)). lines L due sheet (line ∷ w)) (r .2) ∙ ap (λ (w : List (List ℕ)). elim (step due sheet line) [ fault x ↦ refused x L | next d v ↦ lines (suc L) d v w ]) (sym (r .2))
-
-  line-fault : {x : ℕ} → step due sheet line ≡ fault x → lines L due sheet (line ∷ split newline s) ≡ refused x L
-  line-fault e = line-on ∙ ap (λ (st : Step). elim st [ fault x ↦ refused x L | next d v ↦ lines (suc L) d v (split newline s) ]) e
-
-  line-next : {d : Due} {v : Sheet} → step due sheet line ≡ next d v → lines L due sheet (line ∷ split newline s) ≡ lines (suc L) d v (split newline s)
-  line-next e = line-on ∙ ap (λ (st : Step). elim st [ fault x ↦ refused x L | next d v ↦ lines (suc L) d v (split newline s) ]) e
-
-module _ (line s : List ℕ) where
-  size-on : firstLine (line ∷ split newline s) ≡ elim (sizeStep line) [ fault x ↦ refused x 1 | next d v ↦ lines 2 d v (split newline s) ]
-  unfolding firstLine
-  size-on = let r = some-piece newline s in
-      ap (λ (w : List (List ℕ)). firstLine (line ∷ w)) (r .2) ∙ ap (λ (w : List (List ℕ)). elim (sizeStep line) [ fault x ↦ refused x 1 | next d v ↦ lines 2 d v w ]) (sym (r .2))
+-- and the size to the whole
+size-on : (line s : List ℕ) → firstLine (line ∷ split newline s) ≡ after 1 (split newline s) (sizeStep line)
+size-on line s = some-piece newline (λ q. firstLine (line ∷ q) ≡ after 1 q (sizeStep line)) (first-after line) s
 
 -- ---- the lines after the first, from a place on
 
@@ -85,10 +62,10 @@ module _ (s : List ℕ) (at r L : ℕ) (due : Due) (sheet : Sheet) (p : PieceEnd
   rest-ends h = ap (lines L due sheet) (p .last h)
 
   pub rest-faults : {x : ℕ} → r < length s → step due sheet (part s at r) ≡ fault x → lines L due sheet (split newline (drop at s)) ≡ refused x L
-  rest-faults h e = ap (lines L due sheet) (p .more h) ∙ line-fault L due sheet (part s at r) (drop (suc r) s) e
+  rest-faults h e = ap (lines L due sheet) (p .more h) ∙ line-on L due sheet (part s at r) (drop (suc r) s) ∙ ap (after L (split newline (drop (suc r) s))) e
 
   pub rest-goes-on : {d : Due} {v : Sheet} → r < length s → step due sheet (part s at r) ≡ next d v → lines L due sheet (split newline (drop at s)) ≡ lines (suc L) d v (split newline (drop (suc r) s))
-  rest-goes-on h e = ap (lines L due sheet) (p .more h) ∙ line-next L due sheet (part s at r) (drop (suc r) s) e
+  rest-goes-on h e = ap (lines L due sheet) (p .more h) ∙ line-on L due sheet (part s at r) (drop (suc r) s) ∙ ap (after L (split newline (drop (suc r) s))) e
 
 -- ---- the whole
 
@@ -109,14 +86,14 @@ module _ (s : List ℕ) where
     front : part s 0 r ≡ take r s
     front = ap (λ (k : ℕ). take k s) {x = r - 0} {y = r} (omega arith)
 
-    sized-line : r < length s → meaning s ≡ elim (sizeStep (take r s)) [ fault x ↦ refused x 1 | next d v ↦ lines 2 d v (split newline (drop (suc r) s)) ]
+    sized-line : r < length s → meaning s ≡ after 1 (split newline (drop (suc r) s)) (sizeStep (take r s))
     sized-line l = first-line h ∙ ap firstLine (p .more l ∙ ap (λ (t : List ℕ). t ∷ split newline (drop (suc r) s)) front) ∙ size-on (take r s) (drop (suc r) s)
 
     pub size-faults : {x : ℕ} → r < length s → sizeStep (take r s) ≡ fault x → meaning s ≡ refused x 1
-    size-faults l e = sized-line l ∙ ap (λ (st : Step). elim st [ fault x ↦ refused x 1 | next d v ↦ lines 2 d v (split newline (drop (suc r) s)) ]) e
+    size-faults l e = sized-line l ∙ ap (after 1 (split newline (drop (suc r) s))) e
 
     pub size-goes-on : {d : Due} {v : Sheet} → r < length s → sizeStep (take r s) ≡ next d v → meaning s ≡ lines 2 d v (split newline (drop (suc r) s))
-    size-goes-on l e = sized-line l ∙ ap (λ (st : Step). elim st [ fault x ↦ refused x 1 | next d v ↦ lines 2 d v (split newline (drop (suc r) s)) ]) e
+    size-goes-on l e = sized-line l ∙ ap (after 1 (split newline (drop (suc r) s))) e
 
 -- the piece after the last byte 10
 pub ended : (due : Due) (sheet : Sheet) (rest : List ℕ) (L : ℕ) → (due ≡ Asks → ⊥) → ending due sheet rest L ≡ refused 22 L

@@ -1,28 +1,26 @@
 -- Each way out of a line's function: what its tests found is what the step does.
 use mathlib.Core.Path.{_≡_, refl, sym, ap, ap₂, _∙_, subst}
-use mathlib.Core.Logic.{inl, inr}
-use mathlib.Core.Bool.{Bool, true, false, _&&_, _||_, cond}
+use mathlib.Core.Bool.{Bool, true, false, not, _&&_, _||_, cond}
 use mathlib.Core.List.{List, []}
 use Prim.Native.Nat.{ℕ, _-_, _≤_, _<_}
 use native.Mathlib.Omega.{arith}
-use lib.Dec.{T, eqb}
+use lib.Dec.{eqb}
 use lib.ListN.{length, getD, take, drop}
 use borrow.Author.Tests.{eq-eqb, ne-eqb, lt-ltb, le-ltb}
 use Rattle.ground.specs.Text.{bytes}
-use Rattle.ground.proofs.Bools.{true→T, T→true, and-left, and-right, lt-or-ge}
-use Rattle.ground.proofs.Bits.{bit-of-zero}
 use Rattle.formula.specs.Read.{number as formula-number, Reads, Accepts}
 use Rattle.formula.specs.declared.Refusal.{Refusal}
+use Rattle.formula.specs.declared.Refusal.the-variants.{Length, StrayByte, LetterPast, NotSentence, Settings}
 use Rattle.formula.specs.declared.Answer.{Answer}
 use Rattle.formula.specs.declared.Answer.the-variants.{Accepted, Refused}
 use Rattle.book.specs.declared.rule.Right.the-variants.{Look, Set}
-use Rattle.lines.specs.Sheet.{Sheet, knownSettings, knownTrue}
-use Rattle.words.specs.Words.{member, split, space, begins, allNames, indexes, twice, trueIndexes}
-use Rattle.lines.specs.Forms.{isRule, ruleOf, postWords, isTeam, teamOf, settingWords, isKnown, knownBy, knownOf}
-use Rattle.lines.specs.Reading.{Step, fault, next, unlessRefused, withAsk, ruleStep, teamStep, knownStep, makeStep, askStep, oneOf, rightsStep}
-use Rattle.lines.specs.Desk.{number, Holds}
+use Rattle.lines.specs.Sheet.{Sheet, knownSettings}
+use Rattle.words.specs.Words.{member, split, space, begins, allNames, indexes, twice}
+use Rattle.lines.specs.Forms.{isRule, ruleOf, postWords, isTeam, teamOf, settingWords, isKnown, knownOf}
+use Rattle.lines.specs.Reading.{Step, fault, next, unless, unlessRefused, withTeam, withKnown, withAsk, ruleStep, teamStep, knownStep, makeStep, askStep, oneOf, rightsStep}
+use Rattle.lines.specs.Desk.{number, Proper, Holds}
 use Rattle.lines.specs.Inner.{teamDesk, knownDesk, makeDesk, askedDesk, Steps}
-use Rattle.words.specs.Marks.{Marked}
+use Rattle.words.specs.Marks.{Marked, Names, areNames}
 use Rattle.lines.specs.declared.desk.Due.{Due}
 use Rattle.lines.specs.declared.desk.Due.the-variants.{Known, Make, Asks}
 use Rattle.lines.specs.declared.desk.Desk.{Desk}
@@ -30,14 +28,24 @@ use Rattle.lines.specs.declared.desk.Fault.{Fault}
 use Rattle.lines.specs.declared.desk.Taken.{Taken}
 use Rattle.lines.specs.declared.desk.Taken.the-variants.{Next, No}
 use Rattle.words.specs.declared.names.Marks.{Marks}
+use Rattle.words.specs.declared.names.Naming.{Naming}
+use Rattle.words.specs.declared.names.Naming.the-variants.{Stray, Of}
 use Rattle.words.proofs.Pieces.{tail}
-use Rattle.words.proofs.Fronts.{begins-length}
+use Rattle.words.proofs.NameLaws.{few-enough, names-stray, names-of, stray-names, of-names, marked-none}
 use Rattle.lines.proofs.StepLaws.{refused-step, accepted-step, team-by, known-by, make-by, ask-by, rights-by}
 use Rattle.lines.proofs.LineLaws.{known-settings, known-true, holds-team, holds-known, holds-make, holds-ask}
 
 -- a line at fault
-pub at-fault : {st : Step} {t : Taken} (why : Fault) (d : Desk) → st ≡ fault (number why) → t ≡ No why → Steps st t d
-at-fault {st} {t} why d e f = subst (λ (s : Step). Steps s t d) (sym e) (subst (λ (x : Taken). Steps (fault (number why)) x d) (sym f) refl)
+pub at-fault : {st : Step} {t : Taken} (why : Fault) (d : Desk) → Proper why → st ≡ fault (number why) → t ≡ No why → Steps st t d
+at-fault {st} {t} why d p e f = subst (λ (s : Step). Steps s t d) (sym e) (subst (λ (x : Taken). Steps (fault (number why)) x d) (sym f) (refl, p))
+
+-- its formula's number, which is one of five
+pub formula-most : (why : Refusal) {x : ℕ} → x ≡ formula-number why → x ≤ 5
+formula-most Length e = omega arith
+formula-most (StrayByte i) e = omega arith
+formula-most (LetterPast i) e = omega arith
+formula-most (NotSentence i) e = omega arith
+formula-most Settings e = omega arith
 
 -- a line that is taken
 pub taken : {st : Step} {due : Due} {sheet : Sheet} {d : Desk} → st ≡ next due sheet → Holds sheet d → Steps st (Next due) d
@@ -45,111 +53,106 @@ taken {st} {due} {sheet} {d} e h = subst (λ (s : Step). Steps s (Next due) d) (
 
 -- ---- `team`
 
-module _ (sheet : Sheet) (d : Desk) (h : Holds sheet d) (line : List ℕ) where
-  team-words : split space (take (length line - 5) (drop 5 line)) ≡ postWords line
-  unfolding postWords
-  team-words = ap (split space) (tail line 5)
-
-  is-team : (a b : Bool) → begins (bytes "team ") line ≡ a → allNames false 49 (d .posts) (split space (take (length line - 5) (drop 5 line))) ≡ b → isTeam (sheet .posts) line ≡ (a && b)
+module _ (line : List ℕ) (m : ℕ) where
+  pub team-other : begins (bytes "team ") line ≡ false → Names (isTeam m line) 49 (postWords line) Stray
   unfolding isTeam
-  is-team a b p q = ap₂ _&&_ p (ap₂ (allNames false 49) (sym (h .posts)) (sym team-words) ∙ q)
+  team-other e = names-stray (isTeam m line) 49 (postWords line) (ap (λ (b : Bool). b && allNames false 49 m (postWords line)) e)
 
-  pub team-other : begins (bytes "team ") line ≡ false → teamStep sheet line ≡ fault 22
-  team-other e = team-by sheet line false _ (is-team false _ e refl) refl
+  pub team-names : begins (bytes "team ") line ≡ true → m ≤ 8
+      → (r : Naming) → Names (areNames false 49 m (split space (take (length line - 5) (drop 5 line)))) 49 (split space (take (length line - 5) (drop 5 line))) r → Names (isTeam m line) 49 (postWords line) r
+  unfolding isTeam postWords
+  team-names e few r n =
+      subst (λ (b : Bool). Names b 49 (postWords line) r) (few-enough false 49 m (postWords line) few ∙ ap (λ (b : Bool). b && allNames false 49 m (postWords line)) (sym e))
+      (subst (λ (s : List ℕ). Names (areNames false 49 m (split space s)) 49 (split space s) r) (tail line 5) n)
 
-  pub team-malformed : begins (bytes "team ") line ≡ true → allNames false 49 (d .posts) (split space (take (length line - 5) (drop 5 line))) ≡ false → teamStep sheet line ≡ fault 22
-  team-malformed e f = team-by sheet line false _ (is-team true false e f) refl
+module _ (sheet : Sheet) (d : Desk) (h : Holds sheet d) (line : List ℕ) (r : Naming) (n : Names (isTeam (d .posts) line) 49 (postWords line) r) where
+  team-test : (a : Bool) → isTeam (d .posts) line ≡ a → isTeam (sheet .posts) line ≡ a
+  team-test a e = ap (λ (m : ℕ). isTeam m line) (sym (h .posts)) ∙ e
 
-  module _ (e : begins (bytes "team ") line ≡ true) (f : allNames false 49 (d .posts) (split space (take (length line - 5) (drop 5 line))) ≡ true) (marks : Marks)
-      (k : Marked 49 (split space (take (length line - 5) (drop 5 line))) marks) where
-    named : teamOf line ≡ indexes 49 (split space (take (length line - 5) (drop 5 line)))
+  pub team-malformed : r ≡ Stray → teamStep sheet line ≡ fault 22
+  team-malformed e = team-by sheet line false _ (team-test false (stray-names (isTeam (d .posts) line) 49 (postWords line) r n e)) refl
+
+  module _ (marks : Marks) (e : r ≡ Of marks) where
+    team-marks : (isTeam (d .posts) line ≡ true) × Marked 49 (postWords line) marks
+    team-marks = of-names (isTeam (d .posts) line) 49 (postWords line) r n e
+
+    team-step : (t : Bool) → marks .twice ≡ t → teamStep sheet line ≡ unless true 22 (unless (not t) 23 (next Known (withTeam sheet line)))
     unfolding teamOf
-    named = ap (indexes 49) (sym team-words)
-
-    again : twice (λ i. false) (teamOf line) ≡ marks .twice
-    again = ap (twice (λ i. false)) named ∙ sym (k .again)
+    team-step t f = team-by sheet line true t (team-test true (team-marks .0)) (sym (team-marks .1 .again) ∙ f)
 
     pub team-twice : marks .twice ≡ true → teamStep sheet line ≡ fault 23
-    team-twice t = team-by sheet line true true (is-team true true e f) (again ∙ t)
+    team-twice f = team-step true f
 
-    pub team-taken : marks .twice ≡ false
-        → Steps (teamStep sheet line) (Next Known) (teamDesk d (marks .named))
-    team-taken t = taken (team-by sheet line true false (is-team true true e f) (again ∙ t)) (holds-team sheet d h line (marks .named) (λ q. k .named q ∙ ap (member q) (sym named)))
+    pub team-taken : marks .twice ≡ false → Steps (teamStep sheet line) (Next Known) (teamDesk d (marks .named))
+    unfolding teamOf
+    team-taken f = taken (team-step false f) (holds-team sheet d h line (marks .named) (team-marks .1 .named))
 
 -- ---- `known`
 
-module _ (line : List ℕ) where
+module _ (line : List ℕ) (n : ℕ) where
   -- alone, and with settings
-  pub words-none : length line ≡ 5 → settingWords line ≡ []
+  words-none : length line ≡ 5 → settingWords line ≡ []
   unfolding settingWords
   words-none e = ap (λ (b : Bool). cond b [] (split space (drop 6 line))) (eq-eqb (length line) 5 e)
 
-  pub words-some : (length line ≡ 5 → ⊥) → settingWords line ≡ split space (take (length line - 6) (drop 6 line))
+  words-some : (length line ≡ 5 → ⊥) → settingWords line ≡ split space (take (length line - 6) (drop 6 line))
   unfolding settingWords
   words-some e = ap (λ (b : Bool). cond b [] (split space (drop 6 line))) (ne-eqb (length line) 5 e) ∙ ap (split space) (sym (tail line 6))
 
-  pub names-none : (n : ℕ) → length line ≡ 5 → allNames true 97 n (settingWords line) ≡ true
-  unfolding allNames
-  names-none n e = ap (allNames true 97 n) (words-none e)
-
-  pub is-known-by : (n : ℕ) (a b c e : Bool) → begins (bytes "known") line ≡ a → eqb (length line) 5 ≡ b → eqb (getD line 5 0) 32 ≡ c → allNames true 97 n (settingWords line) ≡ e
+  is-known-by : (a b c e : Bool) → begins (bytes "known") line ≡ a → eqb (length line) 5 ≡ b → eqb (getD line 5 0) 32 ≡ c → allNames true 97 n (settingWords line) ≡ e
       → isKnown n line ≡ (a && (b || c) && e)
   unfolding isKnown
-  is-known-by n a b c e p q r s = rw (p, q, r, s) refl
+  is-known-by a b c e p q r s = rw (p, q, r, s) refl
 
-  -- what a line of this form shows
-  known-parts : (n : ℕ) → isKnown n line ≡ true → T (begins (bytes "known") line) × T (allNames true 97 n (settingWords line))
-  unfolding isKnown
-  known-parts n e =
-      let a = begins (bytes "known") line in let b = eqb (length line) 5 || eqb (getD line 5 0) 32 in let c = allNames true 97 n (settingWords line) in
-      let t = true→T {a = a && b && c} e in
-      (and-left a b (and-left (a && b) c t), and-right (a && b) c t)
+  pub known-other : begins (bytes "known") line ≡ false → Names (isKnown n line) 97 (settingWords line) Stray
+  known-other e = names-stray (isKnown n line) 97 (settingWords line) (is-known-by false _ _ _ e refl refl refl)
 
-  pub known-six : (n : ℕ) → isKnown n line ≡ true → (length line ≡ 5 → ⊥) → 6 ≤ length line
-  known-six n e l = let k = begins-length (bytes "known") line (T→true (begins (bytes "known") line) (known-parts n e .0)) in elim (lt-or-ge 5 (length line)) [ inl m ↦ m | inr m ↦ absurd (l (omega arith)) ]
+  module _ (e : begins (bytes "known") line ≡ true) where
+    pub known-alone : length line ≡ 5 → Names (isKnown n line) 97 (settingWords line) (Of (record { named = 0; values = 0; twice = false }))
+    unfolding allNames
+    known-alone l =
+        names-of (isKnown n line) 97 (settingWords line) (record { named = 0; values = 0; twice = false })
+        (is-known-by true true _ true e (eq-eqb (length line) 5 l) refl (ap (allNames true 97 n) (words-none l)))
+        (subst (λ (ws : List (List ℕ)). Marked 97 ws (record { named = 0; values = 0; twice = false })) (sym (words-none l)) (marked-none 97))
 
-  pub known-names : (n : ℕ) → isKnown n line ≡ true → (length line ≡ 5 → ⊥) → T (allNames true 97 n (split space (take (length line - 6) (drop 6 line))))
-  known-names n e l = subst (λ (ws : List (List ℕ)). T (allNames true 97 n ws)) (words-some l) (known-parts n e .1)
+    pub known-spaceless : (length line ≡ 5 → ⊥) → (getD line 5 0 ≡ 32 → ⊥) → Names (isKnown n line) 97 (settingWords line) Stray
+    known-spaceless l c = names-stray (isKnown n line) 97 (settingWords line) (is-known-by true false false _ e (ne-eqb (length line) 5 l) (ne-eqb (getD line 5 0) 32 c) refl)
 
-module _ (sheet : Sheet) (d : Desk) (h : Holds sheet d) (line : List ℕ) where
+    pub known-names : (length line ≡ 5 → ⊥) → getD line 5 0 ≡ 32 → n ≤ 8
+        → (r : Naming) → Names (areNames true 97 n (split space (take (length line - 6) (drop 6 line)))) 97 (split space (take (length line - 6) (drop 6 line))) r → Names (isKnown n line) 97 (settingWords line) r
+    known-names l c few r k =
+        subst (λ (b : Bool). Names b 97 (settingWords line) r)
+        (few-enough true 97 n (settingWords line) few ∙ sym (is-known-by true false true _ e (ne-eqb (length line) 5 l) (eq-eqb (getD line 5 0) 32 c) refl))
+        (subst (λ (ws : List (List ℕ)). Names (areNames true 97 n ws) 97 ws r) (sym (words-some l)) k)
+
+module _ (sheet : Sheet) (d : Desk) (h : Holds sheet d) (line : List ℕ) (r : Naming) (n : Names (isKnown (d .settings) line) 97 (settingWords line) r) where
   known-test : (a : Bool) → isKnown (d .settings) line ≡ a → isKnown (sheet .settings) line ≡ a
   known-test a e = ap (λ (n : ℕ). isKnown n line) (sym (h .settings)) ∙ e
 
-  pub known-malformed : isKnown (d .settings) line ≡ false → knownStep sheet line ≡ fault 22
-  known-malformed e = known-by sheet line false _ (known-test false e) refl
+  pub known-malformed : r ≡ Stray → knownStep sheet line ≡ fault 22
+  known-malformed e = known-by sheet line false _ (known-test false (stray-names (isKnown (d .settings) line) 97 (settingWords line) r n e)) refl
 
-  none-known : length line ≡ 5 → knownOf line ≡ []
-  unfolding knownOf knownBy
-  none-known e = ap knownBy (words-none line e)
+  module _ (marks : Marks) (e : r ≡ Of marks) where
+    known-marks : (isKnown (d .settings) line ≡ true) × Marked 97 (settingWords line) marks
+    known-marks = of-names (isKnown (d .settings) line) 97 (settingWords line) r n e
 
-  pub known-alone : isKnown (d .settings) line ≡ true → length line ≡ 5
-      → Steps (knownStep sheet line) (Next Make) (knownDesk d 0 0)
-  unfolding knownSettings knownTrue twice member
-  known-alone e l =
-      taken (known-by sheet line true false (known-test true e) (ap (λ ks. twice (λ i. false) (knownSettings ks)) (none-known l)))
-      (holds-known sheet d h line 0 0
-      (λ i. bit-of-zero i ∙ ap (λ ks. member i (knownSettings ks)) (sym (none-known l)))
-      (λ i. bit-of-zero i ∙ ap (λ ks. member i (knownTrue ks)) (sym (none-known l))))
-
-  module _ (e : isKnown (d .settings) line ≡ true) (l : length line ≡ 5 → ⊥) (marks : Marks) (k : Marked 97 (split space (take (length line - 6) (drop 6 line))) marks) where
-    settings-named : knownSettings (knownOf line) ≡ indexes 97 (split space (take (length line - 6) (drop 6 line)))
+    settings-named : knownSettings (knownOf line) ≡ indexes 97 (settingWords line)
     unfolding knownOf
-    settings-named = known-settings (settingWords line) ∙ ap (indexes 97) (words-some line l)
+    settings-named = known-settings (settingWords line)
 
-    again-known : twice (λ i. false) (knownSettings (knownOf line)) ≡ marks .twice
-    again-known = ap (twice (λ i. false)) settings-named ∙ sym (k .again)
+    known-step : (t : Bool) → marks .twice ≡ t → knownStep sheet line ≡ unless true 22 (unless (not t) 23 (next Make (withKnown sheet line)))
+    known-step t f = known-by sheet line true t (known-test true (known-marks .0)) (ap (twice (λ i. false)) settings-named ∙ sym (known-marks .1 .again) ∙ f)
 
     pub known-twice : marks .twice ≡ true → knownStep sheet line ≡ fault 23
-    known-twice t = known-by sheet line true true (known-test true e) (again-known ∙ t)
+    known-twice f = known-step true f
 
-    pub known-taken : marks .twice ≡ false
-        → Steps (knownStep sheet line) (Next Make) (knownDesk d (marks .named) (marks .values))
+    pub known-taken : marks .twice ≡ false → Steps (knownStep sheet line) (Next Make) (knownDesk d (marks .named) (marks .values))
     unfolding knownOf
-    known-taken t =
-        taken (known-by sheet line true false (known-test true e) (again-known ∙ t))
+    known-taken f =
+        taken (known-step false f)
         (holds-known sheet d h line (marks .named) (marks .values)
-        (λ i. k .named i ∙ ap (member i) (sym settings-named))
-        (λ i. k .values i ∙ ap (member i) (sym (known-true (settingWords line) ∙ ap (trueIndexes 97) (words-some line l)))))
+        (λ i. known-marks .1 .named i ∙ ap (member i) (sym settings-named))
+        (λ i. known-marks .1 .values i ∙ ap (member i) (sym (known-true (settingWords line)))))
 
 -- ---- `make` and `ask`
 

@@ -3,10 +3,10 @@
 use mathlib.Core.Path.{_≡_, refl, sym, ap, ap₂, _∙_}
 use mathlib.Core.Logic.{inl, inr}
 use mathlib.Core.List.{List, [], _∷_, _++_, map}
-use mathlib.Core.Bool.{Bool, true, false, not, _&&_, _||_}
-use Prim.Native.Nat.{ℕ, _+_, _-_, _≤_, _<_}
+use mathlib.Core.Bool.{Bool, true, false, not}
+use Prim.Native.Nat.{ℕ, _+_, _≤_, _<_}
 use native.Mathlib.Omega.{arith}
-use lib.Dec.{T, eqb, leb, ltb, eqb→eq, leb→le, le→leb, ltb→lt, lt→ltb, not-T}
+use lib.Dec.{T, eqb}
 use lib.ListN.{length, getD}
 use Rattle.ground.proofs.Bools.{T→true, T→false, and-in, and-left, and-right, decide}
 use Rattle.lines.specs.Sheet.{Known}
@@ -14,6 +14,7 @@ use Rattle.words.specs.Words.{space, among, isFalse, bare, isName, allNames, in
 use Rattle.lines.specs.Forms.{knownBy}
 use Rattle.lines.specs.Grammar.{postsText, knownWord, knownsText, PostsFit, KnownFit}
 use Rattle.words.proofs.Split.{marked, Clear, AllClear}
+use Rattle.words.proofs.NameForms.{three, among-in, bare-word, unsigned, signed, plain}
 
 -- ---- the words of the line `team`
 

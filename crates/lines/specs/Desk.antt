@@ -10,7 +10,7 @@ use Rattle.book.specs.declared.rule.Right.{Right}
 use Rattle.book.specs.declared.rule.Right.the-variants.{Look, Set}
 use Rattle.words.specs.Words.{member}
 use Rattle.lines.specs.Sheet.{Sheet, isStated, ruleText, knownSettings, knownTrue}
-use Rattle.lines.specs.Reading.{Outcome, refused, stated}
+use Rattle.lines.specs.Reading.{sized, Outcome, refused, stated}
 use Rattle.lines.specs.declared.desk.Desk.{Desk}
 use Rattle.lines.specs.declared.desk.Fault.{Fault}
 use Rattle.lines.specs.declared.desk.Fault.the-variants.{Malformed, Twice, Formula, Length, Settings}
@@ -24,6 +24,14 @@ number Twice = 23
 number (Formula x) = x
 number Length = 24
 number Settings = 25
+
+-- a formula's numbers are 1 to 5, so that no two faults have the same
+abbrev pub Proper : Fault → Type 0
+Proper Malformed = Unit
+Proper Twice = Unit
+Proper (Formula x) = x ≤ 5
+Proper Length = Unit
+Proper Settings = Unit
 
 -- the tables of some formulas over n settings, one after the other
 abbrev pub TablesOf : ℕ → List (List ℕ) → List ℕ → Type 0
@@ -66,10 +74,11 @@ pub record Holds (sheet : Sheet) (d : Desk) : Type 0 where
   pub asks-most : d .asks ≤ 4
   pub learn-size : length (d .learn) ≡ 64
   pub learn : TablesOf (d .settings) (sheet .asks) (take (16 * d .asks) (d .learn))
+  pub learn-rest : (j : ℕ) → 16 * d .asks ≤ j → getD (d .learn) j 0 ≡ 0
 
--- what a whole sheet does, on the desk
+-- what is read of a sheet: its first fault, with the desk of the smallest size beside it; or all that it states, on the desk
 abbrev pub Reads : Outcome → Told → Desk → Type 0
-Reads (refused x line) (Refused why at) d = (number why ≡ x) × (at ≡ line)
+Reads (refused x line) (Refused why at) d = (number why ≡ x) × Proper why × (at ≡ line) × Holds (sized 1 1) d
 Reads (refused x line) Stated d = ⊥
 Reads (stated sheet) (Refused why at) d = ⊥
 Reads (stated sheet) Stated d = Holds sheet d

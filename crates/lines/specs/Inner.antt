@@ -5,7 +5,7 @@ use Prim.Native.Nat.{ℕ, _+_, _*_}
 use lib.ListN.{set}
 use lib.Seq.{sets}
 use Rattle.lines.specs.Reading.{Step, fault, next}
-use Rattle.lines.specs.Desk.{number, Holds}
+use Rattle.lines.specs.Desk.{number, Proper, Holds}
 use Rattle.lines.specs.declared.desk.Desk.{Desk}
 use Rattle.lines.specs.declared.desk.Taken.{Taken}
 use Rattle.lines.specs.declared.desk.Taken.the-variants.{Next, No}
@@ -43,7 +43,7 @@ askedDesk d t = laid d (d .rights) (d .stated) (d .team) (d .known) (d .values) 
 
 -- what a line does, on the desk
 abbrev pub Steps : Step → Taken → Desk → Type 0
-Steps (fault x) (No why) d = number why ≡ x
+Steps (fault x) (No why) d = (number why ≡ x) × Proper why
 Steps (fault x) (Next due) d = ⊥
 Steps (next due sheet) (No why) d = ⊥
 Steps (next due sheet) (Next now) d = (now ≡ due) × Holds sheet d

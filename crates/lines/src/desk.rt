@@ -4,7 +4,8 @@ ghost use mathlib.Core.Path.{_≡_};
 ghost use Prim.Native.Nat.{_+_, _≤_};
 ghost use lib.ListN.{length};
 ghost use lib.Seq.{sets};
-ghost use Rattle.lines.specs.Desk.{number};
+ghost use Rattle.lines.specs.Reading.{sized};
+ghost use Rattle.lines.specs.Desk.{number, Holds};
 
 // "The program takes n up to 5."
 pub const SETTINGS_MOST: u8 = 5;
@@ -21,13 +22,15 @@ pub(crate) enum Due {
     Asks,
 }
 
+// What a sheet of up to 5 settings states, each formula as its table. Any caller may make one: that it
+// is a sheet's is what a contract says of it (`Holds`).
 pub struct Desk {
     pub settings: u8,
     pub posts: u8,
-    // The tables of the rights, as in memory, of up to 5 settings, and a byte for each: 1 where it is
-    // stated.
+    // The tables of the rights, as in memory, and a byte for each: 1 where it is stated.
     pub rights: [u8; 1280],
     pub stated: [u8; 80],
+    // A bit for each post of the team, for each known setting, and for each of those that is true.
     pub team: u8,
     pub known: u8,
     pub values: u8,
@@ -78,6 +81,35 @@ pub(crate) enum Taken {
 pub(crate) struct Turn {
     pub taken: Taken,
     pub desk: Desk,
+}
+
+// A desk on which only the size is stated.
+pub(crate) fn sized(settings: u8, posts: u8) -> Desk
+    requires { ⌜ (1 ≤ settings) × (settings ≤ 5) × (1 ≤ posts) × (posts ≤ 8) ⌝ }
+    ensures { λ r. ⌜ Holds (sized settings posts) r ⌝ }
+{
+    Desk {
+        settings,
+        posts,
+        rights: [0u8; 1280],
+        stated: [0u8; 80],
+        team: 0,
+        known: 0,
+        values: 0,
+        make: [0u8; 16],
+        asks: 0,
+        learn: [0u8; 64],
+    }
+}
+
+// A line at fault.
+pub(crate) fn at_fault(why: Fault) -> Turn
+    ensures { λ r. ⌜ r .taken ≡ Taken.No why ⌝ }
+{
+    Turn {
+        taken: Taken::No(why),
+        desk: sized(1, 1),
+    }
 }
 
 // Writes a table into the room at `at`. For this crate alone: it fits.

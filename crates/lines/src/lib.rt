@@ -5,9 +5,10 @@ mod line;
 mod rules;
 
 pub use desk::Desk;
-pub use desk::Fault;
 use desk::Due;
+pub use desk::Fault;
 use desk::Taken;
+use desk::sized;
 use line::later_line;
 use line::size_line;
 use words::piece_end;
@@ -16,7 +17,7 @@ ghost use Prim.Native.Nat.{_+_, _≤_, suc};
 ghost use lib.ListN.{length, drop};
 ghost use Rattle.lines.specs.Sheet.{Sheet};
 ghost use Rattle.words.specs.Words.{split, newline};
-ghost use Rattle.lines.specs.Reading.{meaning, ending, lines};
+ghost use Rattle.lines.specs.Reading.{meaning, sized, ending, lines};
 ghost use Rattle.lines.specs.Desk.{Holds, Reads};
 
 // The most bytes of a sheet.
@@ -30,19 +31,19 @@ pub enum Told {
     Refused(Fault, usize),
 }
 
-// The desk after a whole sheet; what it holds says nothing where the sheet is refused.
+// What is said, and the desk; beside a refusal it states the smallest size, 1 1, and nothing else.
 pub struct Reading {
     pub told: Told,
     pub desk: Desk,
 }
 
-// A line that is malformed, absent or out of place.
-fn malformed(desk: Desk, number: usize) -> Reading
-    ensures { λ r. ⌜ r .told ≡ Told.Refused Fault.Malformed number ⌝ }
+// A sheet that is at fault at this line.
+fn refused(why: Fault, line: usize) -> Reading
+    ensures { λ r. ⌜ (r .told ≡ Told.Refused why line) × Holds (sized 1 1) (r .desk) ⌝ }
 {
     Reading {
-        told: Told::Refused(Fault::Malformed, number),
-        desk,
+        told: Told::Refused(why, line),
+        desk: sized(1, 1),
     }
 }
 
@@ -51,12 +52,12 @@ fn ending(due: Due, desk: Desk, rest: &[u8], number: usize) -> Reading
     ensures { λ r. ⌜ ((sheet : Sheet) → Holds sheet desk → Reads (ending due sheet (now (rest .entry)) number) (r .told) (r .desk)) ⌝ }
 {
     match due {
-        Due::Rights => malformed(desk, number),
-        Due::Known => malformed(desk, number),
-        Due::Make => malformed(desk, number),
+        Due::Rights => refused(Fault::Malformed, number),
+        Due::Known => refused(Fault::Malformed, number),
+        Due::Make => refused(Fault::Malformed, number),
         Due::Asks => {
             if rest.len() != 0 {
-                return malformed(desk, number);
+                return refused(Fault::Malformed, number);
             }
             Reading {
                 told: Told::Stated,
@@ -84,10 +85,7 @@ fn rest(sheet: &[u8], from: usize, first: Due, size: Desk) -> Reading
         let taken = turn.taken;
         match taken {
             Taken::No(why) => {
-                return Reading {
-                    told: Told::Refused(why, number),
-                    desk,
-                };
+                return refused(why, number);
             }
             Taken::Next(next) => {
                 due = next;
@@ -103,24 +101,17 @@ fn rest(sheet: &[u8], from: usize, first: Due, size: Desk) -> Reading
 pub fn read(sheet: &[u8]) -> Reading
     ensures { λ r. ⌜ Reads (meaning (now (sheet .entry))) (r .told) (r .desk) ⌝ }
 {
+    if SHEET_MOST < sheet.len() {
+        return refused(Fault::Length, 0);
+    }
     let end = piece_end(sheet, 0, b'\n');
+    if sheet.len() <= end {
+        return refused(Fault::Malformed, 1);
+    }
     let turn = size_line(&sheet[..end]);
     let taken = turn.taken;
-    let desk = turn.desk;
-    if SHEET_MOST < sheet.len() {
-        return Reading {
-            told: Told::Refused(Fault::Length, 0),
-            desk,
-        };
-    }
-    if sheet.len() <= end {
-        return malformed(desk, 1);
-    }
     match taken {
-        Taken::No(why) => Reading {
-            told: Told::Refused(why, 1),
-            desk,
-        },
-        Taken::Next(due) => rest(sheet, end + 1, due, desk),
+        Taken::No(why) => refused(why, 1),
+        Taken::Next(due) => rest(sheet, end + 1, due, turn.desk),
     }
 }

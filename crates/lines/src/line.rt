@@ -5,7 +5,9 @@ use crate::desk::Fault;
 use crate::desk::SETTINGS_MOST;
 use crate::desk::Taken;
 use crate::desk::Turn;
+use crate::desk::at_fault;
 use crate::desk::put_table;
+use crate::desk::sized;
 use crate::rules::is_rule;
 use crate::rules::rule_line;
 use book::Right;
@@ -19,31 +21,13 @@ use words::peek;
 ghost use mathlib.Core.Path.{_≡_};
 ghost use Prim.Native.Nat.{_≤_, _<_};
 ghost use lib.ListN.{length};
-ghost use lib.Dec.{T};
+ghost use Rattle.ground.specs.Text.{byte};
+ghost use Rattle.words.specs.Marks.{Names};
 ghost use Rattle.lines.specs.Sheet.{Sheet};
-ghost use Rattle.lines.specs.Forms.{isSize, isKnown};
-ghost use Rattle.lines.specs.Reading.{sizeStep, rightsStep, teamStep, knownStep, makeStep, askStep, step, sized};
+ghost use Rattle.lines.specs.Forms.{isSize, postWords, isTeam, settingWords, isKnown};
+ghost use Rattle.lines.specs.Reading.{sizeStep, rightsStep, teamStep, knownStep, makeStep, askStep, step};
 ghost use Rattle.lines.specs.Desk.{Holds};
 ghost use Rattle.lines.specs.Inner.{Steps, askedDesk};
-
-// A desk on which only the size is stated.
-fn sized(settings: u8, posts: u8) -> Desk
-    requires { ⌜ (1 ≤ settings) × (settings ≤ 5) × (1 ≤ posts) × (posts ≤ 8) ⌝ }
-    ensures { λ r. ⌜ Holds (sized settings posts) r ⌝ }
-{
-    Desk {
-        settings,
-        posts,
-        rights: [0u8; 1280],
-        stated: [0u8; 80],
-        team: 0,
-        known: 0,
-        values: 0,
-        make: [0u8; 16],
-        asks: 0,
-        learn: [0u8; 64],
-    }
-}
 
 // Whether the line is `size N M`.
 fn is_size(line: &[u8]) -> bool
@@ -69,17 +53,11 @@ pub(crate) fn size_line(line: &[u8]) -> Turn
     ensures { λ r. ⌜ Steps (sizeStep (now (line .entry))) (r .taken) (r .desk) ⌝ }
 {
     if !is_size(line) {
-        return Turn {
-            taken: Taken::No(Fault::Malformed),
-            desk: sized(1, 1),
-        };
+        return at_fault(Fault::Malformed);
     }
     let settings = peek(line, 5) - b'0';
     if SETTINGS_MOST < settings {
-        return Turn {
-            taken: Taken::No(Fault::Settings),
-            desk: sized(1, 1),
-        };
+        return at_fault(Fault::Settings);
     }
     Turn {
         taken: Taken::Next(Due::Rights),
@@ -87,23 +65,13 @@ pub(crate) fn size_line(line: &[u8]) -> Turn
     }
 }
 
-// A line at fault.
-fn fault(why: Fault, desk: Desk) -> Turn
-    ensures { λ r. ⌜ r .taken ≡ Taken.No why ⌝ }
-{
-    Turn {
-        taken: Taken::No(why),
-        desk,
-    }
-}
-
 // What the line `team G ..` names, where it is one.
 fn team_names(m: u8, line: &[u8]) -> Naming
     requires { ⌜ m ≤ 8 ⌝ }
-    ensures { λ r. ⌜ Names (isTeam m (now (line .entry))) 49 (postWords (now (line .entry))) r ⌝ }
+    ensures { λ r. ⌜ Names (isTeam m (now (line .entry))) (byte "1") (postWords (now (line .entry))) r ⌝ }
 {
     if !begins(b"team ", line) {
-        return Naming::No;
+        return Naming::Stray;
     }
     marks_of(false, b'1', m, &line[5..])
 }
@@ -115,10 +83,10 @@ fn team_line(desk: Desk, line: &[u8]) -> Turn
 {
     let naming = team_names(desk.posts, line);
     match naming {
-        Naming::No => fault(Fault::Malformed, desk),
+        Naming::Stray => at_fault(Fault::Malformed),
         Naming::Of(marks) => {
             if marks.twice {
-                return fault(Fault::Twice, desk);
+                return at_fault(Fault::Twice);
             }
             let mut next = desk;
             next.team = marks.named;
@@ -133,10 +101,10 @@ fn team_line(desk: Desk, line: &[u8]) -> Turn
 // What the line `known` names, with settings or alone, where it is one.
 fn known_names(n: u8, line: &[u8]) -> Naming
     requires { ⌜ n ≤ 8 ⌝ }
-    ensures { λ r. ⌜ Names (isKnown n (now (line .entry))) 97 (settingWords (now (line .entry))) r ⌝ }
+    ensures { λ r. ⌜ Names (isKnown n (now (line .entry))) (byte "a") (settingWords (now (line .entry))) r ⌝ }
 {
     if !begins(b"known", line) {
-        return Naming::No;
+        return Naming::Stray;
     }
     if line.len() == 5 {
         return Naming::Of(Marks {
@@ -146,7 +114,7 @@ fn known_names(n: u8, line: &[u8]) -> Naming
         });
     }
     if peek(line, 5) != b' ' {
-        return Naming::No;
+        return Naming::Stray;
     }
     marks_of(true, b'a', n, &line[6..])
 }
@@ -158,10 +126,10 @@ fn known_line(desk: Desk, line: &[u8]) -> Turn
 {
     let naming = known_names(desk.settings, line);
     match naming {
-        Naming::No => fault(Fault::Malformed, desk),
+        Naming::Stray => at_fault(Fault::Malformed),
         Naming::Of(marks) => {
             if marks.twice {
-                return fault(Fault::Twice, desk);
+                return at_fault(Fault::Twice);
             }
             let mut next = desk;
             next.known = marks.named;
@@ -180,13 +148,13 @@ fn make_line(desk: Desk, line: &[u8]) -> Turn
     ensures { λ r. ⌜ ((sheet : Sheet) → Holds sheet desk → Steps (makeStep sheet (now (line .entry))) (r .taken) (r .desk)) ⌝ }
 {
     if !begins(b"make ", line) {
-        return fault(Fault::Malformed, desk);
+        return at_fault(Fault::Malformed);
     }
     let reading = formula::read(desk.settings as usize, &line[5..]);
     let answer = reading.answer;
     let table = reading.table;
     match answer {
-        Answer::Refused(why) => fault(Fault::Formula(why.number()), desk),
+        Answer::Refused(why) => at_fault(Fault::Formula(why.number())),
         Answer::Accepted => {
             let mut next = desk;
             next.make = table;
@@ -217,16 +185,16 @@ fn ask_line(desk: Desk, line: &[u8]) -> Turn
     ensures { λ r. ⌜ ((sheet : Sheet) → Holds sheet desk → Steps (askStep sheet (now (line .entry))) (r .taken) (r .desk)) ⌝ }
 {
     if !begins(b"ask ", line) {
-        return fault(Fault::Malformed, desk);
+        return at_fault(Fault::Malformed);
     }
     if 4 <= desk.asks {
-        return fault(Fault::Malformed, desk);
+        return at_fault(Fault::Malformed);
     }
     let reading = formula::read(desk.settings as usize, &line[4..]);
     let answer = reading.answer;
     let table = reading.table;
     match answer {
-        Answer::Refused(why) => fault(Fault::Formula(why.number()), desk),
+        Answer::Refused(why) => at_fault(Fault::Formula(why.number())),
         Answer::Accepted => Turn {
             taken: Taken::Next(Due::Asks),
             desk: asked(desk, &table),

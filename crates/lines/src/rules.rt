@@ -4,6 +4,7 @@ use crate::desk::Due;
 use crate::desk::Fault;
 use crate::desk::Taken;
 use crate::desk::Turn;
+use crate::desk::at_fault;
 use crate::desk::put_table;
 use book::Right;
 use formula::Answer;
@@ -78,20 +79,14 @@ pub(crate) fn rule_line(desk: Desk, right: Right, word: &[u8], line: &[u8]) -> T
     let slot = slot_of(right, setting, post);
     let stated = desk.stated;
     if stated[slot] != 0 {
-        return Turn {
-            taken: Taken::No(Fault::Twice),
-            desk,
-        };
+        return at_fault(Fault::Twice);
     }
     let from = at + 4;
     let reading = formula::read(desk.settings as usize, &line[from..]);
     let answer = reading.answer;
     let table = reading.table;
     match answer {
-        Answer::Refused(why) => Turn {
-            taken: Taken::No(Fault::Formula(why.number())),
-            desk,
-        },
+        Answer::Refused(why) => at_fault(Fault::Formula(why.number())),
         Answer::Accepted => Turn {
             taken: Taken::Next(Due::Rights),
             desk: ruled(desk, slot, &table),

@@ -22,7 +22,8 @@ use Rattle.words.specs.Words.{member, split, space, isFalse, bare, among
 use Rattle.words.proofs.Pieces.{part, PieceEnd}
 use Rattle.words.specs.Marks.{Marking, Marked, Names, areNames}
 use Rattle.words.specs.declared.names.Marks.{Marks}
-use Rattle.words.specs.declared.names.Naming.the-variants.{No, Of}
+use Rattle.words.specs.declared.names.Naming.{Naming}
+use Rattle.words.specs.declared.names.Naming.the-variants.{Stray, Of}
 
 pub bare-false : (w : List ℕ) → isFalse w ≡ true → bare w ≡ drop 1 w
 unfolding bare
@@ -182,8 +183,29 @@ module _ (signed : Bool) (first count : ℕ) (words : List (List ℕ)) where
   unfolding areNames
   few-enough h = ap (λ (b : Bool). b && allNames signed first count words) (le-leb count 8 h)
 
-  pub names-no : areNames signed first count words ≡ false → Names (areNames signed first count words) first words No
-  names-no e = subst (λ (b : Bool). Names b first words No) (sym e) tt
+module _ (are : Bool) (first : ℕ) (words : List (List ℕ)) where
+  pub names-stray : are ≡ false → Names are first words Stray
+  names-stray e = subst (λ (b : Bool). Names b first words Stray) (sym e) tt
 
-  pub names-of : (m : Marks) → areNames signed first count words ≡ true → Marked first words m → Names (areNames signed first count words) first words (Of m)
+  pub names-of : (m : Marks) → are ≡ true → Marked first words m → Names are first words (Of m)
   names-of m e k = subst (λ (b : Bool). Names b first words (Of m)) (sym e) k
+
+  -- and what an answer shows
+  module _ (r : Naming) (n : Names are first words r) where
+    pub stray-names : r ≡ Stray → are ≡ false
+    stray-names e = by-test are (subst (Names are first words) e n)
+      where
+        by-test : (b : Bool) → Names b first words Stray → b ≡ false
+        by-test true k = absurd k
+        by-test false k = refl
+
+    pub of-names : {m : Marks} → r ≡ Of m → (are ≡ true) × Marked first words m
+    of-names {m} e = by-test are (subst (Names are first words) e n)
+      where
+        by-test : (b : Bool) → Names b first words (Of m) → (b ≡ true) × Marked first words m
+        by-test true k = (refl, k)
+        by-test false k = absurd k
+
+-- no words name nothing
+pub marked-none : (first : ℕ) → Marked first [] (record { named = 0; values = 0; twice = false })
+marked-none first = marks-all first [] (record { named = 0; values = 0; twice = false }) (marks-none first [])

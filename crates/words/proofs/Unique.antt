@@ -12,7 +12,7 @@ use Rattle.ground.proofs.Bits.{same-bits}
 use Rattle.words.specs.Marks.{Marked, Names}
 use Rattle.words.specs.declared.names.Marks.{Marks}
 use Rattle.words.specs.declared.names.Naming.{Naming}
-use Rattle.words.specs.declared.names.Naming.the-variants.{No, Of}
+use Rattle.words.specs.declared.names.Naming.the-variants.{Stray, Of}
 
 below-power : (x : ℕ) → x < 2 ^ x
 below-power zero = lit< tt
@@ -34,4 +34,4 @@ module _ (first : ℕ) (words : List (List ℕ)) where
 
   pub names-one : (are : Bool) (x y : Naming) → Names are first words x → Names are first words y → x ≡ y
   names-one true (Of m) (Of k) p q = ap Of (marks-one m k p q)
-  names-one false No No p q = refl
+  names-one false Stray Stray p q = refl

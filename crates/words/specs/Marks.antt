@@ -8,7 +8,7 @@ use Rattle.ground.specs.Digits.{bit}
 use Rattle.words.specs.Words.{allNames, indexes, trueIndexes, member, twice}
 use Rattle.words.specs.declared.names.Marks.{Marks}
 use Rattle.words.specs.declared.names.Naming.{Naming}
-use Rattle.words.specs.declared.names.Naming.the-variants.{No, Of}
+use Rattle.words.specs.declared.names.Naming.the-variants.{Stray, Of}
 
 -- one name more
 pub record Marking (old : Marks) (i : ℕ) (value : Bool) (new : Marks) : Type 0 where
@@ -25,9 +25,9 @@ pub record Marked (first : ℕ) (words : List (List ℕ)) (marks : Marks) : Type
 -- the answer to whether words are names, with the marks where they are
 abbrev pub Names : Bool → ℕ → List (List ℕ) → Naming → Type 0
 Names true first words (Of marks) = Marked first words marks
-Names true first words No = ⊥
+Names true first words Stray = ⊥
 Names false first words (Of marks) = ⊥
-Names false first words No = Unit
+Names false first words Stray = Unit
 
 -- of at most eight things, since a byte has eight bits
 unfoldable pub areNames : Bool → ℕ → ℕ → List (List ℕ) → Bool

@@ -99,8 +99,8 @@ fn mark(marks: Marks, i: u8, value: bool) -> Marks
 
 // What becomes of words that should be names.
 pub enum Naming {
-    // One of them is none, or more than eight things could be named.
-    No,
+    // One of them is no name; or more than eight things could be named, which no byte can mark.
+    Stray,
     // All are names, of these.
     Of(Marks),
 }
@@ -111,7 +111,7 @@ pub fn marks_of(signed: bool, first: u8, count: u8, words: &[u8]) -> Naming
     ensures { λ r. ⌜ Names (areNames signed first count (split space (now (words .entry)))) first (split space (now (words .entry))) r ⌝ }
 {
     if 8 < count {
-        return Naming::No;
+        return Naming::Stray;
     }
     let mut marks = Marks {
         named: 0,
@@ -123,7 +123,7 @@ pub fn marks_of(signed: bool, first: u8, count: u8, words: &[u8]) -> Naming
         let end = piece_end(words, at, b' ');
         let word = &words[at..end];
         if !is_name(signed, first, count, word) {
-            return Naming::No;
+            return Naming::Stray;
         }
         marks = mark(marks, sign_of(word) - first, !is_false(word));
         if words.len() <= end {

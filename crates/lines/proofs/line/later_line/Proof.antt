@@ -4,8 +4,8 @@ use Rattle.lines.specs.Reading.{step}
 use Rattle.lines.specs.Inner.{Steps}
 use Rattle.lines.specs.declared.desk.Due.{Due}
 use borrow.Author.Needs.{needs}
-use Rattle.lines.proofs.line.line.Statement.{statement}
-use Rattle.lines.proofs.line.line.Tie as tie
+use Rattle.lines.proofs.line.later_line.Statement.{statement}
+use Rattle.lines.proofs.line.later_line.Tie as tie
 
 enum-told : tie.Need-enum-told
 enum-told c = search needs

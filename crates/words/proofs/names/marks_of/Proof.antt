@@ -8,8 +8,9 @@ use lib.ListN.{length, drop}
 use borrow.Author.Tests.{not-true, not-false}
 use Rattle.ground.proofs.Bools.{true→T}
 use Rattle.words.specs.Words.{split, space, allNames}
+use Rattle.words.specs.Marks.{areNames}
 use Rattle.words.proofs.Pieces.{part, piece-is}
-use Rattle.words.proofs.NameLaws.{names-fail, names-on, names-end, name-least, name-most, Marks-to, marks-none, mark-is, marks-more, marks-all, too-many, few-enough, names-no, names-of}
+use Rattle.words.proofs.NameLaws.{names-fail, names-on, names-end, name-least, name-most, Marks-to, marks-none, mark-is, marks-more, marks-all, too-many, few-enough, names-stray, names-of}
 use Rattle.words.proofs.names.marks_of.Statement.{statement}
 use Rattle.words.proofs.names.marks_of.Tie as tie
 
@@ -22,7 +23,7 @@ abbrev μ-loop : tie.MeasureT-loop
 μ-loop signed first count words marks₀ at₀ marks at = length words - at
 
 returns : tie.Need-returns Inv-loop μ-loop
-returns c = let a = c .before .before .args in names-no (a .signed) (a .first) (a .count) (split space (a .words .now)) (too-many (a .signed) (a .first) (a .count) (split space (a .words .now)) (c .if1 .taken))
+returns c = let a = c .before .before .args in names-stray (areNames (a .signed) (a .first) (a .count) (split space (a .words .now))) (a .first) (split space (a .words .now)) (too-many (a .signed) (a .first) (a .count) (split space (a .words .now)) (c .if1 .taken))
 
 loop-holds : tie.Need-loop-holds Inv-loop μ-loop
 loop-holds c = (omega arith, c .if1 .left, refl, marks-none (c .before .before .args .first) (split space (c .before .before .args .words .now)))
@@ -46,7 +47,7 @@ returns-2 : tie.Need-returns-2 Inv-loop μ-loop
 returns-2 c =
     let a = c .before .before .before .before .before .before .before .args in let l = c .before .before .before .before .loop in let e = c .before .before .before .piece-end in
     let p = piece-is (a .words .now) (l .at) 32 (e .result) (l .inv .0) (e .ensures) in
-    names-no (a .signed) (a .first) (a .count) (split space (a .words .now))
+    names-stray (areNames (a .signed) (a .first) (a .count) (split space (a .words .now))) (a .first) (split space (a .words .now))
     (few-enough (a .signed) (a .first) (a .count) (split space (a .words .now)) (l .inv .1) ∙ sym (l .inv .2) ∙ names-fail (a .signed) (a .first) (a .count) (a .words .now) (l .at) (e .result) p (sym (c .before .is-name .ensures) ∙ not-true _ (c .if2 .taken)))
 
 sign-of-requires : tie.Need-sign-of-requires Inv-loop μ-loop
@@ -69,7 +70,7 @@ returns-3 : tie.Need-returns-3 Inv-loop μ-loop
 returns-3 c =
     let a = c .before .before .before .before .before .before .before .before .before .before .before .args in let l = c .before .before .before .before .before .before .before .before .loop in let e = c .before .before .before .before .before .before .before .piece-end in let m = c .before .mark in
     let p = piece-is (a .words .now) (l .at) 32 (e .result) (l .inv .0) (e .ensures) in
-    names-of (a .signed) (a .first) (a .count) (split space (a .words .now)) (m .result)
+    names-of (areNames (a .signed) (a .first) (a .count) (split space (a .words .now))) (a .first) (split space (a .words .now)) (m .result)
     (few-enough (a .signed) (a .first) (a .count) (split space (a .words .now)) (l .inv .1) ∙ sym (l .inv .2) ∙ names-end (a .signed) (a .first) (a .count) (a .words .now) (l .at) (e .result) p (sym (c .before .before .before .before .before .is-name .ensures) ∙ not-false _ (c .before .before .before .before .if2 .left)) (c .if3 .taken))
     (marks-all (a .first) (split space (a .words .now)) (m .result)
     (marks-more (a .first) (split space (a .words .now)) (part (a .words .now) (l .at) (e .result)) [] (l .marks) (m .result) (subst (λ (ws : List (List ℕ)). Marks-to (a .first) (split space (a .words .now)) ws (l .marks)) (p .last (c .if3 .taken)) (l .inv .3)) (mark-is (l .marks) (m .result) (a .first) (part (a .words .now) (l .at) (e .result)) (c .before .before .before .sign-of .result) (c .before .before .is-false .result) (c .before .before .before .sign-of .ensures) (c .before .before .is-false .ensures) (m .ensures))))
