@@ -17,14 +17,15 @@ use Rattle.book.specs.declared.rule.Right.the-variants.{Look, Set}
 use Rattle.lines.specs.Sheet.{Sheet, knownSettings}
 use Rattle.words.specs.Words.{member, split, space, begins, allNames, indexes, twice}
 use Rattle.lines.specs.Forms.{isRule, ruleOf, postWords, isTeam, teamOf, settingWords, isKnown, knownOf}
-use Rattle.lines.specs.Reading.{Step, fault, next, unless, unlessRefused, withTeam, withKnown, withAsk, ruleStep, teamStep, knownStep, makeStep, askStep, oneOf, rightsStep}
+use Rattle.lines.specs.Reading.{Step, fault, next, unless, unlessRefused, withTeam, withKnown, withMake, withAsk, ruleStep, teamStep, knownStep, makeStep, askStep, oneOf, rightsStep}
 use Rattle.lines.specs.Desk.{number, Proper, Holds}
-use Rattle.lines.specs.Inner.{teamDesk, knownDesk, makeDesk, askedDesk, Steps}
+use Rattle.lines.specs.Inner.{teamDesk, knownDesk, makeDesk, askedDesk, placedDesk, dueAfter, Steps}
 use Rattle.words.specs.Marks.{Marked, Names, areNames}
 use Rattle.lines.specs.declared.desk.Due.{Due}
 use Rattle.lines.specs.declared.desk.Due.the-variants.{Known, Make, Asks}
 use Rattle.lines.specs.declared.desk.Desk.{Desk}
 use Rattle.lines.specs.declared.desk.Fault.{Fault}
+use Rattle.lines.specs.declared.formulas.Place.{Place}
 use Rattle.lines.specs.declared.desk.Taken.{Taken}
 use Rattle.lines.specs.declared.desk.Taken.the-variants.{Next, No}
 use Rattle.words.specs.declared.names.Marks.{Marks}
@@ -36,10 +37,16 @@ use Rattle.lines.proofs.StepLaws.{refused-step, accepted-step, team-by,
 use Rattle.lines.proofs.LineLaws.{known-settings, known-true, holds-team, holds-known, holds-make, holds-ask}
 
 -- a line at fault
-pub at-fault : {st : Step} {t : Taken} (why : Fault) (d : Desk) → Proper why → st ≡ fault (number why) → t ≡ No why → Steps st t d
-at-fault {st} {t} why d p e f = subst (λ (s : Step). Steps s t d) (sym e) (subst (λ (x : Taken). Steps (fault (number why)) x d) (sym f) (refl, p))
+pub faulty : {st : Step} {t : Taken} (why : Fault) (d : Desk) → Proper why → st ≡ fault (number why) → t ≡ No why → Steps st t d
+faulty {st} {t} why d p e f = subst (λ (s : Step). Steps s t d) (sym e) (subst (λ (x : Taken). Steps (fault (number why)) x d) (sym f) (refl, p))
 
--- its formula's number, which is one of five
+-- a line that is taken
+pub taken : {st : Step} {due : Due} {sheet : Sheet} {d : Desk} → st ≡ next due sheet → Holds sheet d → Steps st (Next due) d
+taken {st} {due} {sheet} {d} e h = subst (λ (s : Step). Steps s (Next due) d) (sym e) (refl, h)
+
+-- ---- a formula
+
+-- its number is one of five
 pub formula-most : (why : Refusal) {x : ℕ} → x ≡ formula-number why → x ≤ 5
 formula-most Length e = omega arith
 formula-most (StrayByte i) e = omega arith
@@ -47,9 +54,18 @@ formula-most (LetterPast i) e = omega arith
 formula-most (NotSentence i) e = omega arith
 formula-most Settings e = omega arith
 
--- a line that is taken
-pub taken : {st : Step} {due : Due} {sheet : Sheet} {d : Desk} → st ≡ next due sheet → Holds sheet d → Steps st (Next due) d
-taken {st} {due} {sheet} {d} e h = subst (λ (s : Step). Steps s (Next due) d) (sym e) (refl, h)
+module _ (n : ℕ) (F t : List ℕ) (answer : Answer) (r : Reads n F answer t) where
+  pub formula-refused : (later : Step) (why : Refusal) (x : ℕ) → answer ≡ Refused why → x ≡ formula-number why → unlessRefused n F later ≡ fault x
+  formula-refused later why x e f = refused-step n F t later why (subst (λ (a : Answer). Reads n F a t) e r) ∙ ap fault (sym f)
+
+  pub formula-accepted : answer ≡ Accepted → Accepts n F t
+  formula-accepted e = subst (λ (a : Answer). Reads n F a t) e r
+
+  pub formula-taken : (d : Desk) (place : Place) (v : Sheet) {x : Taken} {y : Desk} → answer ≡ Accepted → (x ≡ Next (dueAfter place)) × (y ≡ placedDesk place d t)
+      → ((t : List ℕ) → Accepts n F t → Holds v (placedDesk place d t)) → Steps (unlessRefused n F (next (dueAfter place) v)) x y
+  formula-taken d place v {x} {y} e (f, g) holds =
+      subst (λ (x : Taken). Steps (unlessRefused n F (next (dueAfter place) v)) x y) (sym f)
+      (taken (accepted-step n F t (next (dueAfter place) v) (formula-accepted e)) (subst (Holds v) (sym g) (holds t (formula-accepted e))))
 
 -- ---- `team`
 
@@ -166,31 +182,27 @@ module _ (sheet : Sheet) (d : Desk) (h : Holds sheet d) (line : List ℕ) where
   pub ask-fifth : begins (bytes "ask ") line ≡ true → 4 ≤ d .asks → askStep sheet line ≡ fault 22
   ask-fifth e m = ask-by sheet line true false e (le-ltb (length (sheet .asks)) 4 (omega (arith, h .asks)))
 
-  -- what was read of the formula behind the word, for the sheet's settings
-  read-behind : (k : ℕ) (x : Answer) (t : List ℕ) → Reads (d .settings) (take (length line - k) (drop k line)) x t → Reads (sheet .settings) (drop k line) x t
-  read-behind k x t r = subst (λ (n : ℕ). Reads n (drop k line) x t) (h .settings) (subst (λ (F : List ℕ). Reads (d .settings) F x t) (tail line k) r)
+  -- the formula behind the word, read for the desk's settings, is the sheet's
+  behind : (k : ℕ) (st : Step) (t : Taken) (x : Desk) → Steps (unlessRefused (d .settings) (take (length line - k) (drop k line)) st) t x → Steps (unlessRefused (sheet .settings) (drop k line) st) t x
+  behind k st t x s = subst (λ (n : ℕ). Steps (unlessRefused n (drop k line) st) t x) (h .settings) (subst (λ (F : List ℕ). Steps (unlessRefused (d .settings) F st) t x) (tail line k) s)
 
-  module _ (e : begins (bytes "make ") line ≡ true) (t : List ℕ) where
-    pub make-refused : (why : Refusal) → Reads (d .settings) (take (length line - 5) (drop 5 line)) (Refused why) t → makeStep sheet line ≡ fault (formula-number why)
-    make-refused why r = make-by sheet line true e ∙ refused-step (sheet .settings) (drop 5 line) t _ why (read-behind 5 (Refused why) t r)
+  accepts-behind : (k : ℕ) (t : List ℕ) → Accepts (d .settings) (take (length line - k) (drop k line)) t → Accepts (d .settings) (drop k line) t
+  accepts-behind k t a = subst (λ (F : List ℕ). Accepts (d .settings) F t) (tail line k) a
 
-    pub make-taken : Reads (d .settings) (take (length line - 5) (drop 5 line)) Accepted t
-        → Steps (makeStep sheet line) (Next Asks) (makeDesk d t)
-    make-taken r =
-        taken (make-by sheet line true e ∙ accepted-step (sheet .settings) (drop 5 line) t _ (read-behind 5 Accepted t r))
-        (holds-make sheet d h (drop 5 line) t (subst (λ (F : List ℕ). Accepts (d .settings) F t) (tail line 5) r))
+  module _ (r : Taken) (x : Desk) where
+    pub make-read : begins (bytes "make ") line ≡ true
+        → ((v : Sheet) → ((t : List ℕ) → Accepts (d .settings) (take (length line - 5) (drop 5 line)) t → Holds v (makeDesk d t)) → Steps (unlessRefused (d .settings) (take (length line - 5) (drop 5 line)) (next Asks v)) r x)
+        → Steps (makeStep sheet line) r x
+    make-read e f =
+        subst (λ (s : Step). Steps s r x) (sym (make-by sheet line true e))
+        (behind 5 (next Asks (withMake sheet (drop 5 line))) r x (f (withMake sheet (drop 5 line)) (λ t a. holds-make sheet d h (drop 5 line) t (accepts-behind 5 t a))))
 
-  module _ (e : begins (bytes "ask ") line ≡ true) (few : d .asks < 4) (t : List ℕ) where
-    ask-form : askStep sheet line ≡ unlessRefused (sheet .settings) (drop 4 line) (next Asks (withAsk sheet (drop 4 line)))
-    ask-form = ask-by sheet line true true e (lt-ltb (length (sheet .asks)) 4 (omega (arith, h .asks)))
-
-    pub ask-refused : (why : Refusal) → Reads (d .settings) (take (length line - 4) (drop 4 line)) (Refused why) t → askStep sheet line ≡ fault (formula-number why)
-    ask-refused why r = ask-form ∙ refused-step (sheet .settings) (drop 4 line) t _ why (read-behind 4 (Refused why) t r)
-
-    pub ask-taken : Reads (d .settings) (take (length line - 4) (drop 4 line)) Accepted t → Steps (askStep sheet line) (Next Asks) (askedDesk d t)
-    ask-taken r =
-        taken (ask-form ∙ accepted-step (sheet .settings) (drop 4 line) t _ (read-behind 4 Accepted t r))
-        (holds-ask sheet d h (drop 4 line) t few (r .table .sixteen) (subst (λ (F : List ℕ). Accepts (d .settings) F t) (tail line 4) r))
+    pub ask-read : begins (bytes "ask ") line ≡ true → d .asks < 4
+        → ((v : Sheet) → ((t : List ℕ) → Accepts (d .settings) (take (length line - 4) (drop 4 line)) t → Holds v (askedDesk d t)) → Steps (unlessRefused (d .settings) (take (length line - 4) (drop 4 line)) (next Asks v)) r x)
+        → Steps (askStep sheet line) r x
+    ask-read e few f =
+        subst (λ (s : Step). Steps s r x) (sym (ask-by sheet line true true e (lt-ltb (length (sheet .asks)) 4 (omega (arith, h .asks)))))
+        (behind 4 (next Asks (withAsk sheet (drop 4 line))) r x (f (withAsk sheet (drop 4 line)) (λ t a. holds-ask sheet d h (drop 4 line) t few (a .table .sixteen) (accepts-behind 4 t a))))
 
 -- ---- a right or the team, by the first form that fits
 

@@ -1,9 +1,6 @@
 // The desk: what a sheet has stated so far, by value, with the formulas as their tables.
-use ground::TABLE;
 ghost use mathlib.Core.Path.{_≡_};
-ghost use Prim.Native.Nat.{_+_, _≤_};
-ghost use lib.ListN.{length};
-ghost use lib.Seq.{sets};
+ghost use Prim.Native.Nat.{_≤_};
 ghost use Rattle.lines.specs.Reading.{sized};
 ghost use Rattle.lines.specs.Desk.{number, Holds};
 
@@ -109,17 +106,5 @@ pub(crate) fn at_fault(why: Fault) -> Turn
     Turn {
         taken: Taken::No(why),
         desk: sized(1, 1),
-    }
-}
-
-// Writes a table into the room at `at`. For this crate alone: it fits.
-pub(crate) fn put_table(table: &[u8; 16], room: &mut [u8], at: usize)
-    requires { ⌜ (length (now table) ≡ 16) × (at + 16 ≤ length (now room)) ⌝ }
-    ensures { λ _. ⌜ now (room .exit) ≡ sets (now (room .entry)) at (now (table .entry)) ⌝ }
-{
-    let mut i = 0;
-    while i < TABLE {
-        room[at + i] = table[i];
-        i += 1;
     }
 }

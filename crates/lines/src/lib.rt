@@ -1,6 +1,7 @@
 // A whole sheet, line by line: what it states, or the first line at fault. A sheet of any length and
 // content is taken; nothing is written to what a caller lends.
 mod desk;
+mod formulas;
 mod line;
 mod rules;
 

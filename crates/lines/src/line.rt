@@ -6,12 +6,12 @@ use crate::desk::SETTINGS_MOST;
 use crate::desk::Taken;
 use crate::desk::Turn;
 use crate::desk::at_fault;
-use crate::desk::put_table;
 use crate::desk::sized;
+use crate::formulas::Place;
+use crate::formulas::formula_line;
 use crate::rules::is_rule;
 use crate::rules::rule_line;
 use book::Right;
-use formula::Answer;
 use words::Marks;
 use words::Naming;
 use words::among;
@@ -19,15 +19,14 @@ use words::begins;
 use words::marks_of;
 use words::peek;
 ghost use mathlib.Core.Path.{_≡_};
-ghost use Prim.Native.Nat.{_≤_, _<_};
-ghost use lib.ListN.{length};
+ghost use Prim.Native.Nat.{_≤_};
 ghost use Rattle.ground.specs.Text.{byte};
 ghost use Rattle.words.specs.Marks.{Names};
 ghost use Rattle.lines.specs.Sheet.{Sheet};
 ghost use Rattle.lines.specs.Forms.{isSize, postWords, isTeam, settingWords, isKnown};
 ghost use Rattle.lines.specs.Reading.{sizeStep, rightsStep, teamStep, knownStep, makeStep, askStep, step};
 ghost use Rattle.lines.specs.Desk.{Holds};
-ghost use Rattle.lines.specs.Inner.{Steps, askedDesk};
+ghost use Rattle.lines.specs.Inner.{Steps};
 
 // Whether the line is `size N M`.
 fn is_size(line: &[u8]) -> bool
@@ -150,33 +149,7 @@ fn make_line(desk: Desk, line: &[u8]) -> Turn
     if !begins(b"make ", line) {
         return at_fault(Fault::Malformed);
     }
-    let reading = formula::read(desk.settings as usize, &line[5..]);
-    let answer = reading.answer;
-    let table = reading.table;
-    match answer {
-        Answer::Refused(why) => at_fault(Fault::Formula(why.number())),
-        Answer::Accepted => {
-            let mut next = desk;
-            next.make = table;
-            Turn {
-                taken: Taken::Next(Due::Asks),
-                desk: next,
-            }
-        }
-    }
-}
-
-// The desk with one more formula to learn.
-fn asked(desk: Desk, table: &[u8; 16]) -> Desk
-    requires { ⌜ (length (now table) ≡ 16) × (desk .asks < 4) × (length (desk .learn) ≡ 64) ⌝ }
-    ensures { λ r. ⌜ r ≡ askedDesk desk (now (table .entry)) ⌝ }
-{
-    let mut next = desk;
-    let mut learn = desk.learn;
-    put_table(table, &mut learn, 16 * (desk.asks as usize));
-    next.learn = learn;
-    next.asks = desk.asks + 1;
-    next
+    formula_line(desk, Place::Make, &line[5..])
 }
 
 // The line `ask F`.
@@ -190,16 +163,7 @@ fn ask_line(desk: Desk, line: &[u8]) -> Turn
     if 4 <= desk.asks {
         return at_fault(Fault::Malformed);
     }
-    let reading = formula::read(desk.settings as usize, &line[4..]);
-    let answer = reading.answer;
-    let table = reading.table;
-    match answer {
-        Answer::Refused(why) => at_fault(Fault::Formula(why.number())),
-        Answer::Accepted => Turn {
-            taken: Taken::Next(Due::Asks),
-            desk: asked(desk, &table),
-        },
-    }
+    formula_line(desk, Place::Ask, &line[4..])
 }
 
 // One more right, or the team.

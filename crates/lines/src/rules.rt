@@ -1,13 +1,11 @@
 // The lines that state a right, `read P G F` and `write P G F`.
 use crate::desk::Desk;
-use crate::desk::Due;
 use crate::desk::Fault;
-use crate::desk::Taken;
 use crate::desk::Turn;
 use crate::desk::at_fault;
-use crate::desk::put_table;
+use crate::formulas::Place;
+use crate::formulas::formula_line;
 use book::Right;
-use formula::Answer;
 use words::among;
 use words::begins;
 use words::peek;
@@ -19,7 +17,7 @@ ghost use Rattle.lines.specs.Sheet.{Sheet};
 ghost use Rattle.lines.specs.Forms.{isRule, ruleOf};
 ghost use Rattle.lines.specs.Reading.{ruleStep};
 ghost use Rattle.lines.specs.Desk.{Holds, slotOf};
-ghost use Rattle.lines.specs.Inner.{Steps, ruledDesk};
+ghost use Rattle.lines.specs.Inner.{Steps};
 
 // Whether the line states a right, where `word` is its first word with the space after it.
 pub(crate) fn is_rule(word: &[u8], n: u8, m: u8, line: &[u8]) -> bool
@@ -53,21 +51,6 @@ fn slot_of(right: Right, setting: u8, post: u8) -> usize
     }
 }
 
-// The desk with one right more.
-fn ruled(desk: Desk, slot: usize, table: &[u8; 16]) -> Desk
-    requires { ⌜ (length (now table) ≡ 16) × (slot < 80) × (length (desk .rights) ≡ 1280) × (length (desk .stated) ≡ 80) ⌝ }
-    ensures { λ r. ⌜ r ≡ ruledDesk desk slot (now (table .entry)) ⌝ }
-{
-    let mut next = desk;
-    let mut rights = desk.rights;
-    put_table(table, &mut rights, 16 * slot);
-    next.rights = rights;
-    let mut stated = desk.stated;
-    stated[slot] = 1;
-    next.stated = stated;
-    next
-}
-
 // A line that states a right.
 pub(crate) fn rule_line(desk: Desk, right: Right, word: &[u8], line: &[u8]) -> Turn
     requires { ⌜ ((sheet : Sheet) × Holds sheet desk) × (length (now word) < 8) × T (isRule (now word) (desk .settings) (desk .posts) (now line)) ⌝ }
@@ -82,14 +65,5 @@ pub(crate) fn rule_line(desk: Desk, right: Right, word: &[u8], line: &[u8]) -> T
         return at_fault(Fault::Twice);
     }
     let from = at + 4;
-    let reading = formula::read(desk.settings as usize, &line[from..]);
-    let answer = reading.answer;
-    let table = reading.table;
-    match answer {
-        Answer::Refused(why) => at_fault(Fault::Formula(why.number())),
-        Answer::Accepted => Turn {
-            taken: Taken::Next(Due::Rights),
-            desk: ruled(desk, slot, &table),
-        },
-    }
+    formula_line(desk, Place::Slot(slot), &line[from..])
 }

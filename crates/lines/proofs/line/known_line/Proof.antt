@@ -1,58 +1,44 @@
--- `known_line` meets its contract, way by way.
-use mathlib.Core.Path.{sym, _∙_}
+-- `known_line` meets its contract, by what the line names.
 use native.Mathlib.Omega.{arith}
-use borrow.Author.Tests.{not-true, not-false}
 use Rattle.lines.specs.declared.desk.Fault.the-variants.{Malformed, Twice}
-use Rattle.lines.proofs.Turns.{at-fault, known-six, known-names, known-malformed, known-alone, known-twice, known-taken}
+use Rattle.lines.proofs.Turns.{faulty, known-malformed, known-twice, known-taken}
 use borrow.Author.Needs.{needs}
 use Rattle.lines.proofs.line.known_line.Statement.{statement}
 use Rattle.lines.proofs.line.known_line.Tie as tie
 
-is-known-requires : tie.Need-is-known-requires
-is-known-requires c κs = search needs
+known-names-requires : tie.Need-known-names-requires
+known-names-requires c κs = omega (arith, c .before .pre .1 .settings-most)
 
-fault-requires : tie.Need-fault-requires
-fault-requires c κs = search needs
+enum-told : tie.Need-enum-told
+enum-told c = search needs
+
+at-fault-requires : tie.Need-at-fault-requires
+at-fault-requires c κs = search needs
+
+enum-known-naming : tie.Need-enum-known-naming
+enum-known-naming c = search needs
+
+at-fault-requires-2 : tie.Need-at-fault-requires-2
+at-fault-requires-2 c κs = search needs
 
 returns : tie.Need-returns
-returns c = λ sheet h. at-fault Malformed (c .fault .result .desk) (known-malformed sheet (c .before .before .before .before .args .desk) h (c .before .before .before .before .args .line .now) (sym (c .before .before .is-known .ensures) ∙ not-true _ (c .before .if1 .taken))) (c .fault .ensures)
+returns c = λ sheet h. faulty Twice (c .at-fault2 .result .desk) tt (known-twice sheet (c .before .before .before .before .before .before .before .args .desk) h (c .before .before .before .before .before .before .before .args .line .now) (c .before .before .before .before .before .known-names .result) (c .before .before .before .before .before .known-names .ensures) (c .before .before .before .naming .given .0 .0) (c .before .before .before .naming .given .1) (c .before .if1 .taken)) (c .at-fault2 .ensures)
 
 returns-2 : tie.Need-returns-2
-returns-2 c = λ sheet h. known-alone sheet (c .before .before .before .before .args .desk) h (c .before .before .before .before .args .line .now) (sym (c .before .before .is-known .ensures) ∙ not-false _ (c .before .if1 .left)) (c .if2 .taken)
-
-sub-mark-all : tie.Need-sub-mark-all
-sub-mark-all c = known-six (c .before .before .before .before .args .line .now) (c .before .before .before .before .args .desk .settings) (sym (c .before .before .is-known .ensures) ∙ not-false _ (c .before .if1 .left)) (c .if2 .left)
-
-part-mark-all-start : tie.Need-part-mark-all-start
-part-mark-all-start c = known-six (c .before .before .before .before .args .line .now) (c .before .before .before .before .args .desk .settings) (sym (c .before .before .is-known .ensures) ∙ not-false _ (c .before .if1 .left)) (c .if2 .left)
-
-part-mark-all-end : tie.Need-part-mark-all-end
-part-mark-all-end c = search needs
-
-mark-all-requires : tie.Need-mark-all-requires
-mark-all-requires c κs = (omega (arith, c .before .before .before .before .before .pre .1 .settings-most), known-names (c .before .before .before .before .before .args .line .now) (c .before .before .before .before .before .args .desk .settings) (sym (c .before .before .before .is-known .ensures) ∙ not-false _ (c .before .before .if1 .left)) (c .before .if2 .left))
-
-fault-requires-2 : tie.Need-fault-requires-2
-fault-requires-2 c κs = search needs
+returns-2 c = λ sheet h. faulty Malformed (c .at-fault .result .desk) tt (known-malformed sheet (c .before .before .before .before .before .args .desk) h (c .before .before .before .before .before .args .line .now) (c .before .before .before .known-names .result) (c .before .before .before .known-names .ensures) (c .before .enum-told .given .1)) (c .at-fault .ensures)
 
 returns-3 : tie.Need-returns-3
-returns-3 c = λ sheet h. at-fault Twice (c .fault2 .result .desk) (known-twice sheet (c .before .before .before .before .before .before .before .before .args .desk) h (c .before .before .before .before .before .before .before .before .args .line .now) (sym (c .before .before .before .before .before .before .is-known .ensures) ∙ not-false _ (c .before .before .before .before .before .if1 .left)) (c .before .before .before .before .if2 .left) (c .before .before .mark-all .result) (c .before .before .mark-all .ensures) (c .before .if3 .taken)) (c .fault2 .ensures)
-
-returns-4 : tie.Need-returns-4
-returns-4 c = λ sheet h. known-taken sheet (c .before .before .before .before .before .before .before .args .desk) h (c .before .before .before .before .before .before .before .args .line .now) (sym (c .before .before .before .before .before .is-known .ensures) ∙ not-false _ (c .before .before .before .before .if1 .left)) (c .before .before .before .if2 .left) (c .before .mark-all .result) (c .before .mark-all .ensures) (c .if3 .left)
+returns-3 c = λ sheet h. known-taken sheet (c .before .before .before .before .before .before .args .desk) h (c .before .before .before .before .before .before .args .line .now) (c .before .before .before .before .known-names .result) (c .before .before .before .before .known-names .ensures) (c .before .before .naming .given .0 .0) (c .before .before .naming .given .1) (c .if1 .left)
 
 pub known-line-spec : {M : Type 1} → statement M
 known-line-spec =
     tie.close
     (tie.spec
-    is-known-requires
-    fault-requires
+    known-names-requires
+    enum-told
+    at-fault-requires
+    enum-known-naming
+    at-fault-requires-2
     returns
     returns-2
-    sub-mark-all
-    part-mark-all-start
-    part-mark-all-end
-    mark-all-requires
-    fault-requires-2
-    returns-3
-    returns-4)
+    returns-3)

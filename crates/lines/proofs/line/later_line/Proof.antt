@@ -1,4 +1,4 @@
--- `line` meets its contract, by what is due.
+-- `later_line` meets its contract, by what is due.
 use mathlib.Core.Path.{sym, subst}
 use Rattle.lines.specs.Reading.{step}
 use Rattle.lines.specs.Inner.{Steps}
@@ -43,8 +43,8 @@ returns-3 c = λ sheet h. subst (λ (x : Due). Steps (step x sheet (c .before .b
 returns-4 : tie.Need-returns-4
 returns-4 c = λ sheet h. subst (λ (x : Due). Steps (step x sheet (c .before .before .before .before .args .text .now)) (c .ask-line .result .taken) (c .ask-line .result .desk)) (sym (c .before .enum-told4 .given .1)) (c .ask-line .ensures sheet h)
 
-pub line-spec : {M : Type 1} → statement M
-line-spec =
+pub later-line-spec : {M : Type 1} → statement M
+later-line-spec =
     tie.close
     (tie.spec
     enum-told

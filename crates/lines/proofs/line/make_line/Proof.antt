@@ -1,15 +1,10 @@
 -- `make_line` meets its contract, way by way.
-use mathlib.Core.Path.{sym, ap, _∙_, subst}
-use Prim.Native.Nat.{_-_}
-use lib.ListN.{length, take, drop}
+use mathlib.Core.Path.{sym, _∙_}
 use borrow.Author.Tests.{not-true, not-false}
 use Rattle.ground.specs.Text.{bytes}
-use Rattle.formula.specs.Read.{Reads}
-use Rattle.formula.specs.declared.Answer.{Answer}
-use Rattle.lines.specs.Reading.{fault}
-use Rattle.lines.specs.declared.desk.Fault.the-variants.{Malformed, Formula}
 use Rattle.words.proofs.Fronts.{begins-length}
-use Rattle.lines.proofs.Turns.{at-fault, make-other, make-refused, make-taken}
+use Rattle.lines.specs.declared.desk.Fault.the-variants.{Malformed}
+use Rattle.lines.proofs.Turns.{faulty, make-other, make-read}
 use borrow.Author.Needs.{needs}
 use Rattle.lines.proofs.line.make_line.Statement.{statement}
 use Rattle.lines.proofs.line.make_line.Tie as tie
@@ -20,44 +15,26 @@ slice-aggregate-begins c = search needs
 begins-requires : tie.Need-begins-requires
 begins-requires c κs = search needs
 
-fault-requires : tie.Need-fault-requires
-fault-requires c κs = search needs
+at-fault-requires : tie.Need-at-fault-requires
+at-fault-requires c κs = search needs
 
 returns : tie.Need-returns
-returns c = λ sheet h. at-fault Malformed (c .fault .result .desk) (make-other sheet (c .before .before .before .before .before .args .desk) h (c .before .before .before .before .before .args .line .now) (sym (c .before .before .begins .ensures) ∙ not-true _ (c .before .if1 .taken))) (c .fault .ensures)
+returns c = λ sheet h. faulty Malformed (c .at-fault .result .desk) tt (make-other sheet (c .before .before .before .before .before .args .desk) h (c .before .before .before .before .before .args .line .now) (sym (c .before .before .begins .ensures) ∙ not-true _ (c .before .if1 .taken))) (c .at-fault .ensures)
 
-cast-read : tie.Need-cast-read
-cast-read c = search needs
+sub-formula-line : tie.Need-sub-formula-line
+sub-formula-line c = begins-length (bytes "make ") (c .before .before .before .before .args .line .now) (sym (c .before .begins .ensures) ∙ not-false _ (c .if1 .left))
 
-sub-read : tie.Need-sub-read
-sub-read c = begins-length (bytes "make ") (c .before .before .before .before .before .args .line .now) (sym (c .before .before .begins .ensures) ∙ not-false _ (c .before .if1 .left))
+part-formula-line-start : tie.Need-part-formula-line-start
+part-formula-line-start c = sub-formula-line c
 
-part-read-start : tie.Need-part-read-start
-part-read-start c = begins-length (bytes "make ") (c .before .before .before .before .before .args .line .now) (sym (c .before .before .begins .ensures) ∙ not-false _ (c .before .if1 .left))
+part-formula-line-end : tie.Need-part-formula-line-end
+part-formula-line-end c = search needs
 
-part-read-end : tie.Need-part-read-end
-part-read-end c = search needs
-
-read-requires : tie.Need-read-requires
-read-requires c κs = search needs
-
-enum-known-answer : tie.Need-enum-known-answer
-enum-known-answer c = search needs
-
-number-requires : tie.Need-number-requires
-number-requires c κs = search needs
-
-fault-requires-2 : tie.Need-fault-requires-2
-fault-requires-2 c κs = search needs
-
-enum-told : tie.Need-enum-told
-enum-told c = search needs
+formula-line-requires : tie.Need-formula-line-requires
+formula-line-requires c κs = tt
 
 returns-2 : tie.Need-returns-2
-returns-2 c = λ sheet h. at-fault (Formula (c .before .number .result)) (c .fault2 .result .desk) (make-refused sheet (c .before .before .before .before .before .before .before .before .before .before .before .before .before .args .desk) h (c .before .before .before .before .before .before .before .before .before .before .before .before .before .args .line .now) (sym (c .before .before .before .before .before .before .before .before .before .before .begins .ensures) ∙ not-false _ (c .before .before .before .before .before .before .before .before .before .if1 .left)) (c .before .before .before .before .before .before .read .result .table) (c .before .before .before .answer .given .0 .0) (subst (λ (a : Answer). Reads (c .before .before .before .before .before .before .before .before .before .before .before .before .before .args .desk .settings) (take (length (c .before .before .before .before .before .before .before .before .before .before .before .before .before .args .line .now) - 5) (drop 5 (c .before .before .before .before .before .before .before .before .before .before .before .before .before .args .line .now))) a (c .before .before .before .before .before .before .read .result .table)) (c .before .before .before .answer .given .1) (c .before .before .before .before .before .before .read .ensures)) ∙ ap fault (sym (c .before .number .ensures))) (c .fault2 .ensures)
-
-returns-3 : tie.Need-returns-3
-returns-3 c = λ sheet h. make-taken sheet (c .before .before .before .before .before .before .before .before .before .before .args .desk) h (c .before .before .before .before .before .before .before .before .before .before .args .line .now) (sym (c .before .before .before .before .before .before .before .begins .ensures) ∙ not-false _ (c .before .before .before .before .before .before .if1 .left)) (c .before .before .before .read .result .table) (subst (λ (a : Answer). Reads (c .before .before .before .before .before .before .before .before .before .before .args .desk .settings) (take (length (c .before .before .before .before .before .before .before .before .before .before .args .line .now) - 5) (drop 5 (c .before .before .before .before .before .before .before .before .before .before .args .line .now))) a (c .before .before .before .read .result .table)) (c .enum-told .given .1) (c .before .before .before .read .ensures))
+returns-2 c = λ sheet h. make-read sheet (c .before .before .before .before .before .before .args .desk) h (c .before .before .before .before .before .before .args .line .now) (c .formula-line .result .taken) (c .formula-line .result .desk) (sym (c .before .before .before .begins .ensures) ∙ not-false _ (c .before .before .if1 .left)) (c .formula-line .ensures)
 
 pub make-line-spec : {M : Type 1} → statement M
 make-line-spec =
@@ -65,16 +42,10 @@ make-line-spec =
     (tie.spec
     slice-aggregate-begins
     begins-requires
-    fault-requires
+    at-fault-requires
     returns
-    cast-read
-    sub-read
-    part-read-start
-    part-read-end
-    read-requires
-    enum-known-answer
-    number-requires
-    fault-requires-2
-    enum-told
-    returns-2
-    returns-3)
+    sub-formula-line
+    part-formula-line-start
+    part-formula-line-end
+    formula-line-requires
+    returns-2)

@@ -1,20 +1,11 @@
 -- `rule_line` meets its contract, way by way.
-use mathlib.Core.Path.{refl, sym, ap, _∙_, subst}
-use Prim.Native.Nat.{ℕ, _+_, _-_, _<_}
+use mathlib.Core.Path.{sym, ap}
+use Prim.Native.Nat.{ℕ, _-_}
 use native.Mathlib.Omega.{arith}
-use lib.ListN.{length, getD, take, drop}
-use Rattle.formula.specs.Read.{Reads}
-use Rattle.formula.specs.declared.Answer.{Answer}
-use Rattle.lines.specs.Forms.{ruleOf}
-use Rattle.lines.specs.Reading.{fault, ruleStep}
-use Rattle.lines.specs.Inner.{ruledDesk, Steps}
-use Rattle.lines.specs.declared.desk.Due.the-variants.{Rights}
-use Rattle.lines.specs.declared.desk.Taken.the-variants.{Next}
-use Rattle.lines.specs.declared.desk.Fault.the-variants.{Twice, Formula}
+use Rattle.lines.specs.declared.desk.Fault.the-variants.{Twice}
 use Rattle.lines.proofs.FormLaws.{rule-bounds}
-use Rattle.lines.proofs.HoldLaws.{slot-small}
-use Rattle.lines.proofs.Turns.{at-fault}
-use Rattle.lines.proofs.RuleTurns.{line-twice, line-refused, line-taken}
+use Rattle.lines.proofs.Turns.{faulty}
+use Rattle.lines.proofs.RuleTurns.{slot-fits, line-twice, line-read}
 use borrow.Author.Needs.{needs}
 use Rattle.lines.proofs.rules.rule_line.Statement.{statement}
 use Rattle.lines.proofs.rules.rule_line.Tie as tie
@@ -23,7 +14,7 @@ peek-requires : tie.Need-peek-requires
 peek-requires c κs = search needs
 
 sub-setting : tie.Need-sub-setting
-sub-setting c = let b = (rule-bounds (c .before .before .before .args .word .now) (c .before .before .before .args .desk .settings) (c .before .before .before .args .desk .posts) (c .before .before .before .args .line .now) (c .before .before .before .pre .2)) in omega (arith, c .peek .ensures, b .setting-least)
+sub-setting c = omega (arith, c .peek .ensures, rule-bounds (c .before .before .before .args .word .now) (c .before .before .before .args .desk .settings) (c .before .before .before .args .desk .posts) (c .before .before .before .args .line .now) (c .before .before .before .pre .2) .setting-least)
 
 add-peek : tie.Need-add-peek
 add-peek c = search needs
@@ -32,52 +23,50 @@ peek-requires-2 : tie.Need-peek-requires-2
 peek-requires-2 c κs = search needs
 
 sub-post : tie.Need-sub-post
-sub-post c = let b = (rule-bounds (c .before .before .before .before .args .word .now) (c .before .before .before .before .args .desk .settings) (c .before .before .before .before .args .desk .posts) (c .before .before .before .before .args .line .now) (c .before .before .before .before .pre .2)) in omega (arith, c .peek2 .ensures, b .post-least)
+sub-post c = omega (arith, c .peek2 .ensures, rule-bounds (c .before .before .before .before .args .word .now) (c .before .before .before .before .args .desk .settings) (c .before .before .before .before .args .desk .posts) (c .before .before .before .before .args .line .now) (c .before .before .before .before .pre .2) .post-least)
 
 slot-of-requires : tie.Need-slot-of-requires
 slot-of-requires c κs = search needs
 
 array-read-if1 : tie.Need-array-read-if1
-array-read-if1 c = let b = (rule-bounds (c .before .before .before .before .before .before .args .word .now) (c .before .before .before .before .before .before .args .desk .settings) (c .before .before .before .before .before .before .args .desk .posts) (c .before .before .before .before .before .before .args .line .now) (c .before .before .before .before .before .before .pre .2)) in subst (λ (x : ℕ). x < 80) (sym (c .before .slot-of .ensures)) (slot-small (c .before .before .before .before .before .before .args .right) (c .before .before .before .peek .result - 97) (c .before .before .peek2 .result - 49) (omega (arith, c .before .before .before .peek .ensures, b .setting-most, b .setting-least, c .before .before .before .before .before .before .pre .0 .1 .settings-most)) (omega (arith, c .before .before .peek2 .ensures, b .post-most, b .post-least, c .before .before .before .before .before .before .pre .0 .1 .posts-most)))
+array-read-if1 c =
+    slot-fits (c .before .before .before .before .before .before .pre .0 .0) (c .before .before .before .before .before .before .args .desk) (c .before .before .before .before .before .before .pre .0 .1) (c .before .before .before .before .before .before .args .right) (c .before .before .before .before .before .before .args .word .now) (c .before .before .before .before .before .before .args .line .now) (rule-bounds (c .before .before .before .before .before .before .args .word .now) (c .before .before .before .before .before .before .args .desk .settings) (c .before .before .before .before .before .before .args .desk .posts) (c .before .before .before .before .before .before .args .line .now) (c .before .before .before .before .before .before .pre .2))
+    (c .before .before .before .peek .result - 97) (c .before .before .peek2 .result - 49) (ap (λ (x : ℕ). x - 97) (c .before .before .before .peek .ensures)) (ap (λ (x : ℕ). x - 49) (c .before .before .peek2 .ensures)) (c .before .slot-of .result) (c .before .slot-of .ensures)
+
+at-fault-requires : tie.Need-at-fault-requires
+at-fault-requires c κs = search needs
 
 returns : tie.Need-returns
-returns c = λ sheet h. at-fault Twice (c .before .before .before .before .before .before .before .args .desk) (line-twice sheet (c .before .before .before .before .before .before .before .args .desk) h (c .before .before .before .before .before .before .before .args .right) (c .before .before .before .before .before .before .before .args .word .now) (c .before .before .before .before .before .before .before .args .line .now) (rule-bounds (c .before .before .before .before .before .before .before .args .word .now) (c .before .before .before .before .before .before .before .args .desk .settings) (c .before .before .before .before .before .before .before .args .desk .posts) (c .before .before .before .before .before .before .before .args .line .now) (c .before .before .before .before .before .before .before .pre .2)) (c .before .before .before .before .peek .result - 97) (c .before .before .before .peek2 .result - 49) (ap (λ (x : ℕ). x - 97) (c .before .before .before .before .peek .ensures)) (ap (λ (x : ℕ). x - 49) (c .before .before .before .peek2 .ensures)) (λ e. c .if1 .taken (ap (λ (k : ℕ). getD (c .before .before .before .before .before .before .before .args .desk .stated) k 0) (c .before .before .slot-of .ensures) ∙ e))) refl
+returns c = λ sheet h.
+    faulty Twice (c .at-fault .result .desk) tt
+    (line-twice sheet (c .before .before .before .before .before .before .before .before .args .desk) h (c .before .before .before .before .before .before .before .before .args .right) (c .before .before .before .before .before .before .before .before .args .word .now) (c .before .before .before .before .before .before .before .before .args .line .now) (rule-bounds (c .before .before .before .before .before .before .before .before .args .word .now) (c .before .before .before .before .before .before .before .before .args .desk .settings) (c .before .before .before .before .before .before .before .before .args .desk .posts) (c .before .before .before .before .before .before .before .before .args .line .now) (c .before .before .before .before .before .before .before .before .pre .2))
+    (c .before .before .before .before .before .peek .result - 97) (c .before .before .before .before .peek2 .result - 49) (ap (λ (x : ℕ). x - 97) (c .before .before .before .before .before .peek .ensures)) (ap (λ (x : ℕ). x - 49) (c .before .before .before .before .peek2 .ensures)) (c .before .before .before .slot-of .result) (c .before .before .before .slot-of .ensures) (c .before .if1 .taken)) (c .at-fault .ensures)
 
 add-from : tie.Need-add-from
 add-from c = search needs
 
-cast-read : tie.Need-cast-read
-cast-read c = search needs
+sub-formula-line : tie.Need-sub-formula-line
+sub-formula-line c = rule-bounds (c .before .before .before .before .before .before .before .args .word .now) (c .before .before .before .before .before .before .before .args .desk .settings) (c .before .before .before .before .before .before .before .args .desk .posts) (c .before .before .before .before .before .before .before .args .line .now) (c .before .before .before .before .before .before .before .pre .2) .size
 
-sub-read : tie.Need-sub-read
-sub-read c = (rule-bounds (c .before .before .before .before .before .before .before .before .args .word .now) (c .before .before .before .before .before .before .before .before .args .desk .settings) (c .before .before .before .before .before .before .before .before .args .desk .posts) (c .before .before .before .before .before .before .before .before .args .line .now) (c .before .before .before .before .before .before .before .before .pre .2)) .size
+part-formula-line-start : tie.Need-part-formula-line-start
+part-formula-line-start c = sub-formula-line c
 
-part-read-start : tie.Need-part-read-start
-part-read-start c = (rule-bounds (c .before .before .before .before .before .before .before .before .args .word .now) (c .before .before .before .before .before .before .before .before .args .desk .settings) (c .before .before .before .before .before .before .before .before .args .desk .posts) (c .before .before .before .before .before .before .before .before .args .line .now) (c .before .before .before .before .before .before .before .before .pre .2)) .size
+part-formula-line-end : tie.Need-part-formula-line-end
+part-formula-line-end c = search needs
 
-part-read-end : tie.Need-part-read-end
-part-read-end c = search needs
-
-read-requires : tie.Need-read-requires
-read-requires c κs = search needs
-
-enum-known-answer : tie.Need-enum-known-answer
-enum-known-answer c = search needs
-
-number-requires : tie.Need-number-requires
-number-requires c κs = search needs
-
-enum-told : tie.Need-enum-told
-enum-told c = search needs
-
-ruled-requires : tie.Need-ruled-requires
-ruled-requires c κs = let b = (rule-bounds (c .before .before .before .before .before .before .before .before .before .before .before .before .before .before .args .word .now) (c .before .before .before .before .before .before .before .before .before .before .before .before .before .before .args .desk .settings) (c .before .before .before .before .before .before .before .before .before .before .before .before .before .before .args .desk .posts) (c .before .before .before .before .before .before .before .before .before .before .before .before .before .before .args .line .now) (c .before .before .before .before .before .before .before .before .before .before .before .before .before .before .pre .2)) in ((subst (λ (a : Answer). Reads (c .before .before .before .before .before .before .before .before .before .before .before .before .before .before .args .desk .settings) (take (length (c .before .before .before .before .before .before .before .before .before .before .before .before .before .before .args .line .now) - (length (c .before .before .before .before .before .before .before .before .before .before .before .before .before .before .args .word .now) + 4)) (drop (length (c .before .before .before .before .before .before .before .before .before .before .before .before .before .before .args .word .now) + 4) (c .before .before .before .before .before .before .before .before .before .before .before .before .before .before .args .line .now))) a (c .before .before .before .before .read .result .table)) (c .before .enum-told .given .1) (c .before .before .before .before .read .ensures)) .table .sixteen, subst (λ (x : ℕ). x < 80) (sym (c .before .before .before .before .before .before .before .before .before .slot-of .ensures)) (slot-small (c .before .before .before .before .before .before .before .before .before .before .before .before .before .before .args .right) (c .before .before .before .before .before .before .before .before .before .before .before .peek .result - 97) (c .before .before .before .before .before .before .before .before .before .before .peek2 .result - 49) (omega (arith, c .before .before .before .before .before .before .before .before .before .before .before .peek .ensures, b .setting-most, b .setting-least, c .before .before .before .before .before .before .before .before .before .before .before .before .before .before .pre .0 .1 .settings-most)) (omega (arith, c .before .before .before .before .before .before .before .before .before .before .peek2 .ensures, b .post-most, b .post-least, c .before .before .before .before .before .before .before .before .before .before .before .before .before .before .pre .0 .1 .posts-most))), c .before .before .before .before .before .before .before .before .before .before .before .before .before .before .pre .0 .1 .rights-size, c .before .before .before .before .before .before .before .before .before .before .before .before .before .before .pre .0 .1 .stated-size)
+formula-line-requires : tie.Need-formula-line-requires
+formula-line-requires c κs = (
+  slot-fits (c .before .before .before .before .before .before .before .before .pre .0 .0) (c .before .before .before .before .before .before .before .before .args .desk) (c .before .before .before .before .before .before .before .before .pre .0 .1) (c .before .before .before .before .before .before .before .before .args .right) (c .before .before .before .before .before .before .before .before .args .word .now) (c .before .before .before .before .before .before .before .before .args .line .now) (rule-bounds (c .before .before .before .before .before .before .before .before .args .word .now) (c .before .before .before .before .before .before .before .before .args .desk .settings) (c .before .before .before .before .before .before .before .before .args .desk .posts) (c .before .before .before .before .before .before .before .before .args .line .now) (c .before .before .before .before .before .before .before .before .pre .2))
+      (c .before .before .before .before .before .peek .result - 97) (c .before .before .before .before .peek2 .result - 49) (ap (λ (x : ℕ). x - 97) (c .before .before .before .before .before .peek .ensures)) (ap (λ (x : ℕ). x - 49) (c .before .before .before .before .peek2 .ensures)) (c .before .before .before .slot-of .result) (c .before .before .before .slot-of .ensures),
+  c .before .before .before .before .before .before .before .before .pre .0 .1 .rights-size,
+  c .before .before .before .before .before .before .before .before .pre .0 .1 .stated-size,
+)
 
 returns-2 : tie.Need-returns-2
-returns-2 c = λ sheet h. at-fault (Formula (c .number .result)) (c .before .before .before .before .before .before .before .before .before .before .before .before .before .before .before .args .desk) (line-refused sheet (c .before .before .before .before .before .before .before .before .before .before .before .before .before .before .before .args .desk) h (c .before .before .before .before .before .before .before .before .before .before .before .before .before .before .before .args .right) (c .before .before .before .before .before .before .before .before .before .before .before .before .before .before .before .args .word .now) (c .before .before .before .before .before .before .before .before .before .before .before .before .before .before .before .args .line .now) (rule-bounds (c .before .before .before .before .before .before .before .before .before .before .before .before .before .before .before .args .word .now) (c .before .before .before .before .before .before .before .before .before .before .before .before .before .before .before .args .desk .settings) (c .before .before .before .before .before .before .before .before .before .before .before .before .before .before .before .args .desk .posts) (c .before .before .before .before .before .before .before .before .before .before .before .before .before .before .before .args .line .now) (c .before .before .before .before .before .before .before .before .before .before .before .before .before .before .before .pre .2)) (c .before .before .before .before .before .before .before .before .before .before .before .before .peek .result - 97) (c .before .before .before .before .before .before .before .before .before .before .before .peek2 .result - 49) (ap (λ (x : ℕ). x - 97) (c .before .before .before .before .before .before .before .before .before .before .before .before .peek .ensures)) (ap (λ (x : ℕ). x - 49) (c .before .before .before .before .before .before .before .before .before .before .before .peek2 .ensures)) (ap (λ (k : ℕ). getD (c .before .before .before .before .before .before .before .before .before .before .before .before .before .before .before .args .desk .stated) k 0) (sym (c .before .before .before .before .before .before .before .before .before .before .slot-of .ensures)) ∙ c .before .before .before .before .before .before .before .before .if1 .left) (c .before .before .before .before .before .read .result .table) (c .before .before .answer .given .0 .0) (subst (λ (a : Answer). Reads (c .before .before .before .before .before .before .before .before .before .before .before .before .before .before .before .args .desk .settings) (take (length (c .before .before .before .before .before .before .before .before .before .before .before .before .before .before .before .args .line .now) - (length (c .before .before .before .before .before .before .before .before .before .before .before .before .before .before .before .args .word .now) + 4)) (drop (length (c .before .before .before .before .before .before .before .before .before .before .before .before .before .before .before .args .word .now) + 4) (c .before .before .before .before .before .before .before .before .before .before .before .before .before .before .before .args .line .now))) a (c .before .before .before .before .before .read .result .table)) (c .before .before .answer .given .1) (c .before .before .before .before .before .read .ensures)) ∙ ap fault (sym (c .number .ensures))) refl
-
-returns-3 : tie.Need-returns-3
-returns-3 c = λ sheet h. subst (Steps (ruleStep sheet (ruleOf (c .before .before .before .before .before .before .before .before .before .before .before .before .before .before .before .args .word .now) (c .before .before .before .before .before .before .before .before .before .before .before .before .before .before .before .args .right) (c .before .before .before .before .before .before .before .before .before .before .before .before .before .before .before .args .line .now))) (Next Rights)) (sym (c .ruled .ensures ∙ ap (λ (k : ℕ). ruledDesk (c .before .before .before .before .before .before .before .before .before .before .before .before .before .before .before .args .desk) k (c .before .before .before .before .before .read .result .table)) (c .before .before .before .before .before .before .before .before .before .before .slot-of .ensures))) (line-taken sheet (c .before .before .before .before .before .before .before .before .before .before .before .before .before .before .before .args .desk) h (c .before .before .before .before .before .before .before .before .before .before .before .before .before .before .before .args .right) (c .before .before .before .before .before .before .before .before .before .before .before .before .before .before .before .args .word .now) (c .before .before .before .before .before .before .before .before .before .before .before .before .before .before .before .args .line .now) (rule-bounds (c .before .before .before .before .before .before .before .before .before .before .before .before .before .before .before .args .word .now) (c .before .before .before .before .before .before .before .before .before .before .before .before .before .before .before .args .desk .settings) (c .before .before .before .before .before .before .before .before .before .before .before .before .before .before .before .args .desk .posts) (c .before .before .before .before .before .before .before .before .before .before .before .before .before .before .before .args .line .now) (c .before .before .before .before .before .before .before .before .before .before .before .before .before .before .before .pre .2)) (c .before .before .before .before .before .before .before .before .before .before .before .before .peek .result - 97) (c .before .before .before .before .before .before .before .before .before .before .before .peek2 .result - 49) (ap (λ (x : ℕ). x - 97) (c .before .before .before .before .before .before .before .before .before .before .before .before .peek .ensures)) (ap (λ (x : ℕ). x - 49) (c .before .before .before .before .before .before .before .before .before .before .before .peek2 .ensures)) (ap (λ (k : ℕ). getD (c .before .before .before .before .before .before .before .before .before .before .before .before .before .before .before .args .desk .stated) k 0) (sym (c .before .before .before .before .before .before .before .before .before .before .slot-of .ensures)) ∙ c .before .before .before .before .before .before .before .before .if1 .left) (c .before .before .before .before .before .read .result .table) (subst (λ (a : Answer). Reads (c .before .before .before .before .before .before .before .before .before .before .before .before .before .before .before .args .desk .settings) (take (length (c .before .before .before .before .before .before .before .before .before .before .before .before .before .before .before .args .line .now) - (length (c .before .before .before .before .before .before .before .before .before .before .before .before .before .before .before .args .word .now) + 4)) (drop (length (c .before .before .before .before .before .before .before .before .before .before .before .before .before .before .before .args .word .now) + 4) (c .before .before .before .before .before .before .before .before .before .before .before .before .before .before .before .args .line .now))) a (c .before .before .before .before .before .read .result .table)) (c .before .before .enum-told .given .1) (c .before .before .before .before .before .read .ensures)))
+returns-2 c = λ sheet h.
+    line-read sheet (c .before .before .before .before .before .before .before .before .before .args .desk) h (c .before .before .before .before .before .before .before .before .before .args .right) (c .before .before .before .before .before .before .before .before .before .args .word .now) (c .before .before .before .before .before .before .before .before .before .args .line .now) (rule-bounds (c .before .before .before .before .before .before .before .before .before .args .word .now) (c .before .before .before .before .before .before .before .before .before .args .desk .settings) (c .before .before .before .before .before .before .before .before .before .args .desk .posts) (c .before .before .before .before .before .before .before .before .before .args .line .now) (c .before .before .before .before .before .before .before .before .before .pre .2))
+    (c .before .before .before .before .before .before .peek .result - 97) (c .before .before .before .before .before .peek2 .result - 49) (ap (λ (x : ℕ). x - 97) (c .before .before .before .before .before .before .peek .ensures)) (ap (λ (x : ℕ). x - 49) (c .before .before .before .before .before .peek2 .ensures)) (c .before .before .before .before .slot-of .result) (c .before .before .before .before .slot-of .ensures) (c .before .before .if1 .left)
+    (c .formula-line .result .taken) (c .formula-line .result .desk) (c .formula-line .ensures)
 
 pub rule-line-spec : {M : Type 1} → statement M
 rule-line-spec =
@@ -90,16 +79,11 @@ rule-line-spec =
     sub-post
     slot-of-requires
     array-read-if1
+    at-fault-requires
     returns
     add-from
-    cast-read
-    sub-read
-    part-read-start
-    part-read-end
-    read-requires
-    enum-known-answer
-    number-requires
-    enum-told
-    ruled-requires
-    returns-2
-    returns-3)
+    sub-formula-line
+    part-formula-line-start
+    part-formula-line-end
+    formula-line-requires
+    returns-2)

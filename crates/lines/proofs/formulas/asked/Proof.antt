@@ -2,8 +2,8 @@
 use mathlib.Core.Path.{refl}
 use Rattle.lines.specs.Inner.{askedDesk}
 use borrow.Author.Needs.{needs}
-use Rattle.lines.proofs.line.asked.Statement.{statement}
-use Rattle.lines.proofs.line.asked.Tie as tie
+use Rattle.lines.proofs.formulas.asked.Statement.{statement}
+use Rattle.lines.proofs.formulas.asked.Tie as tie
 
 slice-aggregate-put-table : tie.Need-slice-aggregate-put-table
 slice-aggregate-put-table c = search needs

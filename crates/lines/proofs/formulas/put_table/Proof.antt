@@ -5,10 +5,10 @@ use native.Mathlib.Omega.{arith}
 use lib.ListN.{length, take, length-set}
 use lib.Seq.{sets}
 use Rattle.book.proofs.Lists.{write-step, write-done}
-use Rattle.lines.proofs.desk.put_table.Statement.{statement}
-use Rattle.lines.proofs.desk.put_table.Tie as tie
-use Rattle.lines.proofs.desk.put_table.Reads as reads
-use Rattle.lines.proofs.desk.put_table.Lts as lts
+use Rattle.lines.proofs.formulas.put_table.Statement.{statement}
+use Rattle.lines.proofs.formulas.put_table.Tie as tie
+use Rattle.lines.proofs.formulas.put_table.Reads as reads
+use Rattle.lines.proofs.formulas.put_table.Lts as lts
 
 abbrev Inv-loop : tie.InvT-loop
 Inv-loop table room₀ at i₀ room i = (i ≤ 16) × (length room ≡ length room₀) × (room ≡ sets room₀ at (take i table))

@@ -2,8 +2,8 @@
 use mathlib.Core.Path.{refl}
 use Rattle.lines.specs.Inner.{ruledDesk}
 use borrow.Author.Needs.{needs}
-use Rattle.lines.proofs.rules.ruled.Statement.{statement}
-use Rattle.lines.proofs.rules.ruled.Tie as tie
+use Rattle.lines.proofs.formulas.ruled.Statement.{statement}
+use Rattle.lines.proofs.formulas.ruled.Tie as tie
 
 slice-aggregate-put-table : tie.Need-slice-aggregate-put-table
 slice-aggregate-put-table c = search needs
