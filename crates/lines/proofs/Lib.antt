@@ -1,4 +1,5 @@
--- The laws of a sheet's lines: line by line, what the functions need; the grammar, and where 22 stands; how far a meaning goes.
+-- The laws of a sheet's lines: line by line, what the functions need; the grammar, and where 22 stands; how far a meaning goes; and that `read` gives
+-- one thing alone.
 pub mod FormLaws
 pub mod StepLaws
 pub mod HoldLaws
@@ -18,3 +19,4 @@ pub mod RefusedAt
 pub mod Place
 pub mod Examples
 pub mod Bounds
+pub mod Unique

@@ -50,5 +50,5 @@ module _ (s : List ℕ) {told : Told} (d : Desk) (reads : Reads (meaning s) told
       where
         by-outcome : (o : Outcome) → Reads o (Refused why line) d → Prints-outcome o old r new
         by-outcome (refused y at) h =
-            subst (λ (t : List ℕ). Prints old t r new) (ap₂ (λ (a b : ℕ). refusedText a b) (f ∙ h .0) (h .1)) p
+            subst (λ (t : List ℕ). Prints old t r new) (ap₂ (λ (a b : ℕ). refusedText a b) (f ∙ h .0) (h .2)) p
         by-outcome (stated sheet) h = absurd h

@@ -2,7 +2,7 @@
 -- A sheet that is taken asks the question that a stored book would ask: the same book, the same system of plans.
 use mathlib.Core.Path.{_≡_}
 use mathlib.Core.Logic.{_⊎_}
-use mathlib.Core.List.{List, [], _∷_, _++_}
+use mathlib.Core.List.{List}
 use Prim.Native.Nat.{ℕ, _*_, _≤_, _<_}
 use lib.ListN.{length, replicate}
 use Rattle.ground.specs.Digits.{bit}
@@ -19,6 +19,7 @@ use Rattle.printing.specs.Printed.{refusedText, cannotText, reachText, Prints}
 use Rattle.lines.specs.Sheet.{Sheet, ruleText, knownSettings, knownTrue}
 use Rattle.words.specs.Words.{member}
 use Rattle.lines.specs.Reading.{Outcome, refused, stated, meaning}
+use Rattle.lines.specs.Desk.{TablesOf}
 
 -- the question that a sheet asks: "Every rule and goal is worked on as a table", and a mask has a bit for each post or setting that is named
 pub record Question (sheet : Sheet) (rights make learn : List ℕ) (team known values : ℕ) : Type 0 where
