@@ -44,11 +44,11 @@ use Rattle.plancheck.specs.declared.answer.CheckAnswer.the-variants.{Yes, Refus
 use Rattle.plancheck.proofs.OneAnswer.{checks-one}
 use Rattle.plancheck.proofs.Theorems.{yes-exact}
 use Rattle.printing.specs.Printed.{refusedText, cannotText, reachText, Prints}
-use Rattle.sheet.specs.Sheet.{Sheet}
-use Rattle.sheet.specs.Reading.{Outcome, meaning, refused, stated}
-use Rattle.sheet.specs.Place.{MalformedAt}
+use Rattle.lines.specs.Sheet.{Sheet}
+use Rattle.lines.specs.Reading.{Outcome, meaning, refused, stated}
+use Rattle.lines.specs.Place.{MalformedAt}
 use Rattle.sheet.specs.Answer.{Prints-outcome, Answers}
-use Rattle.sheet.proofs.Place.{malformed-line}
+use Rattle.lines.proofs.Place.{malformed-line}
 use Rattle.sheet.specs.Answer as Sheet
 use Rattle.sheet.proofs.Theorems.{System-for, answer-unique, answer-most, reach-printed, cannot-printed}
 use Rattle.sheet.proofs.Theorems as Printed

@@ -25,12 +25,14 @@ use Rattle.book.specs.declared.rule.Right.{Right}
 use Rattle.book.specs.declared.rule.Right.the-variants.{Look, Set}
 use Rattle.printing.specs.Decimal.{decimal}
 use Rattle.printing.specs.Printed.{reachText, cannotText, fitted}
-use Rattle.sheet.specs.Sheet.{Rule, Sheet, sameRight, concerns, isStated, ruleText, member, knownSettings, knownTrue}
-use Rattle.sheet.specs.Words.{onto, split, begins, among, isSetting, isPost, isSize, digitAt, isRule, ruleOf, isFalse, bare, isName, allNames, indexOf, indexes, postWords, isTeam, teamOf, settingWords, isKnown, knownBy, knownOf, twice}
-use Rattle.sheet.specs.Reading.{unlessRefused, sized, withRule, withTeam, withKnown, withMake, withAsk, sizeStep, ruleStep, teamStep, knownStep, makeStep, askStep, rightsStep, Outcome, refused, stated, lines, firstLine, meaning}
-use Rattle.sheet.specs.Answer.{TablesOf, Question, Tells, Prints-outcome}
-use Rattle.sheet.proofs.Examples.{sheets-computed}
-use Rattle.sheet.proofs.HoldLaws.{nought-accepts}
+use Rattle.lines.specs.Sheet.{Rule, Sheet, sameRight, concerns, isStated, ruleText, knownSettings, knownTrue}
+use Rattle.words.specs.Words.{member, onto, split, begins, among, isFalse, bare, isName, allNames, indexOf, indexes, twice}
+use Rattle.lines.specs.Forms.{isSetting, isPost, isSize, digitAt, isRule, ruleOf, postWords, isTeam, teamOf, settingWords, isKnown, knownBy, knownOf}
+use Rattle.lines.specs.Reading.{unlessRefused, sized, withRule, withTeam, withKnown, withMake, withAsk, sizeStep, ruleStep, teamStep, knownStep, makeStep, askStep, rightsStep, Outcome, refused, stated, lines, firstLine, meaning}
+use Rattle.lines.specs.Desk.{TablesOf}
+use Rattle.sheet.specs.Answer.{Question, Tells, Prints-outcome}
+use Rattle.lines.proofs.Examples.{sheets-computed}
+use Rattle.lines.proofs.HoldLaws.{nought-accepts}
 use Rattle.sheet.proofs.Theorems.{answer-unique}
 use Rattle.marked.specs.Row.{Case, first, tables, Holds, prints}
 use Rattle.marked.specs.Table.{sixth, p6, p7, p8a, p8c, p6-sheet, p6-printed, p7-sheet, p8a-sheet, p8c-sheet}

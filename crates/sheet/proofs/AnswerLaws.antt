@@ -6,14 +6,15 @@ use Rattle.book.specs.Written.{bookOf}
 use Rattle.plan.specs.Plans.{System}
 use Rattle.finder.specs.Question.{systemOf}
 use Rattle.printing.specs.Printed.{refusedText, Prints}
-use Rattle.sheet.specs.Reading.{Outcome, refused, stated, meaning}
+use Rattle.lines.specs.Reading.{Outcome, refused, stated, meaning}
 use Rattle.sheet.specs.Answer.{Tells, Prints-outcome, Answers}
-use Rattle.sheet.specs.Inner.{number, Reads, Whole, rightsIn, learnIn, bookIn, systemIn, startIn}
-use Rattle.sheet.specs.declared.desk.Desk.{Desk}
-use Rattle.sheet.specs.declared.desk.Fault.{Fault}
-use Rattle.sheet.specs.declared.reading.Told.{Told}
-use Rattle.sheet.specs.declared.reading.Told.the-variants.{Stated, Refused}
-use Rattle.sheet.proofs.Taken.{stated-written}
+use Rattle.lines.specs.Desk.{number, Reads}
+use Rattle.sheet.specs.Inner.{Whole, rightsIn, learnIn, bookIn, systemIn, startIn}
+use Rattle.lines.specs.declared.desk.Desk.{Desk}
+use Rattle.lines.specs.declared.desk.Fault.{Fault}
+use Rattle.lines.specs.declared.Told.{Told}
+use Rattle.lines.specs.declared.Told.the-variants.{Stated, Refused}
+use Rattle.lines.proofs.Taken.{stated-written}
 use Rattle.sheet.proofs.DeskRights.{desk-question}
 
 module _ (s : List ℕ) {told : Told} (d : Desk) (reads : Reads (meaning s) told d) where
@@ -49,5 +50,5 @@ module _ (s : List ℕ) {told : Told} (d : Desk) (reads : Reads (meaning s) told
       where
         by-outcome : (o : Outcome) → Reads o (Refused why line) d → Prints-outcome o old r new
         by-outcome (refused y at) h =
-            subst (λ (t : List ℕ). Prints old t r new) (ap₂ (λ (a b : ℕ). refusedText a b) (f ∙ h .0) (h .1)) p
+            subst (λ (t : List ℕ). Prints old t r new) (ap₂ (λ (a b : ℕ). refusedText a b) (f ∙ h .0) (h .2)) p
         by-outcome (stated sheet) h = absurd h

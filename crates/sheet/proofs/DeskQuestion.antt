@@ -34,7 +34,7 @@ use Rattle.printing.specs.Printed.{cannotText, reachText, Lettered, Prints}
 use Rattle.printing.proofs.Theorems.{permitted-lettered}
 use Rattle.sheet.specs.Answer.{Question, Tells}
 use Rattle.sheet.specs.Inner.{Whole, rightsIn, learnIn, bookIn, systemIn, startIn}
-use Rattle.sheet.specs.declared.desk.Desk.{Desk}
+use Rattle.lines.specs.declared.desk.Desk.{Desk}
 use Rattle.sheet.proofs.SheetQuestion.{asked-writable, asked-valid, asked-most}
 use Rattle.sheet.proofs.DeskRights.{rights-length, desk-question}
 

@@ -20,12 +20,13 @@ use Rattle.book.specs.declared.rule.Right.the-variants.{Look, Set}
 use Rattle.book.proofs.Lists.{getD-part, part-same}
 use Rattle.book.proofs.WriteLaws.{length-tables}
 use Rattle.book.proofs.RuleLaws.{place-most}
-use Rattle.sheet.specs.Sheet.{Rule, Sheet, concerns, isStated, ruleText}
-use Rattle.sheet.specs.Grammar.{RulesFit, WellFormed}
-use Rattle.sheet.specs.Answer.{TablesOf, Question}
-use Rattle.sheet.specs.Inner.{slotOf, tableIn, Slot, Holds, rightsIn, learnIn}
-use Rattle.sheet.specs.declared.desk.Desk.{Desk}
-use Rattle.sheet.proofs.HoldLaws.{nought-accepts}
+use Rattle.lines.specs.Sheet.{Rule, Sheet, concerns, isStated, ruleText}
+use Rattle.lines.specs.Grammar.{RulesFit, WellFormed}
+use Rattle.lines.specs.Desk.{TablesOf, slotOf, tableIn, Slot, Holds}
+use Rattle.sheet.specs.Answer.{Question}
+use Rattle.sheet.specs.Inner.{rightsIn, learnIn}
+use Rattle.lines.specs.declared.desk.Desk.{Desk}
+use Rattle.lines.proofs.HoldLaws.{nought-accepts}
 
 -- ---- a right that is not stated
 

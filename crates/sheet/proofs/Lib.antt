@@ -1,30 +1,7 @@
--- The laws of sheets: line by line, what the functions need; the grammar, and where 22 stands; from the desk to the question that is asked; and
--- the theorems that others cite.
-pub mod Pieces
-pub mod NameLaws
-pub mod FormLaws
-pub mod StepLaws
-pub mod HoldLaws
-pub mod DeskLaws
-pub mod LineLaws
-pub mod Turns
-pub mod RuleTurns
-pub mod ReadLaws
-pub mod Split
-pub mod WordForms
-pub mod LineForms
-pub mod LineByLine
-pub mod SoFar
-pub mod GoodLines
-pub mod Taken
-pub mod Grammar
-pub mod RefusedAt
-pub mod Place
-pub mod Examples
+-- The laws of a sheet's answer: from the desk to the question that is asked; and the theorems that others cite.
 pub mod SheetQuestion
 pub mod DeskRights
 pub mod DeskQuestion
 pub mod AnswerLaws
 pub mod OneQuestion
-pub mod Bounds
 pub mod Theorems

@@ -2,19 +2,14 @@
 -- bit by bit. So one thing alone is printed for it.
 use mathlib.Core.Path.{_≡_, sym, ap, ap₂, _∙_, subst₂}
 use mathlib.Core.Logic.{inl, inr}
-use mathlib.Core.List.{List, [], _∷_, _++_}
+use mathlib.Core.List.{List}
 use Prim.Native.Nat.{ℕ, _+_, _-_, _*_, _/_, _%_, _≤_, _<_}
 use native.Mathlib.Omega.{arith}
 use lib.ListN.{length, getD}
-use lib.Pow.{pow-mono}
 use lib.Seq.{ext-getD}
 use Rattle.ground.specs.Digits.{bit}
 use Rattle.ground.proofs.Bools.{lt-or-ge}
-use Rattle.ground.proofs.Bits.{same-bits}
 use Rattle.ground.proofs.Search.{least-unique}
-use Rattle.formula.specs.Read.{Accepts}
-use Rattle.formula.specs.declared.Answer.the-variants.{Accepted}
-use Rattle.formula.proofs.Unique.{read-unique}
 use Rattle.book.specs.Rule.{tablePlace, table}
 use Rattle.book.specs.Sound.{tablesOf}
 use Rattle.book.specs.Written.{bookOf}
@@ -25,25 +20,12 @@ use Rattle.book.proofs.RuleLaws.{place-most}
 use Rattle.plan.specs.Plans.{System, Lawful, Plan}
 use Rattle.plan.proofs.Written.{written-works, written-unique}
 use Rattle.finder.specs.Question.{systemOf, startNumber}
-use Rattle.finder.proofs.Unique.{below-power}
 use Rattle.printing.specs.Printed.{reachText, Prints}
 use Rattle.printing.proofs.Theorems.{prints-unique}
-use Rattle.sheet.specs.Sheet.{Sheet}
-use Rattle.sheet.specs.Answer.{TablesOf, Question, Tells}
-
--- ---- masks and tables
-
-mask-one : (a b : ℕ) → ((i : ℕ) → bit a i ≡ bit b i) → a ≡ b
-mask-one a b f =
-    same-bits (a + b) a b (omega (arith, below-power a, pow-mono {i = a} {j = a + b} (omega arith))) (omega (arith, below-power b, pow-mono {i = b} {j = a + b} (omega arith)))
-    (λ i h. f i)
-
-table-one : {n : ℕ} {F t u : List ℕ} → Accepts n F t → Accepts n F u → t ≡ u
-table-one {n} {F} {t} {u} a b = read-unique n F Accepted Accepted t u a b .1
-
-tables-one : (n : ℕ) (Fs : List (List ℕ)) (t u : List ℕ) → TablesOf n Fs t → TablesOf n Fs u → t ≡ u
-tables-one n [] t u a b = a ∙ sym b
-tables-one n (F ∷ Fs) t u (a, b, x, y, e) (c, d, z, w, f) = e ∙ ap₂ _++_ (table-one x z) (tables-one n Fs b d y w) ∙ sym f
+use Rattle.words.proofs.Unique.{mask-one}
+use Rattle.lines.specs.Sheet.{Sheet}
+use Rattle.lines.proofs.Unique.{table-one, tables-one}
+use Rattle.sheet.specs.Answer.{Question, Tells}
 
 -- ---- rights
 

@@ -34,10 +34,12 @@ use Rattle.finder.specs.Question.{systemOf}
 use Rattle.finder.specs.Rows.{TeamFits, KnownFits, GoalFits}
 use Rattle.finder.specs.Finds.{ValidQuestion}
 use Rattle.finder.proofs.Unique.{lawful}
-use Rattle.sheet.specs.Sheet.{Known, Sheet, member, knownSettings, knownTrue}
-use Rattle.sheet.specs.Grammar.{PostsFit, KnownFit, WellFormed}
-use Rattle.sheet.specs.Answer.{TablesOf, Question}
-use Rattle.sheet.proofs.HoldLaws.{zero-at, zero-truth}
+use Rattle.lines.specs.Sheet.{Known, Sheet, knownSettings, knownTrue}
+use Rattle.words.specs.Words.{member}
+use Rattle.lines.specs.Grammar.{PostsFit, KnownFit, WellFormed}
+use Rattle.lines.specs.Desk.{TablesOf}
+use Rattle.sheet.specs.Answer.{Question}
+use Rattle.lines.proofs.HoldLaws.{zero-at, zero-truth}
 
 -- ---- what is named
 

@@ -24,14 +24,15 @@ use Rattle.knowledge.specs.declared.act.Act.the-variants.{Set, Look}
 use Rattle.printing.specs.Decimal.{decimal}
 use Rattle.printing.specs.Printed.{line, numbered, actText, planText, cannotText, reachText, Prints}
 use Rattle.printing.proofs.Theorems.{prints-unique, refused-length, reach-length}
-use Rattle.sheet.specs.Sheet.{Sheet}
-use Rattle.sheet.specs.Reading.{Outcome, refused, stated, meaning}
-use Rattle.sheet.specs.Grammar.{WellFormed}
-use Rattle.sheet.specs.Answer.{TablesOf, Question, Tells, Prints-outcome, Answers}
-use Rattle.sheet.proofs.Taken.{stated-written}
+use Rattle.lines.specs.Sheet.{Sheet}
+use Rattle.lines.specs.Reading.{Outcome, refused, stated, meaning}
+use Rattle.lines.specs.Grammar.{WellFormed}
+use Rattle.lines.specs.Desk.{TablesOf}
+use Rattle.sheet.specs.Answer.{Question, Tells, Prints-outcome, Answers}
+use Rattle.lines.proofs.Taken.{stated-written}
 use Rattle.sheet.proofs.SheetQuestion.{tables-length, asked-lawful, asked-most}
 use Rattle.sheet.proofs.OneQuestion.{same-system, same-start, tells-one}
-use Rattle.sheet.proofs.Bounds.{Small, small-meaning}
+use Rattle.lines.proofs.Bounds.{Small, small-meaning}
 
 -- ---- any two answers that the contract allows are the same, what is left in the room included
 

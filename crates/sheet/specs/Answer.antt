@@ -2,7 +2,7 @@
 -- A sheet that is taken asks the question that a stored book would ask: the same book, the same system of plans.
 use mathlib.Core.Path.{_≡_}
 use mathlib.Core.Logic.{_⊎_}
-use mathlib.Core.List.{List, [], _∷_, _++_}
+use mathlib.Core.List.{List}
 use Prim.Native.Nat.{ℕ, _*_, _≤_, _<_}
 use lib.ListN.{length, replicate}
 use Rattle.ground.specs.Digits.{bit}
@@ -16,13 +16,10 @@ use Rattle.plan.specs.Plans.{System, Plan}
 use Rattle.plan.specs.Ranks.{Reach, Cannot, Written}
 use Rattle.finder.specs.Question.{systemOf, startNumber}
 use Rattle.printing.specs.Printed.{refusedText, cannotText, reachText, Prints}
-use Rattle.sheet.specs.Sheet.{Sheet, ruleText, member, knownSettings, knownTrue}
-use Rattle.sheet.specs.Reading.{Outcome, refused, stated, meaning}
-
--- the tables of some formulas over n settings, one after the other
-abbrev pub TablesOf : ℕ → List (List ℕ) → List ℕ → Type 0
-TablesOf n [] t = t ≡ []
-TablesOf n (F ∷ Fs) t = (a : List ℕ) × (b : List ℕ) × Accepts n F a × TablesOf n Fs b × (t ≡ a ++ b)
+use Rattle.lines.specs.Sheet.{Sheet, ruleText, knownSettings, knownTrue}
+use Rattle.words.specs.Words.{member}
+use Rattle.lines.specs.Reading.{Outcome, refused, stated, meaning}
+use Rattle.lines.specs.Desk.{TablesOf}
 
 -- the question that a sheet asks: "Every rule and goal is worked on as a table", and a mask has a bit for each post or setting that is named
 pub record Question (sheet : Sheet) (rights make learn : List ℕ) (team known values : ℕ) : Type 0 where

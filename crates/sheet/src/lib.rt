@@ -2,16 +2,10 @@
 // whole is answered by the first of its faults, with the number and the line. Nothing is refused: a
 // room shorter than the answer holds as much of it as fits.
 mod asking;
-mod desk;
-mod lines;
-mod names;
-mod reading;
-mod rules;
-mod words;
 
 use asking::ask;
-use reading::Told;
-use reading::read;
+use lines::Told;
+use lines::read;
 ghost use Rattle.sheet.specs.Answer.{Answers};
 
 // The most bytes that an answer has: 10 for `reach` and a height of up to three digits, and 14 for each of

@@ -1,0 +1,37 @@
+-- The contract of `marks_of` settles its answer: words are names or not, and masks with the same bits are the same number.
+use mathlib.Core.Path.{_≡_, refl, sym, ap, ap₂, _∙_}
+use mathlib.Core.Bool.{Bool, true, false}
+use mathlib.Core.List.{List}
+use Prim.Native.Nat.{ℕ, zero, suc, _+_, _^_, _<_}
+use native.Mathlib.Omega.{arith}
+use lib.Dec.{lit<}
+use native.Mathlib.Nat.{two-pow-succ}
+use lib.Pow.{pow-mono}
+use Rattle.ground.specs.Digits.{bit}
+use Rattle.ground.proofs.Bits.{same-bits}
+use Rattle.words.specs.Marks.{Marked, Names}
+use Rattle.words.specs.declared.names.Marks.{Marks}
+use Rattle.words.specs.declared.names.Naming.{Naming}
+use Rattle.words.specs.declared.names.Naming.the-variants.{Stray, Of}
+
+below-power : (x : ℕ) → x < 2 ^ x
+below-power zero = lit< tt
+below-power (suc x) = rw two-pow-succ (omega (arith, below-power x))
+
+pub mask-one : (a b : ℕ) → ((i : ℕ) → bit a i ≡ bit b i) → a ≡ b
+mask-one a b f =
+    same-bits (a + b) a b (omega (arith, below-power a, pow-mono {i = a} {j = a + b} (omega arith))) (omega (arith, below-power b, pow-mono {i = b} {j = a + b} (omega arith)))
+    (λ i h. f i)
+
+abbrev made : ℕ → ℕ → Bool → Marks
+made named values twice = record { named = named; values = values; twice = twice }
+
+module _ (first : ℕ) (words : List (List ℕ)) where
+  marks-one : (m k : Marks) → Marked first words m → Marked first words k → m ≡ k
+  marks-one m k p q =
+      ap₂ (λ (a b : ℕ). made a b (m .twice)) (mask-one (m .named) (k .named) (λ j. p .named j ∙ sym (q .named j))) (mask-one (m .values) (k .values) (λ j. p .values j ∙ sym (q .values j)))
+      ∙ ap (made (k .named) (k .values)) (p .again ∙ sym (q .again))
+
+  pub names-one : (are : Bool) (x y : Naming) → Names are first words x → Names are first words y → x ≡ y
+  names-one true (Of m) (Of k) p q = ap Of (marks-one m k p q)
+  names-one false Stray Stray p q = refl
