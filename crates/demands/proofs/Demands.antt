@@ -13,7 +13,7 @@ use Rattle.formula.specs.declared.Answer.{Answer as FormulaAnswer}
 use Rattle.formula.specs.declared.Answer.the-variants.{Refused as NoFormula}
 use Rattle.formula.specs.declared.Refusal.{Refusal as FormulaRefusal}
 use Rattle.formula.proofs.Unique.{read-unique}
-use Rattle.book.specs.Order.{First}
+use Rattle.ground.specs.Order.{First}
 use Rattle.book.specs.Refusals.{readRows, writeRows, number as book-number, place as book-place}
 use Rattle.book.specs.Promise.{Reads as BookRead, Writes as BookWritten}
 use Rattle.book.specs.declared.refusal.Refusal.{Refusal as BookRefusal}
@@ -26,12 +26,13 @@ use Rattle.plan.specs.Plans.{Plan, Permitted, Works, height}
 use Rattle.plan.specs.Bytes.{encode}
 use Rattle.plan.specs.Secret.{Twins}
 use Rattle.sides.specs.Over.{learnCount, learnTable}
-use Rattle.finder.specs.Rows.{number, place, findRows}
-use Rattle.finder.specs.Question.{startNumber, NoMaking}
-use Rattle.finder.specs.Finds.{ValidQuestion, RanksFilled, Finds}
-use Rattle.finder.specs.declared.question.Refusal.the-variants.{PlanRoom}
-use Rattle.finder.specs.declared.question.Question.{Question}
-use Rattle.finder.specs.declared.question.Refusal.{Refusal}
+use Rattle.question.specs.Rows.{number, place}
+use Rattle.question.specs.Question.{startNumber, NoMaking}
+use Rattle.question.specs.Asks.{ValidQuestion}
+use Rattle.finder.specs.Finds.{RanksFilled, Finds, findRows}
+use Rattle.question.specs.declared.Refusal.the-variants.{PlanRoom}
+use Rattle.question.specs.declared.Question.{Question}
+use Rattle.question.specs.declared.Refusal.{Refusal}
 use Rattle.finder.specs.declared.finding.Answer.{Answer}
 use Rattle.finder.specs.declared.finding.Answer.the-variants.{Reach, Cannot, Refused}
 use Rattle.finder.proofs.Unique.{find-unique, find-refused, find-ranks}

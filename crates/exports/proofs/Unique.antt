@@ -6,7 +6,7 @@ use Prim.Native.Nat.{ℕ}
 use Rattle.formula.specs.declared.Answer.{Answer}
 use Rattle.formula.proofs.Unique.{read-unique}
 use Rattle.book.proofs.Theorems.{reads-one, writes-one}
-use Rattle.finder.specs.declared.question.Question.{Question}
+use Rattle.question.specs.declared.Question.{Question}
 use Rattle.finder.proofs.Unique.{find-unique}
 use Rattle.plancheck.proofs.OneAnswer.{checks-one}
 use Rattle.exports.specs.Find.{found, PlanFound}

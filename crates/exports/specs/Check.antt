@@ -2,7 +2,7 @@
 use mathlib.Core.Path.{_≡_}
 use mathlib.Core.List.{List}
 use Prim.Native.Nat.{ℕ}
-use Rattle.finder.specs.declared.question.Question.{Question}
+use Rattle.question.specs.declared.Question.{Question}
 use Rattle.plancheck.specs.Checks.{Checks}
 use Rattle.plancheck.specs.Refusals.{number, place}
 use Rattle.plancheck.specs.declared.answer.CheckAnswer.{CheckAnswer}

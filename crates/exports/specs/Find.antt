@@ -3,10 +3,10 @@ use mathlib.Core.Path.{_≡_}
 use mathlib.Core.List.{List}
 use Prim.Native.Nat.{ℕ, _+_, _*_, _^_}
 use Rattle.finder.specs.Finds.{Finds}
-use Rattle.finder.specs.Rows.{number, place}
+use Rattle.question.specs.Rows.{number, place}
 use Rattle.finder.specs.declared.finding.Answer.{Answer}
 use Rattle.finder.specs.declared.finding.Answer.the-variants.{Reach, Cannot, Refused}
-use Rattle.finder.specs.declared.question.Question.{Question}
+use Rattle.question.specs.declared.Question.{Question}
 use Rattle.exports.specs.Packed.{packed}
 
 -- "team: bit q for post index q. known: bit i for setting i; values: bit i where it is known true"

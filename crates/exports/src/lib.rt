@@ -12,9 +12,9 @@ ghost use Rattle.sheet.specs.Answer.{Answers};
 use book::ReadAnswer;
 use book::WriteAnswer;
 use finder::Answer as Found;
-use finder::Question;
 use formula::Answer;
 use plancheck::CheckAnswer;
+use question::Question;
 
 // The table of a formula. 0, or a refusal, which leaves the 16 bytes as they were.
 #[no_mangle]

@@ -40,7 +40,7 @@ nought-clean n (suc j) (l, t) = omega arith
 pub nought-accepts : (n : ℕ) → 1 ≤ n → n ≤ 7 → Accepts n (bytes "0") (replicate 16 0)
 unfolding Within text meaning
 nought-accepts n h k = record {
-  settings = (h, k);
+  settings = record { least = h; most = k };
   size = (lit≤ tt, lit≤ tt);
   clean = nought-clean n;
   parsed = record { sentence = one-product (one-unit nought); written = refl };

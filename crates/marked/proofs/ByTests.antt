@@ -25,7 +25,7 @@ use Rattle.plan.proofs.States.{elem}
 use Rattle.plan.proofs.Sample.{entry, ranked, writes, sample-rank, sample-written}
 use Rattle.plan.proofs.Trap.{trap, trapped}
 use Rattle.sides.specs.Over.{learnTable, allSettled}
-use Rattle.finder.specs.Question.{settled, systemOf, startNumber}
+use Rattle.question.specs.Question.{goalSettled, systemOf, startNumber}
 use Rattle.marked.specs.Row.{Case, Holds, reaches, cannot}
 use Rattle.marked.proofs.Valid.{Well, well, tested, valid, every, pick}
 use Rattle.marked.proofs.OneAnswer.{systemFor, startFor, law, answers, one-reach, one-cannot, all-ranks}
@@ -39,7 +39,7 @@ least-from S k h p (inr n) w = absurd (n .1 p (written-works S p k w))
 
 -- it is valid, and its start is one of the states (who names it on an `unfolding` line unfolds all of a question, so that its tests compute)
 unfoldable pub starts : Case → List ℕ → Bool
-unfolding well startNumber sumOf firstAt firstDigit elem systemOf settled allSettled learnTable offered permitted known learnSettled always fits agrees startOf nowOf afterSet afterLook setTo lookAt digit put bit truth all rule rulePlace tablePlace byteOf bookOf headBlock settingBlocks settingBlock sealed bytes16 inOrder tablesOf
+unfolding well startNumber sumOf firstAt firstDigit elem systemOf goalSettled allSettled learnTable offered permitted known learnSettled always fits agrees startOf nowOf afterSet afterLook setTo lookAt digit put bit truth all rule rulePlace tablePlace byteOf bookOf headBlock settingBlocks settingBlock sealed bytes16 inOrder tablesOf
 starts c states = well c && elem (startFor c) states
 
 module _ (c : Case) (states : List ℕ) (t : T (starts c states)) where

@@ -11,8 +11,8 @@ use lib.Seq.{getD-set-same, getD-set-other}
 use Rattle.ground.specs.Search.{Least}
 use Rattle.ground.proofs.Bools.{lt-or-ge}
 use Rattle.ground.proofs.Search.{least-unique}
-use Rattle.book.specs.Order.{Clear}
-use Rattle.book.proofs.OrderLaws.{first-clear, clear-append, none-only}
+use Rattle.ground.specs.Order.{Clear}
+use Rattle.ground.proofs.OrderLaws.{first-clear, clear-append, none-only}
 use Rattle.book.proofs.SoundLaws.{sound-settings}
 use Rattle.book.proofs.Theorems.{sound-one}
 use Rattle.plan.specs.Plans.{System, Lawful, Plan}
@@ -21,13 +21,13 @@ use Rattle.plan.specs.Bytes.{encode}
 use Rattle.plan.proofs.Ranks.{has-rank}
 use Rattle.plan.proofs.Written.{written-works, written-unique}
 use Rattle.plan.proofs.Team.{team-lawful}
-use Rattle.finder.specs.Question.{settled, systemOf, startNumber}
-use Rattle.finder.specs.Rows.{number, place, findRows, questionRows}
-use Rattle.finder.specs.Finds.{RanksFilled, Answers, Finds}
-use Rattle.finder.specs.declared.question.Refusal.the-variants.{Book, Team, Known, Goal, Ranks, PlanRoom}
+use Rattle.question.specs.Question.{goalSettled, systemOf, startNumber}
+use Rattle.question.specs.Rows.{number, place, questionRows}
+use Rattle.finder.specs.Finds.{RanksFilled, Answers, Finds, findRows}
+use Rattle.question.specs.declared.Refusal.the-variants.{Book, Team, Known, Goal, Ranks, PlanRoom}
 use Rattle.finder.specs.declared.finding.Answer.{Answer}
 use Rattle.finder.specs.declared.finding.Answer.the-variants.{Reach, Cannot, Refused}
-use Rattle.finder.proofs.RowLaws.{question-clear}
+use Rattle.question.proofs.RowLaws.{question-clear}
 use Rattle.marked.specs.Row.{Case, bookFor, first, tables}
 use Rattle.marked.proofs.Valid.{Well, Valid}
 
@@ -40,7 +40,7 @@ startFor c = startNumber (c .asked .known) (c .asked .values)
 pub law : (c : Case) → Well c → Lawful (c .n) (systemFor c)
 unfolding systemOf
 law c w =
-    team-lawful (c .n) (bookFor c) (c .asked .team) (settled (c .n) (first (c .make)) (tables (c .learn)))
+    team-lawful (c .n) (bookFor c) (c .asked .team) (goalSettled (c .n) (first (c .make)) (tables (c .learn)))
     (omega (arith, w .team, pow-mono {i = c .m} {j = 8} (w .few-posts)))
 
 clear : (c : Case) → Valid c → (ranks : List ℕ) → 7 ^ (c .n) ≤ length ranks

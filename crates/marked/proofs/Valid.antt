@@ -23,8 +23,8 @@ use Rattle.book.proofs.RuleLaws.{place-most}
 use Rattle.book.proofs.WriteLaws.{length-tables}
 use Rattle.book.proofs.RoundTrip.{written-sound}
 use Rattle.sides.specs.Over.{learnTable}
-use Rattle.finder.specs.Finds.{ValidQuestion}
-use Rattle.finder.proofs.QuestionLaws.{bits-low}
+use Rattle.question.specs.Asks.{ValidQuestion}
+use Rattle.question.proofs.QuestionLaws.{bits-low}
 use Rattle.marked.specs.Row.{Case, bookFor, first, tables}
 
 -- no bit past 2^n

@@ -10,7 +10,7 @@ use Rattle.book.specs.Block.{check}
 use Rattle.book.specs.Written.{bookOf}
 use Rattle.book.specs.declared.sums.Sums.{Sums}
 use Rattle.finder.specs.Finds.{Finds}
-use Rattle.finder.specs.declared.question.Question.{Question}
+use Rattle.question.specs.declared.Question.{Question}
 use Rattle.finder.specs.declared.finding.Answer as F
 use Rattle.finder.specs.declared.finding.Answer.the-variants.{Reach, Cannot}
 use Rattle.plancheck.specs.Checks.{Checks}

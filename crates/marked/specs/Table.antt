@@ -4,7 +4,7 @@ use mathlib.Core.List.{List, [], _∷_, _++_}
 use Prim.Native.Nat.{ℕ}
 use Prim.Native.String.{String}
 use lib.ListN.{replicate}
-use Rattle.finder.specs.declared.question.Question.{Question}
+use Rattle.question.specs.declared.Question.{Question}
 use Rattle.marked.specs.Row.{Row, Case, reads, refuses, sums, reaches, cannot, faults, prints}
 
 -- the rules of one setting: look and set for post 1, and for post 2

@@ -4,7 +4,7 @@ use mathlib.Core.List.{List}
 use Prim.Native.Nat.{ℕ}
 use Rattle.book.specs.Written.{bookOf}
 use Rattle.plan.specs.Plans.{System}
-use Rattle.finder.specs.Question.{systemOf}
+use Rattle.question.specs.Question.{systemOf}
 use Rattle.printing.specs.Printed.{refusedText, Prints}
 use Rattle.lines.specs.Reading.{Outcome, refused, stated, meaning}
 use Rattle.sheet.specs.Answer.{Tells, Prints-outcome, Answers}

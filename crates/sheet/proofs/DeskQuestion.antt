@@ -13,7 +13,7 @@ use Rattle.book.specs.Written.{bookOf, Writable}
 use Rattle.book.specs.Promise.{Writes}
 use Rattle.book.specs.declared.writing.WriteAnswer.{WriteAnswer}
 use Rattle.book.specs.declared.writing.WriteAnswer.the-variants.{Written as BookWritten}
-use Rattle.book.proofs.OrderLaws.{first-clear}
+use Rattle.ground.proofs.OrderLaws.{first-clear}
 use Rattle.book.proofs.SoundLaws.{length-book}
 use Rattle.book.proofs.Theorems.{sound-one, writes-one}
 use Rattle.plan.specs.Plans.{Lawful, Plan}
@@ -21,15 +21,17 @@ use Rattle.plan.specs.Ranks.{Written}
 use Rattle.plan.specs.Bytes.{encode}
 use Rattle.plan.proofs.Size.{works-permitted}
 use Rattle.plan.proofs.Written.{written-works}
-use Rattle.finder.specs.Question.{systemOf, startNumber}
-use Rattle.finder.specs.Rows.{number, place, findRows}
-use Rattle.finder.specs.Finds.{ValidQuestion, Answers, Finds}
-use Rattle.finder.specs.declared.question.Question.{Question as Asking}
-use Rattle.finder.specs.declared.question.Refusal.{Refusal}
-use Rattle.finder.specs.declared.question.Refusal.the-variants.{Book, Team, Known, Goal, Ranks, PlanRoom}
+use Rattle.question.specs.Question.{systemOf, startNumber}
+use Rattle.question.specs.Rows.{number, place}
+use Rattle.question.specs.Asks.{ValidQuestion}
+use Rattle.finder.specs.Finds.{Answers, Finds, findRows}
+use Rattle.question.specs.declared.Question.{Question as Asking}
+use Rattle.question.specs.declared.Refusal.{Refusal}
+use Rattle.question.specs.declared.Refusal.the-variants.{Book, Team, Known, Goal, Ranks, PlanRoom}
 use Rattle.finder.specs.declared.finding.Answer.{Answer}
 use Rattle.finder.specs.declared.finding.Answer.the-variants.{Reach, Cannot, Refused}
-use Rattle.finder.proofs.Unique.{lawful, find-clear}
+use Rattle.question.proofs.Unique.{lawful}
+use Rattle.finder.proofs.Unique.{find-clear}
 use Rattle.printing.specs.Printed.{cannotText, reachText, Lettered, Prints}
 use Rattle.printing.proofs.Theorems.{permitted-lettered}
 use Rattle.sheet.specs.Answer.{Question, Tells}

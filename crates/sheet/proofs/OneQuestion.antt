@@ -19,7 +19,7 @@ use Rattle.book.proofs.Lists.{getD-part}
 use Rattle.book.proofs.RuleLaws.{place-most}
 use Rattle.plan.specs.Plans.{System, Lawful, Plan}
 use Rattle.plan.proofs.Written.{written-works, written-unique}
-use Rattle.finder.specs.Question.{systemOf, startNumber}
+use Rattle.question.specs.Question.{systemOf, startNumber}
 use Rattle.printing.specs.Printed.{reachText, Prints}
 use Rattle.printing.proofs.Theorems.{prints-unique}
 use Rattle.words.proofs.Unique.{mask-one}

@@ -30,10 +30,10 @@ use Rattle.plan.proofs.Ranks.{has-rank, rank-reach, rank-most}
 use Rattle.plan.proofs.Written.{written-works, written-height}
 use Rattle.plan.proofs.Accepted.{written-size}
 use Rattle.sides.specs.Over.{learnTable}
-use Rattle.finder.specs.Question.{systemOf}
-use Rattle.finder.specs.Rows.{TeamFits, KnownFits, GoalFits}
-use Rattle.finder.specs.Finds.{ValidQuestion}
-use Rattle.finder.proofs.Unique.{lawful}
+use Rattle.question.specs.Question.{systemOf}
+use Rattle.question.specs.Rows.{TeamFits, KnownFits, GoalFits}
+use Rattle.question.specs.Asks.{ValidQuestion}
+use Rattle.question.proofs.Unique.{lawful}
 use Rattle.lines.specs.Sheet.{Known, Sheet, knownSettings, knownTrue}
 use Rattle.words.specs.Words.{member}
 use Rattle.lines.specs.Grammar.{PostsFit, KnownFit, WellFormed}

@@ -18,7 +18,7 @@ use Rattle.plan.proofs.Ranks.{rank-least}
 use Rattle.plan.proofs.Written.{written-works, written-height}
 use Rattle.plan.proofs.Secret.{secret}
 use Rattle.sides.specs.Over.{learnTable}
-use Rattle.finder.specs.Question.{systemOf, startNumber, NoMaking}
+use Rattle.question.specs.Question.{systemOf, startNumber, NoMaking}
 use Rattle.finder.proofs.Theorems.{enough}
 use Rattle.knowledge.specs.declared.act.Act.the-variants.{Set, Look}
 use Rattle.printing.specs.Decimal.{decimal}

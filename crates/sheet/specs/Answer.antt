@@ -14,7 +14,7 @@ use Rattle.book.specs.Sound.{tablesOf}
 use Rattle.book.specs.Written.{bookOf}
 use Rattle.plan.specs.Plans.{System, Plan}
 use Rattle.plan.specs.Ranks.{Reach, Cannot, Written}
-use Rattle.finder.specs.Question.{systemOf, startNumber}
+use Rattle.question.specs.Question.{systemOf, startNumber}
 use Rattle.printing.specs.Printed.{refusedText, cannotText, reachText, Prints}
 use Rattle.lines.specs.Sheet.{Sheet, ruleText, knownSettings, knownTrue}
 use Rattle.words.specs.Words.{member}

@@ -4,7 +4,7 @@ use Prim.Native.Nat.{ℕ, _*_}
 use lib.ListN.{take}
 use Rattle.book.specs.Written.{bookOf}
 use Rattle.plan.specs.Plans.{System}
-use Rattle.finder.specs.Question.{systemOf, startNumber}
+use Rattle.question.specs.Question.{systemOf, startNumber}
 use Rattle.lines.specs.Sheet.{Sheet}
 use Rattle.lines.specs.Grammar.{WellFormed}
 use Rattle.lines.specs.Desk.{Holds}

@@ -5,7 +5,7 @@ use mathlib.Core.Bool.{Bool, true, false, not, _&&_, _||_, cond, Bool·beq}
 use mathlib.Core.List.{List, [], _∷_}
 use Prim.Native.Nat.{ℕ, suc, _+_, _-_, _*_, _%_, _^_, _≤_, _<_}
 use native.Mathlib.Omega.{arith}
-use native.Mathlib.Nat.{one-mul}
+use native.Mathlib.Nat.{one-mul, le-refl}
 use lib.Dec.{T, eqb, leb, ltb, leb→le, ltb→lt, lit<}
 use lib.Bits.{bitOr}
 use lib.Pow.{pow-lt, shl-exact}
@@ -16,7 +16,7 @@ use Rattle.ground.specs.Digits.{bit, digit}
 use Rattle.ground.specs.Search.{all}
 use Rattle.ground.proofs.Bools.{and-left, and-right, lt-or-ge, beq→eq}
 use Rattle.ground.proofs.Search.{all-at}
-use Rattle.knowledge.proofs.Bytes.{bit-above}
+use Rattle.ground.proofs.HighBits.{high-bit}
 use Rattle.ground.proofs.Bits.{bit-or, bit-of-zero}
 use Rattle.words.specs.Words.{member, split, space, isFalse, bare, among, isName, allNames, indexOf, indexes, twice, trueIndexes}
 use Rattle.words.proofs.Pieces.{part, PieceEnd}
@@ -53,7 +53,7 @@ one-bit : (i j : ℕ) → i < 8 → bit (2 ^ i) j ≡ eqb i j
 unfolding all bit digit one-bit-test
 one-bit i j h = elim (lt-or-ge j 8) [
   | inl k ↦ beq→eq (bit (2 ^ i) j) (eqb i j) (all-at 8 (λ j. Bool·beq (bit (2 ^ i) j) (eqb i j)) (all-at 8 one-bit-test tt i h) j k)
-  | inr k ↦ bit-above (2 ^ i) j (pow-lt {i = i} {j = j} (omega arith)) ∙ sym (ne-eqb i j (λ e. omega arith))
+  | inr k ↦ high-bit (2 ^ i) j j (pow-lt {i = i} {j = j} (omega arith)) (le-refl j) ∙ sym (ne-eqb i j (λ e. omega arith))
 ]
 
 pub with-bit : (byte i j : ℕ) → i < 8 → bit (bitOr byte ((1 * 2 ^ i) % 256)) j ≡ (bit byte j || eqb i j)

@@ -7,15 +7,7 @@ pub use names::Marks;
 pub use names::Naming;
 pub use names::marks_of;
 ghost use mathlib.Core.Path.{_≡_};
-ghost use lib.ListN.{getD};
 ghost use Rattle.words.specs.Words.{pieceEnd, begins, among};
-
-// The byte at a place, 0 past the end.
-pub fn peek(text: &[u8], at: usize) -> u8
-    ensures { λ r. ⌜ r ≡ getD (now (text .entry)) at 0 ⌝ }
-{
-    if at < text.len() { text[at] } else { 0 }
-}
 
 // Where the piece that begins at `at` ends: the place of the next mark, or the text's end; `at` itself
 // where that is past the end.

@@ -1,8 +1,8 @@
 // The words after `team` and `known`: each names a post or a setting, which may have `~` in front.
 use crate::among;
-use crate::peek;
 use crate::piece_end;
-use knowledge::bit_of;
+use ground::bit_of;
+use ground::peek;
 ghost use mathlib.Core.Path.{_≡_};
 ghost use mathlib.Core.Bool.{Bool, _&&_, _||_};
 ghost use Prim.Native.Nat.{ℕ, _<_};

@@ -5,7 +5,8 @@ use Rattle.exports.specs.Packed.{packed}
 use Rattle.exports.specs.Find.{asked, found}
 use Rattle.finder.specs.Finds.{Finds}
 use Rattle.finder.specs.declared.finding.Answer.{Answer}
-use Rattle.finder.proofs.Small.{number-small, place-small, plan-fits}
+use Rattle.question.proofs.Small.{number-small}
+use Rattle.finder.proofs.Small.{place-small, plan-fits}
 use borrow.Author.Needs.{needs}
 use Rattle.exports.proofs.pj_find.Statement.{statement}
 use Rattle.exports.proofs.pj_find.Tie as tie
