@@ -1,6 +1,7 @@
 -- The three demands, each said of what the public functions' contracts allow. The functions have no `requires`: they take every input there is,
--- and the gate proves that each returns and meets its contract. The contracts are `Formula` (of `formula::read`), `BookRead` and `BookWritten` (of
+-- and the gate proves that each returns and meets its contract. The contracts are `Formula` (of `formula::read`), `ReadsBook` and `WritesBook` (of
 -- `book::read` and `write`), `Finds` (of `finder::find`), `Checks` (of `plancheck::check`) and `Answers` (of `sheet::answer`).
+use denote.Ref.{now}
 use mathlib.Core.Path.{_≡_, subst}
 use mathlib.Core.Logic.{_⊎_, _↔_}
 use mathlib.Core.List.{List, [], _∷_, _++_}
@@ -15,7 +16,7 @@ use Rattle.formula.specs.declared.Refusal.{Refusal as FormulaRefusal}
 use Rattle.formula.proofs.Unique.{read-unique}
 use Rattle.ground.specs.Order.{First}
 use Rattle.book.specs.Refusals.{readRows, writeRows, number as book-number, place as book-place}
-use Rattle.book.specs.Promise.{Reads as BookRead, Writes as BookWritten}
+use Rattle.book.specs.Promise.{Reads as ReadsBook, Writes as WritesBook}
 use Rattle.book.specs.declared.refusal.Refusal.{Refusal as BookRefusal}
 use Rattle.book.specs.declared.reading.ReadAnswer.{ReadAnswer}
 use Rattle.book.specs.declared.reading.ReadAnswer.the-variants.{Book, Refused as NoBook}
@@ -23,6 +24,7 @@ use Rattle.book.specs.declared.writing.WriteAnswer.{WriteAnswer}
 use Rattle.book.specs.declared.writing.WriteAnswer.the-variants.{Written, Refused as NotWritten}
 use Rattle.book.proofs.Theorems.{reads-one, writes-one, read-then-write, write-then-read}
 use Rattle.plan.specs.Plans.{Plan, Permitted, Works, height}
+use Rattle.plan.specs.Ranks.{Written as WrittenFrom}
 use Rattle.plan.specs.Bytes.{encode}
 use Rattle.plan.specs.Secret.{Twins}
 use Rattle.sides.specs.Over.{learnCount, learnTable}
@@ -49,7 +51,7 @@ use Rattle.lines.specs.Sheet.{Sheet}
 use Rattle.lines.specs.Reading.{Outcome, meaning, refused, stated}
 use Rattle.lines.specs.Place.{MalformedAt}
 use Rattle.sheet.specs.Answer.{Prints-outcome, Answers}
-use Rattle.lines.proofs.Place.{malformed-line}
+use Rattle.lines.proofs.Place.{malformed-line, malformed-refused}
 use Rattle.sheet.specs.Answer as Sheet
 use Rattle.sheet.proofs.Theorems.{System-for, answer-unique, answer-most, reach-printed, cannot-printed}
 use Rattle.sheet.proofs.Theorems as Printed
@@ -67,10 +69,10 @@ use Rattle.sheet.proofs.answer.Reads as answer-contract
 pub one-formula : (n : ℕ) (s : List ℕ) (a b : FormulaAnswer) (t u : List ℕ) → Formula n s a t → Formula n s b u → (a ≡ b) × (t ≡ u)
 one-formula = read-unique
 
-pub one-book-read : (book room : List ℕ) (a b : ReadAnswer) (x y : List ℕ) → BookRead book room a x → BookRead book room b y → (a ≡ b) × (x ≡ y)
+pub one-book-read : (book room : List ℕ) (a b : ReadAnswer) (x y : List ℕ) → ReadsBook book room a x → ReadsBook book room b y → (a ≡ b) × (x ≡ y)
 one-book-read = reads-one
 
-pub one-book-written : (n m : ℕ) (rights room : List ℕ) (a b : WriteAnswer) (x y : List ℕ) → BookWritten n m rights room a x → BookWritten n m rights room b y → (a ≡ b) × (x ≡ y)
+pub one-book-written : (n m : ℕ) (rights room : List ℕ) (a b : WriteAnswer) (x y : List ℕ) → WritesBook n m rights room a x → WritesBook n m rights room b y → (a ≡ b) × (x ≡ y)
 one-book-written = writes-one
 
 pub one-answer : (book : List ℕ) (q : Question) (make learn ranks plan : List ℕ) (a b : Answer) (r s x y : List ℕ)
@@ -84,38 +86,45 @@ pub one-sheet-answer : (s old : List ℕ) (r r′ : ℕ) (new new′ : List ℕ)
 one-sheet-answer = answer-unique
 
 -- "in the written order", with number and place, and what it leaves: a formula's refusal is `Refuses`, whose cases deny those before them, with zeros
--- beside it; a book's, rights' and a question's is the `First` of its rows, and leaves the rooms as they were, but for 14, which fills the ranks
+-- beside it; a book's, rights' and a question's is the `First` of its rows, and leaves the rooms as they were; 14 is given to a
+-- valid question whose plan does not fit, and fills the ranks
 pub refused-formula : (n : ℕ) (s : List ℕ) (r : FormulaRefusal) (t : List ℕ) → Formula n s (NoFormula r) t → Refuses n s (formula-number r) (formula-place r) × (t ≡ replicate 16 0)
 refused-formula n s r t x = x
 
-pub refused-book : (book room : List ℕ) (r : BookRefusal) (after : List ℕ) → BookRead book room (NoBook r) after
+pub refused-book : (book room : List ℕ) (r : BookRefusal) (after : List ℕ) → ReadsBook book room (NoBook r) after
     → First (readRows book room) (book-number r) (book-place r) × (after ≡ room)
 refused-book book room r after x = x
 
-pub refused-rights : (n m : ℕ) (rights room : List ℕ) (r : BookRefusal) (after : List ℕ) → BookWritten n m rights room (NotWritten r) after
+pub refused-rights : (n m : ℕ) (rights room : List ℕ) (r : BookRefusal) (after : List ℕ) → WritesBook n m rights room (NotWritten r) after
     → First (writeRows n m rights room) (book-number r) (book-place r) × (after ≡ room)
 refused-rights n m rights room r after x = x
 
 pub refused-question : (book : List ℕ) (q : Question) (make learn ranks plan : List ℕ) (w : Refusal) (r x : List ℕ) → Finds book q make learn ranks plan (Refused w) r x
     → (x ≡ plan) × ((First (findRows book (q .team) (q .known) (q .values) make learn ranks) (number w) (place w) × (r ≡ ranks))
-    ⊎ ((w ≡ PlanRoom) × ((n : ℕ) × RanksFilled n (System-of book q make learn n) ranks r)))
+    ⊎ ((w ≡ PlanRoom) × ((n : ℕ) × (m : ℕ) × ValidQuestion book q make learn n m × (7 ^ n ≤ length ranks) × RanksFilled n (System-of book q make learn n) ranks r
+    × ((p : Plan) × WrittenFrom (System-of book q make learn n) (Start-of q) p × (length plan < length (encode p))))))
 refused-question = find-refused
 
 pub refused-plan : (book : List ℕ) (q : Question) (make learn plan : List ℕ) (r : CheckRefusal) → Checks book q make learn plan (NotAccepted r)
     → CheckRefuses book q make learn plan (check-number r) (check-place r)
 refused-plan book q make learn plan r x = x
 
--- a sheet's is printed; 22 and its line are told by the grammar alone, and the formula's number is the one that `formula::read` answers
+-- a sheet's is printed; 22 and its line are told by the grammar alone, unless an earlier line is refused for something else; and the formula's number is the one that `formula::read` answers
 pub refused-sheet : (s old : List ℕ) (r : ℕ) (new : List ℕ) (x L : ℕ) → meaning s ≡ refused x L → Answers s old r new → Prints old (refusedText x L) r new
 refused-sheet s old r new x L m a = subst (λ (o : Outcome). Prints-outcome o old r new) m a
 
 pub malformed : (s : List ℕ) (L : ℕ) → meaning s ≡ refused 22 L → MalformedAt s L
 malformed = malformed-line
 
+pub malformed-where : (s : List ℕ) (L : ℕ) → MalformedAt s L
+    → (meaning s ≡ refused 22 L) ⊎ ((x : ℕ) × (p : ℕ) × (meaning s ≡ refused x p) × (x ≡ 22 → ⊥) × (p < L))
+malformed-where = malformed-refused
+
 pub sheet-formula : (n : ℕ) (F : List ℕ) (a : FormulaAnswer) (t : List ℕ) → Formula n F a t → formulaNumber n F ≡ numberIn a
 sheet-formula = read-number
 
--- "After success, "cannot" or 14 the first 7^n bytes of the rank table hold all ranks"
+-- "After success, "cannot" or 14 the first 7^n bytes of the rank table hold all ranks"; what "cannot" and 14 leave in the plan room is in `cannot` and
+-- `refused-question`
 pub ranks-filled : (book : List ℕ) (q : Question) (make learn ranks plan : List ℕ) {n m : ℕ} (a : Answer) (r x : List ℕ) → ValidQuestion book q make learn n m → 7 ^ n ≤ length ranks
     → Finds book q make learn ranks plan a r x → RanksFilled n (System-of book q make learn n) ranks r
 ranks-filled = find-ranks
@@ -142,7 +151,7 @@ module _ (book : List ℕ) (q : Question) (make learn ranks plan : List ℕ) (r 
       → (p : Plan) → WorksFor book q make learn n p → Finds book q make learn ranks plan a r x → (h : ℕ) × (size : ℕ) × (a ≡ Reach h size)
   reach-where = works-reach book q make learn ranks plan r x
 
-  pub cannot : Finds book q make learn ranks plan Cannot r x → (n : ℕ) × (m : ℕ) × ValidQuestion book q make learn n m × ((p : Plan) → WorksFor book q make learn n p → ⊥)
+  pub cannot : Finds book q make learn ranks plan Cannot r x → (n : ℕ) × (m : ℕ) × ValidQuestion book q make learn n m × ((p : Plan) → WorksFor book q make learn n p → ⊥) × (x ≡ plan)
   cannot = cannot-none book q make learn ranks plan r x
 
   pub cannot-where : {n m : ℕ} (a : Answer) → ValidQuestion book q make learn n m → 7 ^ n ≤ length ranks
@@ -156,12 +165,12 @@ check book q make learn plan v a c = yes-exact v plan a c
 -- "A book read and written back is the same bytes; rights written and read back are the same rights."
 -- (`getD book j 0 < 256`: a list of numbers stands for bytes)
 pub book-again : (book room after out : List ℕ) (n m : ℕ) (answer : WriteAnswer) (out′ : List ℕ) → ((j : ℕ) → getD book j 0 < 256)
-    → BookRead book room (Book n m) after → BookWritten n m (take (256 * n) after) out answer out′ → 512 * (1 + n) ≤ length out
+    → ReadsBook book room (Book n m) after → WritesBook n m (take (256 * n) after) out answer out′ → 512 * (1 + n) ≤ length out
     → (answer ≡ Written) × (out′ ≡ book ++ drop (512 * (1 + n)) out)
 book-again = read-then-write
 
 pub rights-again : (n m : ℕ) (rights room after out : List ℕ) (answer : ReadAnswer) (out′ : List ℕ)
-    → BookWritten n m rights room Written after → BookRead (take (512 * (1 + n)) after) out answer out′ → 256 * n ≤ length out
+    → WritesBook n m rights room Written after → ReadsBook (take (512 * (1 + n)) after) out answer out′ → 256 * n ≤ length out
     → (answer ≡ Book n m) × (out′ ≡ rights ++ drop (256 * n) out)
 rights-again = write-then-read
 
@@ -196,22 +205,27 @@ module _ (s old : List ℕ) (r : ℕ) (new : List ℕ) {sheet : Sheet} {rights m
       → (t : List ℕ) × Accepts (sheet .settings) F t × Twins (sheet .settings) t (startNumber known values) p
   sheet-secret = Printed.cannot-secret s old r new m q a
 
--- ---- and these contracts are the functions' own: two results that the `ensures` of each allows are equal
+-- ---- and these contracts are the functions' own: two results that the `ensures` of each allows are equal, and so is what is left in each lent room
+-- (`s` and `t` hold what each parameter refers to on return, in order)
 
 pub tied-read : (κs : _) (a : _) (x y : _) (s t : _) → read-contract.Post κs a x s → read-contract.Post κs a y t → (x .answer ≡ y .answer) × (x .table ≡ y .table)
 tied-read κs a x y s t p q = read-unique _ _ _ _ _ _ p q
 
-pub tied-book-read : (κs : _) (a : _) (x y : _) (s t : _) → book-read-contract.Post κs a x s → book-read-contract.Post κs a y t → x ≡ y
-tied-book-read κs a x y s t p q = reads-one _ _ x y _ _ p q .0
+pub tied-book-read : (κs : _) (a : _) (x y : _) (s t : _) → book-read-contract.Post κs a x s → book-read-contract.Post κs a y t
+    → (x ≡ y) × (now (s .1 .0) ≡ now (t .1 .0))
+tied-book-read κs a x y s t p q = reads-one _ _ x y _ _ p q
 
-pub tied-book-write : (κs : _) (a : _) (x y : _) (s t : _) → book-write-contract.Post κs a x s → book-write-contract.Post κs a y t → x ≡ y
-tied-book-write κs a x y s t p q = writes-one _ _ _ _ x y _ _ p q .0
+pub tied-book-write : (κs : _) (a : _) (x y : _) (s t : _) → book-write-contract.Post κs a x s → book-write-contract.Post κs a y t
+    → (x ≡ y) × (now (s .1 .1 .1 .0) ≡ now (t .1 .1 .1 .0))
+tied-book-write κs a x y s t p q = writes-one _ _ _ _ x y _ _ p q
 
-pub tied-find : (κs : _) (a : _) (x y : _) (s t : _) → find-contract.Post κs a x s → find-contract.Post κs a y t → x ≡ y
-tied-find κs a x y s t p q = find-unique _ _ _ _ _ _ x y _ _ _ _ p q .0
+pub tied-find : (κs : _) (a : _) (x y : _) (s t : _) → find-contract.Post κs a x s → find-contract.Post κs a y t
+    → (x ≡ y) × (now (s .1 .1 .1 .1 .0) ≡ now (t .1 .1 .1 .1 .0)) × (now (s .1 .1 .1 .1 .1 .0) ≡ now (t .1 .1 .1 .1 .1 .0))
+tied-find κs a x y s t p q = find-unique _ _ _ _ _ _ x y _ _ _ _ p q
 
 pub tied-check : (κs : _) (a : _) (x y : _) (s t : _) → check-contract.Post κs a x s → check-contract.Post κs a y t → x ≡ y
 tied-check κs a x y s t p q = checks-one _ _ _ _ _ x y p q
 
-pub tied-answer : (κs : _) (a : _) (x y : _) (s t : _) → answer-contract.Post κs a x s → answer-contract.Post κs a y t → x ≡ y
-tied-answer κs a x y s t p q = answer-unique _ _ x y _ _ p q .0
+pub tied-answer : (κs : _) (a : _) (x y : _) (s t : _) → answer-contract.Post κs a x s → answer-contract.Post κs a y t
+    → (x ≡ y) × (now (s .1 .0) ≡ now (t .1 .0))
+tied-answer κs a x y s t p q = answer-unique _ _ x y _ _ p q

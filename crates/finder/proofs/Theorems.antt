@@ -58,11 +58,11 @@ module _ (book : List ℕ) (q : Question) (make learn ranks plan : List ℕ) (r 
       let p = a .1 in
       (n, m, v, (p .0, written-works S (p .0) (Start-of q) (p .1), written-height S (p .0) (Start-of q) h (p .1) (inl (a .0)), (λ s w. rank-least S (Start-of q) (inl (a .0)) s w), p .2, p .4))
 
-  -- "cannot": the question is valid over the book's n settings, and no plan works
+  -- "cannot": the question is valid over the book's n settings, no plan works, and the plan room is as it was
   pub cannot-none : Finds book q make learn ranks plan Cannot r x
-      → (n : ℕ) × (m : ℕ) × ValidQuestion book q make learn n m × ((p : Plan) → Works (System-of book q make learn n) (Start-of q) p → ⊥)
+      → (n : ℕ) × (m : ℕ) × ValidQuestion book q make learn n m × ((p : Plan) → Works (System-of book q make learn n) (Start-of q) p → ⊥) × (x ≡ plan)
   cannot-none (inl u) = let e : Cannot ≡ Refused (u .why) = u .answered in let z : _≡_ {A = ℕ} 0 1 = cc in absurd (omega arith)
-  cannot-none (inr (n, m, v, l, f, a)) = (n, m, v, a .0)
+  cannot-none (inr (n, m, v, l, f, a)) = (n, m, v, a .0, a .1)
 
   -- and a valid question whose plan works is answered "reach", where the rooms are long enough: 32,640 bytes always suffice for the plan
   pub works-reach : {n m : ℕ} (a : Answer) → ValidQuestion book q make learn n m → 7 ^ n ≤ length ranks → 32640 ≤ length plan
