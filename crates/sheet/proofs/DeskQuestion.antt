@@ -21,6 +21,8 @@ use Rattle.plan.specs.Ranks.{Written}
 use Rattle.plan.specs.Bytes.{encode}
 use Rattle.plan.proofs.Size.{works-permitted}
 use Rattle.plan.proofs.Written.{written-works}
+use Rattle.printing.specs.Printed.{cannotText, reachText, Lettered, Prints}
+use Rattle.printing.proofs.Theorems.{permitted-lettered}
 use Rattle.finder.specs.Question.{systemOf, startNumber}
 use Rattle.finder.specs.Rows.{number, place, findRows}
 use Rattle.finder.specs.Finds.{ValidQuestion, Answers, Finds}
@@ -30,11 +32,9 @@ use Rattle.finder.specs.declared.question.Refusal.the-variants.{Book, Team, Kno
 use Rattle.finder.specs.declared.finding.Answer.{Answer}
 use Rattle.finder.specs.declared.finding.Answer.the-variants.{Reach, Cannot, Refused}
 use Rattle.finder.proofs.Unique.{lawful, find-clear}
-use Rattle.printing.specs.Printed.{cannotText, reachText, Lettered, Prints}
-use Rattle.printing.proofs.Theorems.{permitted-lettered}
+use Rattle.lines.specs.declared.desk.Desk.{Desk}
 use Rattle.sheet.specs.Answer.{Question, Tells}
 use Rattle.sheet.specs.Inner.{Whole, rightsIn, learnIn, bookIn, systemIn, startIn}
-use Rattle.lines.specs.declared.desk.Desk.{Desk}
 use Rattle.sheet.proofs.SheetQuestion.{asked-writable, asked-valid, asked-most}
 use Rattle.sheet.proofs.DeskRights.{rights-length, desk-question}
 
