@@ -12,13 +12,13 @@ use Rattle.ground.specs.Text.{bytes}
 use Rattle.ground.proofs.Bools.{decide, T→true, T→false}
 use Rattle.formula.specs.Numbered.{formulaNumber}
 use Rattle.book.specs.declared.rule.Right.the-variants.{Look, Set}
-use Rattle.lines.specs.Sheet.{Rule, Sheet, isStated, knownSettings}
 use Rattle.words.specs.Words.{split, newline, begins, twice}
+use Rattle.words.proofs.Split.{split-length}
+use Rattle.lines.specs.Sheet.{Rule, Sheet, isStated, knownSettings}
 use Rattle.lines.specs.Forms.{isSize, digitAt, isRule, ruleOf, isTeam, teamOf, isKnown, knownOf}
 use Rattle.lines.specs.Reading.{Step, fault, next, unless, unlessNumbered, unlessRefused, sized, withRule, withTeam, withKnown, withMake, withAsk, sizeStep, ruleStep, teamStep, knownStep, makeStep, askStep, oneOf, rightsStep, step, Outcome, refused, stated, ending, lines, firstLine, meaning}
 use Rattle.lines.specs.declared.desk.Due.{Due}
 use Rattle.lines.specs.declared.desk.Due.the-variants.{Rights, Known, Make, Asks}
-use Rattle.words.proofs.Split.{split-length}
 use Rattle.lines.proofs.LineByLine.{after, lines-after, first-after}
 use Rattle.lines.proofs.Grammar.{number-small}
 

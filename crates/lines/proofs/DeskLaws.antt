@@ -11,18 +11,18 @@ use lib.ListN.{length, getD, set, length-set}
 use lib.Seq.{sets, length-sets, getD-set-same, getD-set-other, take-all}
 use Rattle.ground.specs.Text.{bytes}
 use Rattle.ground.proofs.Bools.{lt-or-ge, and-in, and-left, and-right, decide, both, T→true, T→false, eq→eqb}
-use Rattle.words.proofs.NameLaws.{or-false, or-assoc}
-use Rattle.lines.proofs.HoldLaws.{kind-small, slot-small}
 use Rattle.formula.specs.Grammar.{text}
 use Rattle.formula.specs.Read.{Accepts}
 use Rattle.book.specs.declared.rule.Right.{Right}
 use Rattle.book.specs.declared.rule.Right.the-variants.{Look, Set}
 use Rattle.book.proofs.Lists.{part-same, getD-sets}
+use Rattle.words.proofs.NameLaws.{or-false, or-assoc}
 use Rattle.lines.specs.Sheet.{Rule, Sheet, sameRight, concerns, isStated, ruleText}
 use Rattle.lines.specs.Reading.{withRule}
 use Rattle.lines.specs.Desk.{kindOf, slotOf, tableIn, Slot, Holds}
 use Rattle.lines.specs.Inner.{ruledDesk}
 use Rattle.lines.specs.declared.desk.Desk.{Desk}
+use Rattle.lines.proofs.HoldLaws.{kind-small, slot-small}
 
 -- ---- one right more
 

@@ -3,12 +3,12 @@ use mathlib.Core.Path.{_≡_, refl}
 use mathlib.Core.List.{[], _∷_}
 use mathlib.Core.Bool.{false}
 use Rattle.ground.specs.Text.{bytes}
-use Rattle.book.specs.declared.rule.Right.the-variants.{Look, Set}
 use Rattle.formula.specs.Read.{isLetter, isSign, isStray, isPast}
 use Rattle.formula.specs.Automaton.{isAtom, step, verdict}
 use Rattle.formula.specs.Numbered.{sentenceNumber, foreignNumber, formulaNumber}
-use Rattle.lines.specs.Sheet.{sameRight, concerns, isStated, knownSettings}
+use Rattle.book.specs.declared.rule.Right.the-variants.{Look, Set}
 use Rattle.words.specs.Words.{onto, split, begins, among, isFalse, bare, isName, allNames, indexOf, indexes, twice}
+use Rattle.lines.specs.Sheet.{sameRight, concerns, isStated, knownSettings}
 use Rattle.lines.specs.Forms.{isSetting, isPost, isSize, digitAt, isRule, ruleOf, postWords, isTeam, teamOf, settingWords, isKnown, knownBy, knownOf}
 use Rattle.lines.specs.Reading.{unlessRefused, sized, withRule, withTeam, withKnown, withMake, withAsk, sizeStep, ruleStep, teamStep, knownStep, makeStep, askStep, rightsStep, refused, stated, lines, firstLine, meaning}
 

@@ -4,12 +4,13 @@ use mathlib.Core.Bool.{Bool, true, _&&_}
 use mathlib.Core.List.{List}
 use Prim.Native.Nat.{ℕ, _+_, _-_, _≤_, _<_}
 use native.Mathlib.Omega.{arith}
-use lib.Dec.{T, eqb, leb, ltb, leb→le, ltb→lt, eqb→eq}
+use lib.Dec.{T, eqb, eqb→eq}
 use lib.ListN.{length, getD, List·getD-eq-default}
 use mathlib.Core.Logic.{inl, inr}
-use Rattle.ground.proofs.Bools.{and-left, and-right, true→T, lt-or-ge}
 use Rattle.ground.specs.Text.{bytes}
+use Rattle.ground.proofs.Bools.{and-left, and-right, true→T, lt-or-ge}
 use Rattle.words.specs.Words.{begins, among}
+use Rattle.words.proofs.NameForms.{between}
 use Rattle.lines.specs.Forms.{isSetting, isPost, isSize, digitAt, isRule}
 
 pub size-by : (line : List ℕ) (a b c d e : Bool) → begins (bytes "size ") line ≡ a → eqb (length line) 8 ≡ b → among 49 7 (getD line 5 0) ≡ c → eqb (getD line 6 0) 32 ≡ d
@@ -23,10 +24,6 @@ unfolding isRule isSetting isPost
 rule-by w n m line a b c d e p q r s t = rw (p, q, r, s, t) refl
 
 -- ---- what a form shows
-
-between : (first count c : ℕ) → T (among first count c) → (first ≤ c) × (c < first + count)
-unfolding among
-between first count c t = (leb→le first c (and-left (leb first c) (ltb c (first + count)) t), ltb→lt c (first + count) (and-right (leb first c) (ltb c (first + count)) t))
 
 pub size-bounds : (line : List ℕ) → isSize line ≡ true → (49 ≤ getD line 5 0) × (getD line 5 0 < 56) × (49 ≤ getD line 7 0) × (getD line 7 0 < 57)
 unfolding isSize

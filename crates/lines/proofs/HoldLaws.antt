@@ -2,7 +2,6 @@
 use mathlib.Core.Path.{_≡_, refl, sym, ap, _∙_, subst}
 use mathlib.Core.Logic.{inl, inr}
 use mathlib.Core.Bool.{false}
-use mathlib.Core.List.{[]}
 use Prim.Native.Nat.{ℕ, zero, suc, _+_, _*_, _/_, _%_, _≤_, _<_}
 use native.Mathlib.Omega.{arith}
 use lib.Dec.{lit<, lit≤}
@@ -17,8 +16,8 @@ use Rattle.formula.specs.Read.{Accepts, Foreign, isStray, isPast, isLetter, isS
 use Rattle.book.specs.declared.rule.Right.{Right}
 use Rattle.book.specs.declared.rule.Right.the-variants.{Look, Set}
 use Rattle.book.proofs.Lists.{part-same}
-use Rattle.lines.specs.Sheet.{isStated, knownSettings, knownTrue}
 use Rattle.words.specs.Words.{member}
+use Rattle.lines.specs.Sheet.{isStated, knownSettings, knownTrue}
 use Rattle.lines.specs.Reading.{sized}
 use Rattle.lines.specs.Desk.{kindOf, slotOf, tableIn, Holds}
 

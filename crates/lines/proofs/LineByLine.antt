@@ -3,12 +3,12 @@
 use mathlib.Core.Path.{_≡_, refl, ap, _∙_}
 use mathlib.Core.List.{List, [], _∷_, _++_, append-assoc}
 use Prim.Native.Nat.{ℕ, suc}
-use Rattle.lines.specs.Sheet.{Sheet}
 use Rattle.words.specs.Words.{split, newline}
-use Rattle.lines.specs.declared.desk.Due.{Due}
+use Rattle.words.proofs.Split.{Clear, some-piece, split-marked}
+use Rattle.lines.specs.Sheet.{Sheet}
 use Rattle.lines.specs.Reading.{Step, fault, next, sizeStep, step, Outcome, refused, lines, firstLine}
 use Rattle.lines.specs.Grammar.{ended, InLine}
-use Rattle.words.proofs.Split.{Clear, some-piece, split-marked}
+use Rattle.lines.specs.declared.desk.Due.{Due}
 
 -- to be in a line is to be clear of byte 10
 pub in-line : (s : List ℕ) → Clear newline s → InLine s
@@ -40,16 +40,20 @@ first-after line another more = by-step (sizeStep line)
     by-step (fault number) = refl
     by-step (next d s) = refl
 
--- the same of a text that begins with the line
+-- the same where the pieces are those of a text
+pub lines-on : (L : ℕ) (due : Due) (v : Sheet) (line rest : List ℕ) → lines L due v (line ∷ split newline rest) ≡ after L (split newline rest) (step due v line)
+lines-on L due v line rest = some-piece newline (λ q. lines L due v (line ∷ q) ≡ after L q (step due v line)) (lines-after L due v line) rest
+
+pub first-on : (line rest : List ℕ) → firstLine (line ∷ split newline rest) ≡ after 1 (split newline rest) (sizeStep line)
+first-on line rest = some-piece newline (λ q. firstLine (line ∷ q) ≡ after 1 q (sizeStep line)) (first-after line) rest
+
+-- and of a text that begins with the line
 split-ended : (line rest : List ℕ) → Clear newline line → split newline (ended line ++ rest) ≡ line ∷ split newline rest
 unfolding ended
 split-ended line rest c = ap (split newline) (append-assoc line (newline ∷ []) rest) ∙ split-marked newline line rest c
 
 pub lines-split : (L : ℕ) (due : Due) (v : Sheet) (line rest : List ℕ) → Clear newline line → lines L due v (split newline (ended line ++ rest)) ≡ after L (split newline rest) (step due v line)
-lines-split L due v line rest c =
-    ap (lines L due v) (split-ended line rest c)
-    ∙ some-piece newline (λ q. lines L due v (line ∷ q) ≡ after L q (step due v line)) (λ p ps. lines-after L due v line p ps) rest
+lines-split L due v line rest c = ap (lines L due v) (split-ended line rest c) ∙ lines-on L due v line rest
 
 pub first-split : (line rest : List ℕ) → Clear newline line → firstLine (split newline (ended line ++ rest)) ≡ after 1 (split newline rest) (sizeStep line)
-first-split line rest c =
-    ap firstLine (split-ended line rest c) ∙ some-piece newline (λ q. firstLine (line ∷ q) ≡ after 1 q (sizeStep line)) (λ p ps. first-after line p ps) rest
+first-split line rest c = ap firstLine (split-ended line rest c) ∙ first-on line rest

@@ -14,12 +14,12 @@ use Rattle.ground.specs.Text.{bytes}
 use Rattle.ground.proofs.Bools.{T→true, T→false, and-left, and-right, decide, lt-or-ge}
 use Rattle.book.specs.declared.rule.Right.{Right}
 use Rattle.book.specs.declared.rule.Right.the-variants.{Look, Set}
-use Rattle.lines.specs.Sheet.{Rule, Known}
 use Rattle.words.specs.Words.{space, split, begins, among, allNames, indexes}
-use Rattle.lines.specs.Forms.{isSetting, isPost, isSize, digitAt, isRule, ruleOf, postWords, isTeam, teamOf, settingWords, isKnown, knownBy, knownOf}
-use Rattle.lines.specs.Grammar.{sizeText, word, ruleLine, postsText, teamLine, knownWord, knownsText, knownLine, PostsFit, KnownFit}
 use Rattle.words.proofs.Split.{marked, Clear, some-piece, marked-some, joined-split, split-joined}
 use Rattle.words.proofs.NameForms.{three, five, among-in, among-out}
+use Rattle.lines.specs.Sheet.{Rule, Known}
+use Rattle.lines.specs.Forms.{isSetting, isPost, isSize, digitAt, isRule, ruleOf, postWords, isTeam, teamOf, settingWords, isKnown, knownBy, knownOf}
+use Rattle.lines.specs.Grammar.{sizeText, word, ruleLine, postsText, teamLine, knownWord, knownsText, knownLine, PostsFit, KnownFit}
 use Rattle.lines.proofs.WordForms.{postWord, posts-text, posts-clear, posts-written, posts-read, knowns-text, word-clear, knowns-clear, knowns-written, knowns-read}
 
 -- ---- a first word, and bytes at fixed places

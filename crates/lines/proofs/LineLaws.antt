@@ -9,8 +9,8 @@ use lib.ListN.{length, getD, take, drop, length-append}
 use lib.Seq.{sets, sets-eq, length-sets, length-take-le, take-at}
 use Rattle.ground.specs.Digits.{bit}
 use Rattle.formula.specs.Read.{Accepts}
-use Rattle.lines.specs.Sheet.{Known, Sheet, knownSettings, knownTrue}
 use Rattle.words.specs.Words.{member, isFalse, indexOf, indexes, trueIndexes}
+use Rattle.lines.specs.Sheet.{Known, Sheet, knownSettings, knownTrue}
 use Rattle.lines.specs.Forms.{teamOf, knownBy, knownOf}
 use Rattle.lines.specs.Reading.{stating, withTeam, withKnown, withMake, withAsk}
 use Rattle.lines.specs.Desk.{TablesOf, Holds}

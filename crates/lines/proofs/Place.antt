@@ -12,10 +12,10 @@ use lib.Seq.{take-add}
 use Rattle.ground.proofs.Bools.{decide, both, eq→eqb, lt-or-ge}
 use Rattle.ground.proofs.Search.{least-unique}
 use Rattle.words.specs.Words.{split, newline}
+use Rattle.words.proofs.Split.{joined, some-piece, joined-split}
 use Rattle.lines.specs.Reading.{Outcome, refused, stated, firstLine, meaning}
 use Rattle.lines.specs.Grammar.{ended, text}
 use Rattle.lines.specs.Place.{BeginsSheet, IsSheet, allEnded, firstLines, Breaks, MalformedAt, at-line, at-end}
-use Rattle.words.proofs.Split.{joined, some-piece, joined-split}
 use Rattle.lines.proofs.SoFar.{begins-less}
 use Rattle.lines.proofs.Taken.{taken-only-well-formed}
 use Rattle.lines.proofs.Grammar.{Fine, lines-fine, twenty-two-never}

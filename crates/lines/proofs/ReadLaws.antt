@@ -1,18 +1,16 @@
 -- A sheet line by line: what is left to be read from a place on is read from the next line on, in the state that the line leaves.
 use mathlib.Core.Path.{_≡_, refl, sym, ap, _∙_, subst}
-use mathlib.Core.Bool.{Bool, true, false, cond}
+use mathlib.Core.Bool.{Bool, cond}
 use mathlib.Core.List.{List, [], _∷_}
 use Prim.Native.Nat.{ℕ, suc, _-_, _≤_, _<_}
 use native.Mathlib.Omega.{arith}
 use lib.ListN.{length, take, drop}
 use borrow.Author.Tests.{lt-ltb, le-ltb}
-use Rattle.lines.specs.Sheet.{Sheet}
 use Rattle.words.specs.Words.{newline, split}
+use Rattle.words.proofs.Pieces.{part, PieceEnd}
+use Rattle.lines.specs.Sheet.{Sheet}
 use Rattle.lines.specs.Reading.{Step, fault, next, sized, sizeStep, step, Outcome, refused, stated, ending, lines, firstLine, meaning}
 use Rattle.lines.specs.Desk.{number, Proper, Holds, Reads}
-use Rattle.words.proofs.Split.{some-piece}
-use Rattle.words.proofs.Pieces.{part, PieceEnd}
-use Rattle.lines.proofs.LineByLine.{after, lines-after, first-after}
 use Rattle.lines.specs.Inner.{Steps}
 use Rattle.lines.specs.declared.desk.Due.{Due}
 use Rattle.lines.specs.declared.desk.Due.the-variants.{Rights, Known, Make, Asks}
@@ -22,6 +20,7 @@ use Rattle.lines.specs.declared.desk.Taken.{Taken}
 use Rattle.lines.specs.declared.desk.Taken.the-variants.{Next, No}
 use Rattle.lines.specs.declared.Told.{Told}
 use Rattle.lines.specs.declared.Told.the-variants.{Refused}
+use Rattle.lines.proofs.LineByLine.{after, lines-on, first-on}
 
 -- ---- a turn tells the step
 
@@ -44,16 +43,6 @@ went-on-by st {t} d {due} e s = went-on st due d (subst (λ (x : Taken). Steps s
 pub refused-is : {o : Outcome} {t : Told} (d : Desk) (why : Fault) (line : ℕ) → Proper why → o ≡ refused (number why) line → (t ≡ Refused why line) × Holds (sized 1 1) d → Reads o t d
 refused-is {o} {t} d why line p e (f, h) = subst (λ (x : Outcome). Reads x t d) (sym e) (subst (λ (x : Told). Reads (refused (number why) line) x d) (sym f) (refl, p, refl, h))
 
--- ---- line by line
-
--- what a line does to the lines from it on
-line-on : (L : ℕ) (due : Due) (sheet : Sheet) (line s : List ℕ) → lines L due sheet (line ∷ split newline s) ≡ after L (split newline s) (step due sheet line)
-line-on L due sheet line s = some-piece newline (λ q. lines L due sheet (line ∷ q) ≡ after L q (step due sheet line)) (lines-after L due sheet line) s
-
--- and the size to the whole
-size-on : (line s : List ℕ) → firstLine (line ∷ split newline s) ≡ after 1 (split newline s) (sizeStep line)
-size-on line s = some-piece newline (λ q. firstLine (line ∷ q) ≡ after 1 q (sizeStep line)) (first-after line) s
-
 -- ---- the lines after the first, from a place on
 
 module _ (s : List ℕ) (at r L : ℕ) (due : Due) (sheet : Sheet) (p : PieceEnd s at newline r) where
@@ -62,10 +51,10 @@ module _ (s : List ℕ) (at r L : ℕ) (due : Due) (sheet : Sheet) (p : PieceEnd
   rest-ends h = ap (lines L due sheet) (p .last h)
 
   pub rest-faults : {x : ℕ} → r < length s → step due sheet (part s at r) ≡ fault x → lines L due sheet (split newline (drop at s)) ≡ refused x L
-  rest-faults h e = ap (lines L due sheet) (p .more h) ∙ line-on L due sheet (part s at r) (drop (suc r) s) ∙ ap (after L (split newline (drop (suc r) s))) e
+  rest-faults h e = ap (lines L due sheet) (p .more h) ∙ lines-on L due sheet (part s at r) (drop (suc r) s) ∙ ap (after L (split newline (drop (suc r) s))) e
 
   pub rest-goes-on : {d : Due} {v : Sheet} → r < length s → step due sheet (part s at r) ≡ next d v → lines L due sheet (split newline (drop at s)) ≡ lines (suc L) d v (split newline (drop (suc r) s))
-  rest-goes-on h e = ap (lines L due sheet) (p .more h) ∙ line-on L due sheet (part s at r) (drop (suc r) s) ∙ ap (after L (split newline (drop (suc r) s))) e
+  rest-goes-on h e = ap (lines L due sheet) (p .more h) ∙ lines-on L due sheet (part s at r) (drop (suc r) s) ∙ ap (after L (split newline (drop (suc r) s))) e
 
 -- ---- the whole
 
@@ -87,7 +76,7 @@ module _ (s : List ℕ) where
     front = ap (λ (k : ℕ). take k s) {x = r - 0} {y = r} (omega arith)
 
     sized-line : r < length s → meaning s ≡ after 1 (split newline (drop (suc r) s)) (sizeStep (take r s))
-    sized-line l = first-line h ∙ ap firstLine (p .more l ∙ ap (λ (t : List ℕ). t ∷ split newline (drop (suc r) s)) front) ∙ size-on (take r s) (drop (suc r) s)
+    sized-line l = first-line h ∙ ap firstLine (p .more l ∙ ap (λ (t : List ℕ). t ∷ split newline (drop (suc r) s)) front) ∙ first-on (take r s) (drop (suc r) s)
 
     pub size-faults : {x : ℕ} → r < length s → sizeStep (take r s) ≡ fault x → meaning s ≡ refused x 1
     size-faults l e = sized-line l ∙ ap (after 1 (split newline (drop (suc r) s))) e

@@ -5,14 +5,14 @@ use mathlib.Core.List.{List, [], _∷_, _++_, append-assoc, append-nil}
 use Prim.Native.Nat.{ℕ, suc, _+_, _<_}
 use native.Mathlib.Omega.{arith}
 use lib.ListN.{length, take}
-use Rattle.lines.specs.Sheet.{Sheet}
 use Rattle.words.specs.Words.{split, newline}
-use Rattle.lines.specs.declared.desk.Due.{Due}
-use Rattle.lines.specs.declared.desk.Due.the-variants.{Rights, Known, Make, Asks}
+use Rattle.words.proofs.Split.{AllClear, some-piece, split-clear}
+use Rattle.lines.specs.Sheet.{Sheet}
 use Rattle.lines.specs.Reading.{Step, fault, next, sized, sizeStep, step, Outcome, refused, stated, ending, lines, firstLine}
 use Rattle.lines.specs.Grammar.{ended}
 use Rattle.lines.specs.Place.{BeginsSheet, allEnded}
-use Rattle.words.proofs.Split.{AllClear, some-piece, split-clear}
+use Rattle.lines.specs.declared.desk.Due.{Due}
+use Rattle.lines.specs.declared.desk.Due.the-variants.{Rights, Known, Make, Asks}
 use Rattle.lines.proofs.LineByLine.{in-line, after, lines-after, first-after, lines-split, first-split}
 use Rattle.lines.proofs.SoFar.{soFar, WellSoFar, begins-less, so-far-begins, Good}
 use Rattle.lines.proofs.GoodLines.{size-good, step-good}

@@ -7,6 +7,7 @@ use native.Mathlib.Omega.{arith}
 use lib.ListN.{length, getD, take, drop}
 use Rattle.formula.specs.Read.{Accepts}
 use Rattle.book.specs.declared.rule.Right.{Right}
+use Rattle.words.proofs.Pieces.{tail}
 use Rattle.lines.specs.Sheet.{Rule, Sheet, isStated, ruleText}
 use Rattle.lines.specs.Forms.{ruleOf}
 use Rattle.lines.specs.Reading.{Step, fault, next, unlessRefused, withRule, ruleStep}
@@ -15,7 +16,6 @@ use Rattle.lines.specs.Inner.{ruledDesk, Steps}
 use Rattle.lines.specs.declared.desk.Due.the-variants.{Rights}
 use Rattle.lines.specs.declared.desk.Desk.{Desk}
 use Rattle.lines.specs.declared.desk.Taken.{Taken}
-use Rattle.words.proofs.Pieces.{tail}
 use Rattle.lines.proofs.FormLaws.{RuleBounds}
 use Rattle.lines.proofs.StepLaws.{rule-twice, rule-once}
 use Rattle.lines.proofs.HoldLaws.{slot-small}

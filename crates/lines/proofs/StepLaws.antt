@@ -1,7 +1,7 @@
 -- What each line does, from its tests: one equation for each way through a step.
 use mathlib.Core.Path.{_≡_, refl, ap, ap₂, _∙_}
 use mathlib.Core.Bool.{Bool, true, false, not, _&&_}
-use mathlib.Core.List.{List, []}
+use mathlib.Core.List.{List}
 use Prim.Native.Nat.{ℕ, _≤_, _<_}
 use lib.Dec.{leb, ltb}
 use lib.ListN.{length, drop}
@@ -13,8 +13,8 @@ use Rattle.formula.specs.declared.Refusal.the-variants.{Length, StrayByte, Lett
 use Rattle.formula.specs.declared.Answer.the-variants.{Accepted, Refused}
 use Rattle.formula.proofs.Numbered.{read-number}
 use Rattle.book.specs.declared.rule.Right.the-variants.{Look, Set}
-use Rattle.lines.specs.Sheet.{Rule, Sheet, isStated, knownSettings}
 use Rattle.words.specs.Words.{begins, twice}
+use Rattle.lines.specs.Sheet.{Rule, Sheet, isStated, knownSettings}
 use Rattle.lines.specs.Forms.{isSize, digitAt, isRule, ruleOf, isTeam, teamOf, isKnown, knownOf}
 use Rattle.lines.specs.Reading.{Step, fault, next, unless, unlessNumbered, unlessRefused, sized, withRule, withTeam, withKnown, withMake, withAsk, sizeStep, ruleStep, teamStep, knownStep, makeStep, askStep, oneOf, rightsStep}
 use Rattle.lines.specs.declared.desk.Due.the-variants.{Rights, Known, Make, Asks}

@@ -14,13 +14,18 @@ use Rattle.formula.specs.declared.Refusal.the-variants.{Length, StrayByte, Lett
 use Rattle.formula.specs.declared.Answer.{Answer}
 use Rattle.formula.specs.declared.Answer.the-variants.{Accepted, Refused}
 use Rattle.book.specs.declared.rule.Right.the-variants.{Look, Set}
-use Rattle.lines.specs.Sheet.{Sheet, knownSettings}
 use Rattle.words.specs.Words.{member, split, space, begins, allNames, indexes, twice}
+use Rattle.words.specs.Marks.{Marked, Names, areNames}
+use Rattle.words.specs.declared.names.Marks.{Marks}
+use Rattle.words.specs.declared.names.Naming.{Naming}
+use Rattle.words.specs.declared.names.Naming.the-variants.{Stray, Of}
+use Rattle.words.proofs.Pieces.{tail}
+use Rattle.words.proofs.NameLaws.{few-enough, names-stray, names-of, stray-names, of-names, marked-none}
+use Rattle.lines.specs.Sheet.{Sheet, knownSettings}
 use Rattle.lines.specs.Forms.{isRule, ruleOf, postWords, isTeam, teamOf, settingWords, isKnown, knownOf}
 use Rattle.lines.specs.Reading.{Step, fault, next, unless, unlessRefused, withTeam, withKnown, withMake, withAsk, ruleStep, teamStep, knownStep, makeStep, askStep, oneOf, rightsStep}
 use Rattle.lines.specs.Desk.{number, Proper, Holds}
 use Rattle.lines.specs.Inner.{teamDesk, knownDesk, makeDesk, askedDesk, placedDesk, dueAfter, Steps}
-use Rattle.words.specs.Marks.{Marked, Names, areNames}
 use Rattle.lines.specs.declared.desk.Due.{Due}
 use Rattle.lines.specs.declared.desk.Due.the-variants.{Known, Make, Asks}
 use Rattle.lines.specs.declared.desk.Desk.{Desk}
@@ -28,11 +33,6 @@ use Rattle.lines.specs.declared.desk.Fault.{Fault}
 use Rattle.lines.specs.declared.formulas.Place.{Place}
 use Rattle.lines.specs.declared.desk.Taken.{Taken}
 use Rattle.lines.specs.declared.desk.Taken.the-variants.{Next, No}
-use Rattle.words.specs.declared.names.Marks.{Marks}
-use Rattle.words.specs.declared.names.Naming.{Naming}
-use Rattle.words.specs.declared.names.Naming.the-variants.{Stray, Of}
-use Rattle.words.proofs.Pieces.{tail}
-use Rattle.words.proofs.NameLaws.{few-enough, names-stray, names-of, stray-names, of-names, marked-none}
 use Rattle.lines.proofs.StepLaws.{refused-step, accepted-step, team-by, known-by, make-by, ask-by, rights-by}
 use Rattle.lines.proofs.LineLaws.{known-settings, known-true, holds-team, holds-known, holds-make, holds-ask}
 

@@ -9,12 +9,12 @@ use native.Mathlib.Omega.{arith}
 use lib.Dec.{T, eqb}
 use lib.ListN.{length, getD}
 use Rattle.ground.proofs.Bools.{T→true, T→false, and-in, and-left, and-right, decide}
-use Rattle.lines.specs.Sheet.{Known}
 use Rattle.words.specs.Words.{space, among, isFalse, bare, isName, allNames, indexOf, indexes}
-use Rattle.lines.specs.Forms.{knownBy}
-use Rattle.lines.specs.Grammar.{postsText, knownWord, knownsText, PostsFit, KnownFit}
 use Rattle.words.proofs.Split.{marked, Clear, AllClear}
 use Rattle.words.proofs.NameForms.{three, among-in, bare-word, unsigned, signed, plain}
+use Rattle.lines.specs.Sheet.{Known}
+use Rattle.lines.specs.Forms.{knownBy}
+use Rattle.lines.specs.Grammar.{postsText, knownWord, knownsText, PostsFit, KnownFit}
 
 -- ---- the words of the line `team`
 

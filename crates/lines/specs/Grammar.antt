@@ -8,8 +8,8 @@ use lib.ListN.{length}
 use Rattle.ground.specs.Text.{byte, bytes}
 use Rattle.book.specs.declared.rule.Right.{Right}
 use Rattle.book.specs.declared.rule.Right.the-variants.{Look, Set}
-use Rattle.lines.specs.Sheet.{Rule, Known, Sheet}
 use Rattle.words.specs.Words.{newline, space}
+use Rattle.lines.specs.Sheet.{Rule, Known, Sheet}
 
 -- "Lines [..] end in byte 10"
 unfoldable pub ended : List ℕ → List ℕ

@@ -5,8 +5,8 @@ use mathlib.Core.List.{List, [], _∷_, _++_}
 use Prim.Native.Nat.{ℕ, _<_}
 use lib.ListN.{length, take}
 use Rattle.ground.specs.Search.{Least}
-use Rattle.lines.specs.Sheet.{Sheet}
 use Rattle.words.specs.Words.{split, newline}
+use Rattle.lines.specs.Sheet.{Sheet}
 use Rattle.lines.specs.Grammar.{ended, text, WellFormed}
 
 -- some well-formed sheet begins with the text p

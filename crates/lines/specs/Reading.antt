@@ -7,8 +7,8 @@ use lib.ListN.{length, drop}
 use Rattle.ground.specs.Text.{bytes}
 use Rattle.formula.specs.Numbered.{formulaNumber}
 use Rattle.book.specs.declared.rule.Right.the-variants.{Look, Set}
-use Rattle.lines.specs.Sheet.{Rule, Known as KnownSetting, Sheet, isStated, knownSettings}
 use Rattle.words.specs.Words.{split, newline, begins, twice}
+use Rattle.lines.specs.Sheet.{Rule, Known as KnownSetting, Sheet, isStated, knownSettings}
 use Rattle.lines.specs.Forms.{isSize, digitAt, isRule, ruleOf, isTeam, teamOf, isKnown, knownOf}
 use Rattle.lines.specs.declared.desk.Due.{Due}
 use Rattle.lines.specs.declared.desk.Due.the-variants.{Rights, Known, Make, Asks}

@@ -99,7 +99,7 @@ pub(crate) fn sized(settings: u8, posts: u8) -> Desk
     }
 }
 
-// A line at fault.
+// A line at fault, with nothing on the desk that counts.
 pub(crate) fn at_fault(why: Fault) -> Turn
     ensures { λ r. ⌜ r .taken ≡ Taken.No why ⌝ }
 {

@@ -18,7 +18,7 @@ ghost use Rattle.lines.specs.Reading.{next, unlessRefused};
 ghost use Rattle.lines.specs.Desk.{Holds};
 ghost use Rattle.lines.specs.Inner.{Room, ruledDesk, askedDesk, placedDesk, dueAfter, Steps};
 
-// What a line's formula is.
+// What a line's formula is for, and so where its table goes.
 pub(crate) enum Place {
     // A right, by its place among all.
     Slot(usize),
@@ -93,7 +93,8 @@ fn placed(desk: Desk, place: Place, table: [u8; 16]) -> Turn
     }
 }
 
-// A line whose formula is this text: whatever the desk holds with a table of it, it is read so.
+// Reads the formula of a line and puts its table in its place. What the sheet then states is for the
+// caller to say: any sheet that the desk holds with a table of this text.
 pub(crate) fn formula_line(desk: Desk, place: Place, text: &[u8]) -> Turn
     requires { ⌜ Room place desk ⌝ }
     ensures { λ r. ⌜ ((sheet : Sheet) → ((t : List ℕ) → Accepts (desk .settings) (now (text .entry)) t → Holds sheet (placedDesk place desk t)) → Steps (unlessRefused (desk .settings) (now (text .entry)) (next (dueAfter place) sheet)) (r .taken) (r .desk)) ⌝ }

@@ -14,10 +14,10 @@ use line::later_line;
 use line::size_line;
 use words::piece_end;
 ghost use mathlib.Core.Path.{_≡_};
-ghost use Prim.Native.Nat.{_+_, _≤_, suc};
+ghost use Prim.Native.Nat.{_≤_};
 ghost use lib.ListN.{length, drop};
-ghost use Rattle.lines.specs.Sheet.{Sheet};
 ghost use Rattle.words.specs.Words.{split, newline};
+ghost use Rattle.lines.specs.Sheet.{Sheet};
 ghost use Rattle.lines.specs.Reading.{meaning, sized, ending, lines};
 ghost use Rattle.lines.specs.Desk.{Holds, Reads};
 

@@ -4,17 +4,17 @@ use mathlib.Core.List.{List}
 use Prim.Native.Nat.{ℕ}
 use Rattle.book.specs.Written.{bookOf}
 use Rattle.plan.specs.Plans.{System}
-use Rattle.question.specs.Question.{systemOf}
 use Rattle.printing.specs.Printed.{refusedText, Prints}
+use Rattle.question.specs.Question.{systemOf}
 use Rattle.lines.specs.Reading.{Outcome, refused, stated, meaning}
-use Rattle.sheet.specs.Answer.{Tells, Prints-outcome, Answers}
 use Rattle.lines.specs.Desk.{number, Reads}
-use Rattle.sheet.specs.Inner.{Whole, rightsIn, learnIn, bookIn, systemIn, startIn}
 use Rattle.lines.specs.declared.desk.Desk.{Desk}
 use Rattle.lines.specs.declared.desk.Fault.{Fault}
 use Rattle.lines.specs.declared.Told.{Told}
 use Rattle.lines.specs.declared.Told.the-variants.{Stated, Refused}
 use Rattle.lines.proofs.Taken.{stated-written}
+use Rattle.sheet.specs.Answer.{Tells, Prints-outcome, Answers}
+use Rattle.sheet.specs.Inner.{Whole, rightsIn, learnIn, bookIn, systemIn, startIn}
 use Rattle.sheet.proofs.DeskRights.{desk-question}
 
 module _ (s : List ℕ) {told : Told} (d : Desk) (reads : Reads (meaning s) told d) where

@@ -23,10 +23,10 @@ use Rattle.book.proofs.RuleLaws.{place-most}
 use Rattle.lines.specs.Sheet.{Rule, Sheet, concerns, isStated, ruleText}
 use Rattle.lines.specs.Grammar.{RulesFit, WellFormed}
 use Rattle.lines.specs.Desk.{TablesOf, slotOf, tableIn, Slot, Holds}
-use Rattle.sheet.specs.Answer.{Question}
-use Rattle.sheet.specs.Inner.{rightsIn, learnIn}
 use Rattle.lines.specs.declared.desk.Desk.{Desk}
 use Rattle.lines.proofs.HoldLaws.{nought-accepts}
+use Rattle.sheet.specs.Answer.{Question}
+use Rattle.sheet.specs.Inner.{rightsIn, learnIn}
 
 -- ---- a right that is not stated
 

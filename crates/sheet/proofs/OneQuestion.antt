@@ -7,7 +7,6 @@ use Prim.Native.Nat.{ℕ, _+_, _-_, _*_, _/_, _%_, _≤_, _<_}
 use native.Mathlib.Omega.{arith}
 use lib.ListN.{length, getD}
 use lib.Seq.{ext-getD}
-use Rattle.ground.specs.Digits.{bit}
 use Rattle.ground.proofs.Bools.{lt-or-ge}
 use Rattle.ground.proofs.Search.{least-unique}
 use Rattle.book.specs.Rule.{tablePlace, table}
@@ -19,9 +18,9 @@ use Rattle.book.proofs.Lists.{getD-part}
 use Rattle.book.proofs.RuleLaws.{place-most}
 use Rattle.plan.specs.Plans.{System, Lawful, Plan}
 use Rattle.plan.proofs.Written.{written-works, written-unique}
-use Rattle.question.specs.Question.{systemOf, startNumber}
 use Rattle.printing.specs.Printed.{reachText, Prints}
 use Rattle.printing.proofs.Theorems.{prints-unique}
+use Rattle.question.specs.Question.{systemOf, startNumber}
 use Rattle.words.proofs.Unique.{mask-one}
 use Rattle.lines.specs.Sheet.{Sheet}
 use Rattle.lines.proofs.Unique.{table-one, tables-one}

@@ -12,27 +12,27 @@ use Rattle.formula.specs.Grammar.{text, meaning as truthOf, one, one-unit, one-
 use Rattle.formula.specs.Read.{Accepts}
 use Rattle.formula.proofs.Meaning.{unambiguous}
 use Rattle.book.specs.Written.{bookOf}
+use Rattle.knowledge.specs.declared.act.Act.the-variants.{Set, Look}
 use Rattle.plan.specs.Plans.{System, Plan, stop, set-then, look-then, Permitted, Works, height}
 use Rattle.plan.specs.Secret.{Twins}
 use Rattle.plan.proofs.Ranks.{rank-least}
 use Rattle.plan.proofs.Written.{written-works, written-height}
 use Rattle.plan.proofs.Secret.{secret}
-use Rattle.sides.specs.Over.{learnTable}
-use Rattle.question.specs.Question.{systemOf, startNumber, NoMaking}
-use Rattle.finder.proofs.Theorems.{enough}
-use Rattle.knowledge.specs.declared.act.Act.the-variants.{Set, Look}
 use Rattle.printing.specs.Decimal.{decimal}
 use Rattle.printing.specs.Printed.{line, numbered, actText, planText, cannotText, reachText, Prints}
 use Rattle.printing.proofs.Theorems.{prints-unique, refused-length, reach-length}
+use Rattle.sides.specs.Over.{learnTable}
+use Rattle.question.specs.Question.{systemOf, startNumber, NoMaking}
+use Rattle.finder.proofs.Theorems.{enough}
 use Rattle.lines.specs.Sheet.{Sheet}
 use Rattle.lines.specs.Reading.{Outcome, refused, stated, meaning}
 use Rattle.lines.specs.Grammar.{WellFormed}
 use Rattle.lines.specs.Desk.{TablesOf}
-use Rattle.sheet.specs.Answer.{Question, Tells, Prints-outcome, Answers}
 use Rattle.lines.proofs.Taken.{stated-written}
+use Rattle.lines.proofs.Bounds.{Small, small-meaning}
+use Rattle.sheet.specs.Answer.{Question, Tells, Prints-outcome, Answers}
 use Rattle.sheet.proofs.SheetQuestion.{tables-length, asked-lawful, asked-most}
 use Rattle.sheet.proofs.OneQuestion.{same-system, same-start, tells-one}
-use Rattle.lines.proofs.Bounds.{Small, small-meaning}
 
 -- ---- any two answers that the contract allows are the same, what is left in the room included
 

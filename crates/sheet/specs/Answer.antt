@@ -8,16 +8,16 @@ use lib.ListN.{length, replicate}
 use Rattle.ground.specs.Digits.{bit}
 use Rattle.ground.specs.Search.{Least}
 use Rattle.formula.specs.Read.{Accepts}
-use Rattle.book.specs.declared.rule.Right.{Right}
 use Rattle.book.specs.Rule.{table}
 use Rattle.book.specs.Sound.{tablesOf}
 use Rattle.book.specs.Written.{bookOf}
+use Rattle.book.specs.declared.rule.Right.{Right}
 use Rattle.plan.specs.Plans.{System, Plan}
 use Rattle.plan.specs.Ranks.{Reach, Cannot, Written}
-use Rattle.question.specs.Question.{systemOf, startNumber}
 use Rattle.printing.specs.Printed.{refusedText, cannotText, reachText, Prints}
-use Rattle.lines.specs.Sheet.{Sheet, ruleText, knownSettings, knownTrue}
+use Rattle.question.specs.Question.{systemOf, startNumber}
 use Rattle.words.specs.Words.{member}
+use Rattle.lines.specs.Sheet.{Sheet, ruleText, knownSettings, knownTrue}
 use Rattle.lines.specs.Reading.{Outcome, refused, stated, meaning}
 use Rattle.lines.specs.Desk.{TablesOf}
 

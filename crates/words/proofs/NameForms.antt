@@ -23,12 +23,13 @@ pub among-in : (first count c : ℕ) → first ≤ c → c < first + count → T
 unfolding among
 among-in first count c low high = and-in (leb first c) (ltb c (first + count)) (le→leb first c low) (lt→ltb c (first + count) high)
 
-pub among-out : (first count c : ℕ) → T (among first count c) → (first + (c - first) ≡ c) × (c - first < count)
+pub between : (first count c : ℕ) → T (among first count c) → (first ≤ c) × (c < first + count)
 unfolding among
-among-out first count c h =
-    let low = leb→le first c (and-left (leb first c) (ltb c (first + count)) h) in
-    let high = ltb→lt c (first + count) (and-right (leb first c) (ltb c (first + count)) h) in
-    (omega arith, omega arith)
+between first count c h =
+    (leb→le first c (and-left (leb first c) (ltb c (first + count)) h), ltb→lt c (first + count) (and-right (leb first c) (ltb c (first + count)) h))
+
+pub among-out : (first count c : ℕ) → T (among first count c) → (first + (c - first) ≡ c) × (c - first < count)
+among-out first count c h = let b = between first count c h in (omega (arith, b .0), omega (arith, b .0, b .1))
 
 -- ---- one word
 

@@ -6,7 +6,7 @@ use mathlib.Core.List.{List, [], _∷_}
 use Prim.Native.Nat.{ℕ, suc, _+_, _-_, _*_, _%_, _^_, _≤_, _<_}
 use native.Mathlib.Omega.{arith}
 use native.Mathlib.Nat.{one-mul, le-refl}
-use lib.Dec.{T, eqb, leb, ltb, leb→le, ltb→lt, lit<}
+use lib.Dec.{T, eqb, lit<}
 use lib.Bits.{bitOr}
 use lib.Pow.{pow-lt, shl-exact}
 use lib.ListN.{length, getD, drop, length-drop}
@@ -14,16 +14,17 @@ use lib.Seq.{getD-drop}
 use borrow.Author.Tests.{ne-eqb, eq-eqb, le-leb, lt-leb}
 use Rattle.ground.specs.Digits.{bit, digit}
 use Rattle.ground.specs.Search.{all}
-use Rattle.ground.proofs.Bools.{and-left, and-right, lt-or-ge, beq→eq}
+use Rattle.ground.proofs.Bools.{and-right, lt-or-ge, beq→eq}
 use Rattle.ground.proofs.Search.{all-at}
-use Rattle.ground.proofs.HighBits.{high-bit}
 use Rattle.ground.proofs.Bits.{bit-or, bit-of-zero}
+use Rattle.ground.proofs.HighBits.{high-bit}
 use Rattle.words.specs.Words.{member, split, space, isFalse, bare, among, isName, allNames, indexOf, indexes, twice, trueIndexes}
-use Rattle.words.proofs.Pieces.{part, PieceEnd}
 use Rattle.words.specs.Marks.{Marking, Marked, Names, areNames}
 use Rattle.words.specs.declared.names.Marks.{Marks}
 use Rattle.words.specs.declared.names.Naming.{Naming}
 use Rattle.words.specs.declared.names.Naming.the-variants.{Stray, Of}
+use Rattle.words.proofs.NameForms.{between}
+use Rattle.words.proofs.Pieces.{part, PieceEnd}
 
 pub bare-false : (w : List ℕ) → isFalse w ≡ true → bare w ≡ drop 1 w
 unfolding bare
@@ -111,12 +112,10 @@ unfolding isName
 name-among signed first count w t = and-right ((signed || not (isFalse w)) && eqb (length (bare w)) 1) (among first count (getD (bare w) 0 0)) t
 
 pub name-least : (signed : Bool) (first count : ℕ) (w : List ℕ) → T (isName signed first count w) → first ≤ getD (bare w) 0 0
-unfolding among
-name-least signed first count w t = let c = getD (bare w) 0 0 in leb→le first c (and-left (leb first c) (ltb c (first + count)) (name-among signed first count w t))
+name-least signed first count w t = between first count (getD (bare w) 0 0) (name-among signed first count w t) .0
 
 pub name-most : (signed : Bool) (first count : ℕ) (w : List ℕ) → T (isName signed first count w) → getD (bare w) 0 0 < first + count
-unfolding among
-name-most signed first count w t = let c = getD (bare w) 0 0 in ltb→lt c (first + count) (and-right (leb first c) (ltb c (first + count)) (name-among signed first count w t))
+name-most signed first count w t = between first count (getD (bare w) 0 0) (name-among signed first count w t) .1
 
 -- ---- the marks of all words
 

@@ -4,7 +4,7 @@ use crate::piece_end;
 use ground::bit_of;
 use ground::peek;
 ghost use mathlib.Core.Path.{_≡_};
-ghost use mathlib.Core.Bool.{Bool, _&&_, _||_};
+ghost use mathlib.Core.Bool.{_&&_, _||_};
 ghost use Prim.Native.Nat.{ℕ, _<_};
 ghost use lib.Dec.{eqb};
 ghost use lib.ListN.{length, getD};
@@ -61,6 +61,9 @@ fn is_name(signed: bool, first: u8, count: u8, word: &[u8]) -> bool
     among(first, count, sign_of(word))
 }
 
+// How many things a byte can mark.
+const MARKS_MOST: u8 = 8;
+
 // What some words name: a bit for each thing, a bit for each without `~`, and whether one is named
 // twice.
 pub struct Marks {
@@ -99,7 +102,7 @@ fn mark(marks: Marks, i: u8, value: bool) -> Marks
 
 // What becomes of words that should be names.
 pub enum Naming {
-    // One of them is no name; or more than eight things could be named, which no byte can mark.
+    // One of them is no name; or more things could be named than a byte can mark.
     Stray,
     // All are names, of these.
     Of(Marks),
@@ -110,7 +113,7 @@ pub enum Naming {
 pub fn marks_of(signed: bool, first: u8, count: u8, words: &[u8]) -> Naming
     ensures { λ r. ⌜ Names (areNames signed first count (split space (now (words .entry)))) first (split space (now (words .entry))) r ⌝ }
 {
-    if 8 < count {
+    if MARKS_MOST < count {
         return Naming::Stray;
     }
     let mut marks = Marks {

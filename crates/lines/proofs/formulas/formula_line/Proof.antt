@@ -1,5 +1,4 @@
 -- `formula_line` meets its contract, by what the formula's reader answers.
-use mathlib.Core.Path.{subst}
 use Rattle.lines.specs.Reading.{next}
 use Rattle.lines.specs.Inner.{dueAfter}
 use Rattle.lines.specs.declared.desk.Fault.the-variants.{Formula}

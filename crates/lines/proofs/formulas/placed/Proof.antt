@@ -1,5 +1,5 @@
 -- `placed` meets its contract, by the place.
-use mathlib.Core.Path.{refl, sym, ap, _∙_, subst}
+use mathlib.Core.Path.{sym, ap, _∙_, subst}
 use Rattle.lines.specs.Inner.{Room, placedDesk, dueAfter}
 use Rattle.lines.specs.declared.formulas.Place.{Place}
 use Rattle.lines.specs.declared.desk.Taken.the-variants.{Next}

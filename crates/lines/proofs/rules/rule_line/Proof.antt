@@ -1,5 +1,5 @@
 -- `rule_line` meets its contract, way by way.
-use mathlib.Core.Path.{sym, ap}
+use mathlib.Core.Path.{ap}
 use Prim.Native.Nat.{ℕ, _-_}
 use native.Mathlib.Omega.{arith}
 use Rattle.lines.specs.declared.desk.Fault.the-variants.{Twice}
