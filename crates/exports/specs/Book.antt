@@ -10,7 +10,7 @@ use Rattle.book.specs.declared.writing.WriteAnswer.{WriteAnswer}
 use Rattle.book.specs.declared.writing.WriteAnswer.the-variants.{Written, Refused as NotWritten}
 use Rattle.exports.specs.Packed.{packed}
 
--- "n * 256 + m", or the refusal as one number
+-- n times 256 plus m, or the refusal as one number
 abbrev pub readReturned : ReadAnswer → ℕ
 readReturned (Book n m) = n * 256 + m
 readReturned (Refused r) = packed (number r) (place r)
@@ -21,7 +21,7 @@ pub record BookRead (book old : List ℕ) (result : ℕ) (new : List ℕ) : Type
   pub reads : Reads book old answer new
   pub result-is : result ≡ readReturned answer
 
--- "0", or the refusal as one number
+-- 0, or the refusal as one number
 abbrev pub writeReturned : WriteAnswer → ℕ
 writeReturned Written = 0
 writeReturned (NotWritten r) = packed (number r) (place r)

@@ -9,7 +9,7 @@ use Rattle.plancheck.specs.declared.answer.CheckAnswer.{CheckAnswer}
 use Rattle.plancheck.specs.declared.answer.CheckAnswer.the-variants.{Yes, Refused}
 use Rattle.exports.specs.Packed.{packed}
 
--- "yes: 0", or the refusal as one number
+-- yes: 0, or the refusal as one number
 abbrev pub checked : CheckAnswer → ℕ
 checked Yes = 0
 checked (Refused r) = packed (number r) (place r)

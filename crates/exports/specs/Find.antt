@@ -9,11 +9,11 @@ use Rattle.finder.specs.declared.finding.Answer.the-variants.{Reach, Cannot, Re
 use Rattle.question.specs.declared.Question.{Question}
 use Rattle.exports.specs.Packed.{packed}
 
--- "team: bit q for post index q. known: bit i for setting i; values: bit i where it is known true"
+-- the team has bit q for the post with index q; known bit i for setting i, and values bit i where it is known to be true
 abbrev pub asked : ℕ → ℕ → ℕ → Question
 asked team known values = record { team = team; known = known; values = values }
 
--- "reach: height << 16 | plan length; cannot: 0", or the refusal as one number
+-- reach: the height times 2^16 plus the plan's length; cannot: 0; or the refusal as one number
 abbrev pub found : Answer → ℕ
 found (Reach height size) = height * 2 ^ 16 + size
 found Cannot = 0

@@ -1,4 +1,4 @@
--- `pj_formula_read`: what the formula reader answers, as one number; "a refusal leaves the 16 bytes as they were".
+-- `pj_formula_read`: what the formula reader answers, as one number; a refusal leaves the 16 lent bytes as they were.
 use mathlib.Core.Path.{_≡_}
 use mathlib.Core.List.{List}
 use Prim.Native.Nat.{ℕ}
@@ -7,7 +7,7 @@ use Rattle.formula.specs.declared.Answer.{Answer}
 use Rattle.formula.specs.declared.Answer.the-variants.{Accepted, Refused}
 use Rattle.exports.specs.Packed.{packed}
 
--- "0", or the refusal as one number
+-- 0, or the refusal as one number
 abbrev pub returned : Answer → ℕ
 returned Accepted = 0
 returned (Refused r) = packed (number r) (place r)

@@ -1,5 +1,5 @@
-//! The library under test, as safe functions on rooms. What each result means is DESIGN.md's section on the C
-//! interface: a refusal is a word with its number in the upper half (`refusal.rs`).
+//! The library under test, as safe functions on rooms. What each result means is said in include/parjolenc.h: a
+//! refusal is a word with its number in the upper half (`refusal.rs`).
 
 #[cfg(hosted)]
 #[path = "ffi/hosted.rs"]
