@@ -14,7 +14,7 @@ use Rattle.book.specs.Block.{Zeros, check, number16, RightCheck}
 use Rattle.book.specs.Rule.{tablePlace, table}
 use Rattle.book.specs.Sound.{Head, Tables, SettingBlock}
 use Rattle.book.specs.Written.{bytes16, sealed, headBlock, settingBlock}
-use Rattle.book.proofs.Lists.{getD-part, length-part}
+use Rattle.ground.proofs.Lists.{getD-part, length-part}
 use Rattle.book.proofs.CheckLaws.{check-same}
 use Rattle.book.proofs.StrayLaws.{table-byte, place-post}
 use Rattle.book.proofs.WriteLaws.{length-setting}

@@ -1,5 +1,5 @@
 -- Laws that belong to no one function, and the theorems that others cite.
-pub mod Lists
+pub mod InOrder
 pub mod CheckLaws
 pub mod StrayLaws
 pub mod BookLaws

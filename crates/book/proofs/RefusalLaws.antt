@@ -15,7 +15,7 @@ use Rattle.book.specs.Sound.{Tables, SettingBlock, Sound, tablesOf}
 use Rattle.ground.specs.Order.{First}
 use Rattle.book.specs.Refusals.{Whole, settingsOf, postsOf, RightHead, bookRows, writeRows}
 use Rattle.book.specs.Inner.{Clean}
-use Rattle.book.proofs.Lists.{getD-part}
+use Rattle.ground.proofs.Lists.{getD-part}
 use Rattle.ground.proofs.Answers.{lowest-map}
 use Rattle.ground.proofs.OrderLaws.{least-only, none-only}
 use Rattle.book.proofs.CheckLaws.{block-byte}

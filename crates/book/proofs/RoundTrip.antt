@@ -8,7 +8,8 @@ use lib.Seq.{take-all, take-at, drop-drop, drop-append-add, getD-take}
 use Rattle.book.specs.Block.{block, RightCheck}
 use Rattle.book.specs.Sound.{Head, Tables, SettingBlock, Sound, rightsOf, tablesOf}
 use Rattle.book.specs.Written.{headBlock, settingBlock, settingBlocks, bookOf, Writable}
-use Rattle.book.proofs.Lists.{getD-part, length-part, part-inOrder, inOrder-same, inOrder-parts}
+use Rattle.ground.proofs.Lists.{getD-part, length-part}
+use Rattle.book.proofs.InOrder.{part-inOrder, inOrder-same, inOrder-parts}
 use Rattle.book.proofs.WriteLaws.{length-head, length-setting, length-tables, length-rights, tables-block}
 use Rattle.book.proofs.BlockLaws.{head-sealed, setting-sealed, tables-same, head-right, head-head, setting-right, setting-setting, setting-tables}
 use Rattle.book.proofs.SoundLaws.{length-book}

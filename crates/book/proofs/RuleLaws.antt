@@ -11,7 +11,7 @@ use Rattle.book.specs.Block.{block}
 use Rattle.book.specs.Rule.{tablePlace, table, rulePlace, rule}
 use Rattle.book.specs.Sound.{tablesOf}
 use Rattle.book.specs.Written.{settingBlock, bookOf, Writable}
-use Rattle.book.proofs.Lists.{getD-part, length-part, part-same}
+use Rattle.ground.proofs.Lists.{getD-part, length-part, part-same}
 use Rattle.book.proofs.WriteLaws.{length-setting, length-tables}
 use Rattle.book.proofs.BlockLaws.{setting-byte}
 use Rattle.book.proofs.RoundTrip.{written-setting, written-sound}

@@ -18,7 +18,7 @@ use Rattle.ground.specs.Order.{First, Clear}
 use Rattle.book.specs.Refusals.{number, place, Whole, settingsOf, postsOf, RightHead, bookRows, readRows, writeRows}
 use Rattle.book.specs.Promise.{Judges}
 use Rattle.book.specs.Inner.{MayWrite}
-use Rattle.book.proofs.Lists.{sets-front}
+use Rattle.ground.proofs.Lists.{sets-front}
 use Rattle.ground.proofs.OrderLaws.{least-only, none-only, first-left, first-right, clear-append}
 use Rattle.book.proofs.RefusalLaws.{none-block, down}
 use Rattle.book.proofs.WriteLaws.{run-on, length-head, length-settings, length-rights}

@@ -21,7 +21,7 @@ use Rattle.book.specs.Rule.{tablePlace, table}
 use Rattle.book.specs.Sound.{Tables, SettingBlock}
 use Rattle.ground.specs.Tells.{Tells}
 use Rattle.book.specs.Inner.{live, Clean}
-use Rattle.book.proofs.Lists.{getD-part}
+use Rattle.ground.proofs.Lists.{getD-part}
 use Rattle.ground.proofs.Bools.{lt-or-ge}
 use Rattle.ground.proofs.HighBits.{high-bit, low-bits}
 

@@ -12,7 +12,8 @@ use Rattle.book.specs.declared.sums.Sums.{Sums}
 use Rattle.book.specs.Block.{check, block, inOrder}
 use Rattle.book.specs.Sound.{rightsOf, tablesOf}
 use Rattle.book.specs.Written.{bytes16, sealed, headBlock, settingBlock, settingBlocks}
-use Rattle.book.proofs.Lists.{sets-append, getD-sets, length-part, length-inOrder}
+use Rattle.ground.proofs.Lists.{sets-append, getD-sets, length-part}
+use Rattle.book.proofs.InOrder.{length-inOrder}
 use Rattle.book.proofs.CheckLaws.{check-same}
 
 -- one run after another

@@ -1,8 +1,8 @@
-// Bytes of slices: one that may not be there, and runs of them written into a lent room. Called by
-// this crate alone, which meets each `requires`: that a run lies within its slices.
+// Bytes of slices: one that may not be there, and a number of 16 bits, which this crate alone writes
+// where there is room for it.
 ghost use mathlib.Core.Path.{_≡_};
 ghost use Prim.Native.Nat.{_+_, _≤_};
-ghost use lib.ListN.{length, getD, take, drop, replicate};
+ghost use lib.ListN.{length, getD};
 ghost use lib.Seq.{sets};
 ghost use Rattle.book.specs.Written.{bytes16};
 
@@ -17,30 +17,6 @@ pub(crate) fn peek(bytes: &[u8], from: usize, i: usize) -> u8
         return 0;
     }
     bytes[from + i]
-}
-
-// Copies the `count` bytes of `source` that begin at `from` into the room at `to`.
-pub(crate) fn copy(source: &[u8], from: usize, count: usize, room: &mut [u8], to: usize)
-    requires { ⌜ (from + count ≤ length (now source)) × (to + count ≤ length (now room)) ⌝ }
-    ensures { λ _. ⌜ now (room .exit) ≡ sets (now (room .entry)) to (take count (drop from (now (source .entry)))) ⌝ }
-{
-    let mut i = 0;
-    while i < count {
-        room[to + i] = source[from + i];
-        i += 1;
-    }
-}
-
-// Writes `count` zero bytes into the room at `to`.
-pub(crate) fn zeros(count: usize, room: &mut [u8], to: usize)
-    requires { ⌜ to + count ≤ length (now room) ⌝ }
-    ensures { λ _. ⌜ now (room .exit) ≡ sets (now (room .entry)) to (replicate count 0) ⌝ }
-{
-    let mut i = 0;
-    while i < count {
-        room[to + i] = 0;
-        i += 1;
-    }
 }
 
 // Writes a number of 16 bits into the room at `to`, low byte first.

@@ -16,7 +16,7 @@ use Rattle.knowledge.proofs.Number.{sum-lt, sum-short, sum-ext}
 use Rattle.knowledge.proofs.Seven.{first-lt}
 use Rattle.knowledge.proofs.States.{first-in}
 use Rattle.ground.specs.Order.{First}
-use Rattle.book.proofs.Lists.{sets-front}
+use Rattle.ground.proofs.Lists.{sets-front}
 use Rattle.ground.proofs.OrderLaws.{least-only, first-left, first-right}
 use Rattle.book.proofs.SoundLaws.{sound-settings}
 use Rattle.plan.specs.Plans.{System, Plan}

@@ -7,7 +7,7 @@ use native.Mathlib.Numerals.{add-one}
 use native.Mathlib.Omega.{arith}
 use lib.ListN.{length, getD, set, length-append}
 use lib.Seq.{sets}
-use Rattle.book.proofs.Lists.{sets-append}
+use Rattle.ground.proofs.Lists.{sets-append}
 use Rattle.knowledge.specs.Acts.{setTo, lookAt, byteOf, planByte, settingOf}
 use Rattle.knowledge.proofs.Acts.{plan-byte}
 use Rattle.knowledge.specs.declared.act.Act.{Act}

@@ -1,6 +1,10 @@
 // The ground that every other crate stands on: bytes and bits, valuations, and the 16-byte tables that are
 // read at them. It refuses nothing and lends nothing; its specs say what a bit, a digit and a table are, and
 // its proofs hold the laws about them that the other crates cite.
+mod bytes;
+
+pub use bytes::copy;
+pub use bytes::zeros;
 ghost use mathlib.Core.Path.{_≡_};
 ghost use lib.ListN.{drop, getD};
 ghost use Rattle.ground.specs.Digits.{bit};

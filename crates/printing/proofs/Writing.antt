@@ -7,7 +7,7 @@ use native.Mathlib.Numerals.{add-one}
 use native.Mathlib.Omega.{arith}
 use lib.ListN.{length, getD, take, set, length-append}
 use lib.Seq.{sets, length-sets, take-nil, take-all, take-suc}
-use Rattle.book.proofs.Lists.{sets-append}
+use Rattle.ground.proofs.Lists.{sets-append}
 use Rattle.printing.specs.Printed.{fitted, Prints}
 use Rattle.printing.specs.Inner.{Ends, Wrote}
 

@@ -1,13 +1,13 @@
--- `book::bytes::zeros` meets its contract: after i turns i zero bytes stand in the room.
+-- `zeros` meets its contract: after i turns i zero bytes stand in the room.
 use borrow.Author.Needs.{needs}
 use mathlib.Core.Path.{_≡_, refl}
 use Prim.Native.Nat.{_≤_, _-_}
 use native.Mathlib.Omega.{arith}
 use lib.ListN.{length, take, replicate, length-set, length-replicate, getD-replicate}
 use lib.Seq.{sets}
-use Rattle.book.proofs.Lists.{write-step, write-done}
-use Rattle.book.proofs.bytes.zeros.Statement.{statement}
-use Rattle.book.proofs.bytes.zeros.Tie as tie
+use Rattle.ground.proofs.Lists.{write-step, write-done}
+use Rattle.ground.proofs.bytes.zeros.Statement.{statement}
+use Rattle.ground.proofs.bytes.zeros.Tie as tie
 
 abbrev Inv-loop : tie.InvT-loop
 Inv-loop count room₀ to i₀ room i = (i ≤ count) × (length room ≡ length room₀) × (room ≡ sets room₀ to (take i (replicate count 0)))

@@ -1,4 +1,4 @@
--- `book::bytes::copy` meets its contract: after i turns the first i bytes of the part stand in the room.
+-- `copy` meets its contract: after i turns the first i bytes of the part stand in the room.
 use borrow.Author.Needs.{needs}
 use mathlib.Core.Path.{_≡_, refl}
 use Prim.Native.Nat.{_≤_, _-_}
@@ -6,9 +6,9 @@ use native.Mathlib.Omega.{arith}
 use denote.Ref.{now}
 use lib.ListN.{length, take, drop, length-set}
 use lib.Seq.{sets}
-use Rattle.book.proofs.Lists.{write-step, write-done, getD-part, length-part}
-use Rattle.book.proofs.bytes.copy.Statement.{statement}
-use Rattle.book.proofs.bytes.copy.Tie as tie
+use Rattle.ground.proofs.Lists.{write-step, write-done, getD-part, length-part}
+use Rattle.ground.proofs.bytes.copy.Statement.{statement}
+use Rattle.ground.proofs.bytes.copy.Tie as tie
 
 abbrev Inv-loop : tie.InvT-loop
 Inv-loop source from count room₀ to i₀ room i = (i ≤ count) × (length room ≡ length room₀) × (room ≡ sets room₀ to (take i (take count (drop from source))))
