@@ -22,8 +22,8 @@ use Rattle.printing.specs.Printed.{reachText, Prints}
 use Rattle.printing.proofs.Theorems.{prints-unique}
 use Rattle.question.specs.Question.{systemOf, startNumber}
 use Rattle.words.proofs.Unique.{mask-one}
-use Rattle.lines.specs.Sheet.{Sheet}
-use Rattle.lines.proofs.Unique.{table-one, tables-one}
+use Rattle.line.specs.Sheet.{Sheet}
+use Rattle.line.proofs.Unique.{table-one, tables-one}
 use Rattle.sheet.specs.Answer.{Question, Tells}
 
 -- ---- rights
