@@ -80,7 +80,8 @@ pub struct Turn {
     pub desk: Desk,
 }
 
-// A desk on which only the size is stated. For this repository alone: the size is one that the program takes.
+// A desk on which only the size is stated. For this repository alone: the size is one that the
+// program takes.
 pub fn sized(settings: u8, posts: u8) -> Desk
     requires { ⌜ (1 ≤ settings) × (settings ≤ 5) × (1 ≤ posts) × (posts ≤ 8) ⌝ }
     ensures { λ r. ⌜ Holds (sized settings posts) r ⌝ }

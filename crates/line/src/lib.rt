@@ -1,4 +1,5 @@
-// One line of a sheet, by what is due: the desk after it, or what is wrong with it.
+// One line of a sheet, by what is due: the desk after it, or what is wrong with it. Each function is
+// called by this repository alone; nothing is written to what a caller lends.
 mod desk;
 mod formulas;
 mod line;

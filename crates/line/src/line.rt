@@ -46,7 +46,7 @@ fn is_size(line: &[u8]) -> bool
     among(b'1', 8, peek(line, 7))
 }
 
-// The first line.
+// The first line; the desk says nothing where it is at fault.
 pub fn size_line(line: &[u8]) -> Turn
     ensures { λ r. ⌜ Steps (sizeStep (now (line .entry))) (r .taken) (r .desk) ⌝ }
 {
@@ -179,7 +179,8 @@ fn rights_line(desk: Desk, line: &[u8]) -> Turn
     team_line(desk, line)
 }
 
-// Any line but the first. For this repository alone: the desk is that of some sheet.
+// Any line but the first; the desk says nothing where it is at fault. For this repository alone: the
+// desk that is given holds what some sheet has stated.
 pub fn later_line(due: Due, desk: Desk, text: &[u8]) -> Turn
     requires { ⌜ ((sheet : Sheet) × Holds sheet desk) ⌝ }
     ensures { λ r. ⌜ ((sheet : Sheet) → Holds sheet desk → Steps (step due sheet (now (text .entry))) (r .taken) (r .desk)) ⌝ }
