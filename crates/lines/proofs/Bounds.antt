@@ -14,11 +14,12 @@ use Rattle.formula.specs.Numbered.{formulaNumber}
 use Rattle.book.specs.declared.rule.Right.the-variants.{Look, Set}
 use Rattle.words.specs.Words.{split, newline, begins, twice}
 use Rattle.words.proofs.Split.{split-length}
-use Rattle.lines.specs.Sheet.{Rule, Sheet, isStated, knownSettings}
-use Rattle.lines.specs.Forms.{isSize, digitAt, isRule, ruleOf, isTeam, teamOf, isKnown, knownOf}
-use Rattle.lines.specs.Reading.{Step, fault, next, unless, unlessNumbered, unlessRefused, sized, withRule, withTeam, withKnown, withMake, withAsk, sizeStep, ruleStep, teamStep, knownStep, makeStep, askStep, oneOf, rightsStep, step, Outcome, refused, stated, ending, lines, firstLine, meaning}
-use Rattle.lines.specs.declared.desk.Due.{Due}
-use Rattle.lines.specs.declared.desk.Due.the-variants.{Rights, Known, Make, Asks}
+use Rattle.line.specs.Sheet.{Rule, Sheet, isStated, knownSettings}
+use Rattle.line.specs.Forms.{isSize, digitAt, isRule, ruleOf, isTeam, teamOf, isKnown, knownOf}
+use Rattle.line.specs.Steps.{Step, fault, next, unless, unlessNumbered, unlessRefused, sized, withRule, withTeam, withKnown, withMake, withAsk, sizeStep, ruleStep, teamStep, knownStep, makeStep, askStep, oneOf, rightsStep, step}
+use Rattle.line.specs.declared.desk.Due.{Due}
+use Rattle.line.specs.declared.desk.Due.the-variants.{Rights, Known, Make, Asks}
+use Rattle.lines.specs.Reading.{Outcome, refused, stated, ending, lines, firstLine, meaning}
 use Rattle.lines.proofs.LineByLine.{after, lines-after, first-after}
 use Rattle.lines.proofs.Grammar.{number-small}
 

@@ -8,9 +8,10 @@ use Rattle.formula.specs.Automaton.{isAtom, step, verdict}
 use Rattle.formula.specs.Numbered.{sentenceNumber, foreignNumber, formulaNumber}
 use Rattle.book.specs.declared.rule.Right.the-variants.{Look, Set}
 use Rattle.words.specs.Words.{onto, split, begins, among, isFalse, bare, isName, allNames, indexOf, indexes, twice}
-use Rattle.lines.specs.Sheet.{sameRight, concerns, isStated, knownSettings}
-use Rattle.lines.specs.Forms.{isSetting, isPost, isSize, digitAt, isRule, ruleOf, postWords, isTeam, teamOf, settingWords, isKnown, knownBy, knownOf}
-use Rattle.lines.specs.Reading.{unlessRefused, sized, withRule, withTeam, withKnown, withMake, withAsk, sizeStep, ruleStep, teamStep, knownStep, makeStep, askStep, rightsStep, refused, stated, lines, firstLine, meaning}
+use Rattle.line.specs.Sheet.{sameRight, concerns, isStated, knownSettings}
+use Rattle.line.specs.Forms.{isSetting, isPost, isSize, digitAt, isRule, ruleOf, postWords, isTeam, teamOf, settingWords, isKnown, knownBy, knownOf}
+use Rattle.line.specs.Steps.{unlessRefused, sized, withRule, withTeam, withKnown, withMake, withAsk, sizeStep, ruleStep, teamStep, knownStep, makeStep, askStep, rightsStep}
+use Rattle.lines.specs.Reading.{refused, stated, lines, firstLine, meaning}
 
 pub sheets-computed :
     -- "Input: ..", paper 01's sheet

@@ -11,12 +11,12 @@ use Rattle.ground.proofs.Bools.{and-left, and-right}
 use Rattle.book.specs.declared.rule.Right.{Right}
 use Rattle.book.specs.declared.rule.Right.the-variants.{Look, Set}
 use Rattle.words.specs.Words.{begins, twice}
-use Rattle.lines.specs.Sheet.{Rule, Sheet, isStated, knownSettings}
-use Rattle.lines.specs.Forms.{isSize, digitAt, isRule, ruleOf, isTeam, teamOf, isKnown, knownOf}
-use Rattle.lines.specs.Reading.{Step, next, unless, unlessRefused, sized, withRule, withTeam, withKnown, withMake, withAsk, sizeStep, ruleStep, teamStep, knownStep, makeStep, askStep, oneOf, rightsStep, step}
+use Rattle.line.specs.Sheet.{Rule, Sheet, isStated, knownSettings}
+use Rattle.line.specs.Forms.{isSize, digitAt, isRule, ruleOf, isTeam, teamOf, isKnown, knownOf}
+use Rattle.line.specs.Steps.{Step, next, unless, unlessRefused, sized, withRule, withTeam, withKnown, withMake, withAsk, sizeStep, ruleStep, teamStep, knownStep, makeStep, askStep, oneOf, rightsStep, step}
+use Rattle.line.specs.declared.desk.Due.{Due}
+use Rattle.line.specs.declared.desk.Due.the-variants.{Rights, Known, Make, Asks}
 use Rattle.lines.specs.Grammar.{ended, sizeText, word, ruleLine, ruleLines, makeLine, askLines, text, InLine, RulesFit, AsksFit, WellFormed}
-use Rattle.lines.specs.declared.desk.Due.{Due}
-use Rattle.lines.specs.declared.desk.Due.the-variants.{Rights, Known, Make, Asks}
 use Rattle.lines.proofs.LineForms.{begins-written, size-written, rule-written, team-written, known-written}
 use Rattle.lines.proofs.SoFar.{toRights, toTeam, toKnown, soFar, Begun, Teamed, WellSoFar, made, Good, good-begins, good-form, good-unless, good-refused}
 

@@ -16,11 +16,12 @@ use Rattle.formula.specs.Numbered.{sentenceNumber, foreignNumber, formulaNumber
 use Rattle.book.specs.declared.rule.Right.{Right}
 use Rattle.book.specs.declared.rule.Right.the-variants.{Look, Set}
 use Rattle.words.specs.Words.{split, newline, begins, twice}
-use Rattle.lines.specs.Sheet.{Rule, Sheet, isStated, knownSettings}
-use Rattle.lines.specs.Forms.{isSize, isRule, ruleOf, isTeam, isKnown}
-use Rattle.lines.specs.Reading.{Step, next, unless, unlessNumbered, unlessRefused, sized, withRule, withTeam, withKnown, withMake, withAsk, sizeStep, ruleStep, teamStep, knownStep, makeStep, askStep, rightsStep, Outcome, refused, stated, lines, firstLine, meaning}
+use Rattle.line.specs.Sheet.{Rule, Sheet, isStated, knownSettings}
+use Rattle.line.specs.Forms.{isSize, isRule, ruleOf, isTeam, isKnown}
+use Rattle.line.specs.Steps.{Step, next, unless, unlessNumbered, unlessRefused, sized, withRule, withTeam, withKnown, withMake, withAsk, sizeStep, ruleStep, teamStep, knownStep, makeStep, askStep, rightsStep}
+use Rattle.line.specs.declared.desk.Due.the-variants.{Rights, Known, Make, Asks}
+use Rattle.lines.specs.Reading.{Outcome, refused, stated, lines, firstLine, meaning}
 use Rattle.lines.specs.Grammar.{ended, sizeText, word, ruleLine, ruleLines, teamLine, knownLine, makeLine, askLines, text, RulesFit, AsksFit, WellFormed}
-use Rattle.lines.specs.declared.desk.Due.the-variants.{Rights, Known, Make, Asks}
 use Rattle.lines.proofs.LineForms.{clear-append, size-read, size-clear, rule-read, rule-clear, team-read, team-clear, known-read, known-clear}
 use Rattle.lines.proofs.LineByLine.{line-clear, after, lines-split, first-split}
 

@@ -1,12 +1,5 @@
--- The laws of a sheet's lines: line by line, what the functions need; the grammar, and where 22 stands; how far a meaning goes; and that `read` gives
+-- The laws of a whole sheet: line by line, what the functions need; the grammar, and where 22 stands; how far a meaning goes; and that `read` gives
 -- one thing alone.
-pub mod FormLaws
-pub mod StepLaws
-pub mod HoldLaws
-pub mod DeskLaws
-pub mod LineLaws
-pub mod Turns
-pub mod RuleTurns
 pub mod ReadLaws
 pub mod WordForms
 pub mod LineForms

@@ -5,10 +5,11 @@ use mathlib.Core.List.{List, [], _∷_, _++_, append-assoc}
 use Prim.Native.Nat.{ℕ, suc}
 use Rattle.words.specs.Words.{split, newline}
 use Rattle.words.proofs.Split.{Clear, some-piece, split-marked}
-use Rattle.lines.specs.Sheet.{Sheet}
-use Rattle.lines.specs.Reading.{Step, fault, next, sizeStep, step, Outcome, refused, lines, firstLine}
+use Rattle.line.specs.Sheet.{Sheet}
+use Rattle.line.specs.Steps.{Step, fault, next, sizeStep, step}
+use Rattle.line.specs.declared.desk.Due.{Due}
+use Rattle.lines.specs.Reading.{Outcome, refused, lines, firstLine}
 use Rattle.lines.specs.Grammar.{ended, InLine}
-use Rattle.lines.specs.declared.desk.Due.{Due}
 
 -- to be in a line is to be clear of byte 10
 pub in-line : (s : List ℕ) → Clear newline s → InLine s

@@ -8,16 +8,17 @@ use lib.ListN.{length, take, drop}
 use borrow.Author.Tests.{lt-ltb, le-ltb}
 use Rattle.words.specs.Words.{newline, split}
 use Rattle.words.proofs.Pieces.{part, PieceEnd}
-use Rattle.lines.specs.Sheet.{Sheet}
-use Rattle.lines.specs.Reading.{Step, fault, next, sized, sizeStep, step, Outcome, refused, stated, ending, lines, firstLine, meaning}
-use Rattle.lines.specs.Desk.{number, Proper, Holds, Reads}
-use Rattle.lines.specs.Inner.{Steps}
-use Rattle.lines.specs.declared.desk.Due.{Due}
-use Rattle.lines.specs.declared.desk.Due.the-variants.{Rights, Known, Make, Asks}
-use Rattle.lines.specs.declared.desk.Desk.{Desk}
-use Rattle.lines.specs.declared.desk.Fault.{Fault}
-use Rattle.lines.specs.declared.desk.Taken.{Taken}
-use Rattle.lines.specs.declared.desk.Taken.the-variants.{Next, No}
+use Rattle.line.specs.Sheet.{Sheet}
+use Rattle.line.specs.Steps.{Step, fault, next, sized, sizeStep, step}
+use Rattle.line.specs.Desk.{number, Proper, Holds, Steps}
+use Rattle.line.specs.declared.desk.Due.{Due}
+use Rattle.line.specs.declared.desk.Due.the-variants.{Rights, Known, Make, Asks}
+use Rattle.line.specs.declared.desk.Desk.{Desk}
+use Rattle.line.specs.declared.desk.Fault.{Fault}
+use Rattle.line.specs.declared.desk.Taken.{Taken}
+use Rattle.line.specs.declared.desk.Taken.the-variants.{Next, No}
+use Rattle.lines.specs.Reading.{Outcome, refused, stated, ending, lines, firstLine, meaning}
+use Rattle.lines.specs.Reads.{Reads}
 use Rattle.lines.specs.declared.Told.{Told}
 use Rattle.lines.specs.declared.Told.the-variants.{Refused}
 use Rattle.lines.proofs.LineByLine.{after, lines-on, first-on}

@@ -7,12 +7,13 @@ use native.Mathlib.Omega.{arith}
 use lib.ListN.{length, take}
 use Rattle.words.specs.Words.{split, newline}
 use Rattle.words.proofs.Split.{AllClear, some-piece, split-clear}
-use Rattle.lines.specs.Sheet.{Sheet}
-use Rattle.lines.specs.Reading.{Step, fault, next, sized, sizeStep, step, Outcome, refused, stated, ending, lines, firstLine}
+use Rattle.line.specs.Sheet.{Sheet}
+use Rattle.line.specs.Steps.{Step, fault, next, sized, sizeStep, step}
+use Rattle.line.specs.declared.desk.Due.{Due}
+use Rattle.line.specs.declared.desk.Due.the-variants.{Rights, Known, Make, Asks}
+use Rattle.lines.specs.Reading.{Outcome, refused, stated, ending, lines, firstLine}
 use Rattle.lines.specs.Grammar.{ended}
 use Rattle.lines.specs.Place.{BeginsSheet, allEnded}
-use Rattle.lines.specs.declared.desk.Due.{Due}
-use Rattle.lines.specs.declared.desk.Due.the-variants.{Rights, Known, Make, Asks}
 use Rattle.lines.proofs.LineByLine.{in-line, after, lines-after, first-after, lines-split, first-split}
 use Rattle.lines.proofs.SoFar.{soFar, WellSoFar, begins-less, so-far-begins, Good}
 use Rattle.lines.proofs.GoodLines.{size-good, step-good}

@@ -9,12 +9,12 @@ use lib.Dec.{T}
 use lib.ListN.{length}
 use Rattle.ground.specs.Text.{bytes}
 use Rattle.formula.specs.Numbered.{formulaNumber}
-use Rattle.lines.specs.Sheet.{Rule, Sheet}
-use Rattle.lines.specs.Reading.{Step, fault, next, unless, unlessNumbered, unlessRefused, withMake}
+use Rattle.line.specs.Sheet.{Rule, Sheet}
+use Rattle.line.specs.Steps.{Step, fault, next, unless, unlessNumbered, unlessRefused, withMake}
+use Rattle.line.specs.declared.desk.Due.{Due}
+use Rattle.line.specs.declared.desk.Due.the-variants.{Rights, Known, Make, Asks}
 use Rattle.lines.specs.Grammar.{ended, sizeText, ruleLines, teamLine, knownLine, makeLine, askLines, text, InLine, RulesFit, PostsFit, KnownFit, AsksFit, WellFormed}
 use Rattle.lines.specs.Place.{BeginsSheet}
-use Rattle.lines.specs.declared.desk.Due.{Due}
-use Rattle.lines.specs.declared.desk.Due.the-variants.{Rights, Known, Make, Asks}
 
 -- ---- the text of the lines so far, by what is due
 

@@ -8,12 +8,13 @@ use lib.Dec.{ltb}
 use lib.ListN.{length}
 use Rattle.words.specs.Words.{split, newline}
 use Rattle.words.proofs.Split.{joined, AllClear, joined-split, split-clear}
-use Rattle.lines.specs.Sheet.{Sheet}
-use Rattle.lines.specs.Reading.{Step, fault, next, sizeStep, step, Outcome, refused, stated, ending, lines, firstLine, meaning}
+use Rattle.line.specs.Sheet.{Sheet}
+use Rattle.line.specs.Steps.{Step, fault, next, sizeStep, step}
+use Rattle.line.specs.declared.desk.Due.{Due}
+use Rattle.line.specs.declared.desk.Due.the-variants.{Rights, Known, Make, Asks}
+use Rattle.lines.specs.Reading.{Outcome, refused, stated, ending, lines, firstLine, meaning}
 use Rattle.lines.specs.Grammar.{ended, text, WellFormed}
 use Rattle.lines.specs.Place.{IsSheet}
-use Rattle.lines.specs.declared.desk.Due.{Due}
-use Rattle.lines.specs.declared.desk.Due.the-variants.{Rights, Known, Make, Asks}
 use Rattle.lines.proofs.LineByLine.{in-line, after, lines-after, first-after}
 use Rattle.lines.proofs.SoFar.{soFar, WellSoFar, whole, Good}
 use Rattle.lines.proofs.GoodLines.{size-good, step-good}

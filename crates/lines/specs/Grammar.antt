@@ -9,7 +9,7 @@ use Rattle.ground.specs.Text.{byte, bytes}
 use Rattle.book.specs.declared.rule.Right.{Right}
 use Rattle.book.specs.declared.rule.Right.the-variants.{Look, Set}
 use Rattle.words.specs.Words.{newline, space}
-use Rattle.lines.specs.Sheet.{Rule, Known, Sheet}
+use Rattle.line.specs.Sheet.{Rule, Known, Sheet}
 
 -- "Lines [..] end in byte 10"
 unfoldable pub ended : List ℕ → List ℕ

@@ -25,14 +25,15 @@ use Rattle.book.specs.declared.rule.Right.{Right}
 use Rattle.book.specs.declared.rule.Right.the-variants.{Look, Set}
 use Rattle.printing.specs.Decimal.{decimal}
 use Rattle.printing.specs.Printed.{reachText, cannotText, fitted}
-use Rattle.lines.specs.Sheet.{Rule, Sheet, sameRight, concerns, isStated, ruleText, knownSettings, knownTrue}
+use Rattle.line.specs.Sheet.{Rule, Sheet, sameRight, concerns, isStated, ruleText, knownSettings, knownTrue}
 use Rattle.words.specs.Words.{member, onto, split, begins, among, isFalse, bare, isName, allNames, indexOf, indexes, twice}
-use Rattle.lines.specs.Forms.{isSetting, isPost, isSize, digitAt, isRule, ruleOf, postWords, isTeam, teamOf, settingWords, isKnown, knownBy, knownOf}
-use Rattle.lines.specs.Reading.{unlessRefused, sized, withRule, withTeam, withKnown, withMake, withAsk, sizeStep, ruleStep, teamStep, knownStep, makeStep, askStep, rightsStep, Outcome, refused, stated, lines, firstLine, meaning}
-use Rattle.lines.specs.Desk.{TablesOf}
+use Rattle.line.specs.Forms.{isSetting, isPost, isSize, digitAt, isRule, ruleOf, postWords, isTeam, teamOf, settingWords, isKnown, knownBy, knownOf}
+use Rattle.line.specs.Steps.{unlessRefused, sized, withRule, withTeam, withKnown, withMake, withAsk, sizeStep, ruleStep, teamStep, knownStep, makeStep, askStep, rightsStep}
+use Rattle.line.specs.Desk.{TablesOf}
+use Rattle.lines.specs.Reading.{Outcome, refused, stated, lines, firstLine, meaning}
 use Rattle.sheet.specs.Answer.{Question, Tells, Prints-outcome}
+use Rattle.line.proofs.HoldLaws.{nought-accepts}
 use Rattle.lines.proofs.Examples.{sheets-computed}
-use Rattle.lines.proofs.HoldLaws.{nought-accepts}
 use Rattle.sheet.proofs.Theorems.{answer-unique}
 use Rattle.marked.specs.Row.{Case, first, tables, Holds, prints}
 use Rattle.marked.specs.Table.{sixth, p6, p7, p8a, p8c, p6-sheet, p6-printed, p7-sheet, p8a-sheet, p8c-sheet}

@@ -18,7 +18,7 @@ use Rattle.book.specs.Sound.{Tables, tablesOf}
 use Rattle.book.specs.Rule.{table, tablePlace}
 use Rattle.book.specs.declared.rule.Right.{Right}
 use Rattle.book.specs.declared.rule.Right.the-variants.{Look as look-rule, Set as set-rule}
-use Rattle.book.proofs.Lists.{length-part}
+use Rattle.ground.proofs.Lists.{length-part}
 use Rattle.book.proofs.RuleLaws.{place-most}
 use Rattle.book.proofs.WriteLaws.{length-tables}
 use Rattle.book.proofs.RoundTrip.{written-sound}

@@ -6,10 +6,11 @@ use Rattle.book.specs.Written.{bookOf}
 use Rattle.plan.specs.Plans.{System}
 use Rattle.printing.specs.Printed.{refusedText, Prints}
 use Rattle.question.specs.Question.{systemOf}
+use Rattle.line.specs.Desk.{number}
+use Rattle.line.specs.declared.desk.Desk.{Desk}
+use Rattle.line.specs.declared.desk.Fault.{Fault}
 use Rattle.lines.specs.Reading.{Outcome, refused, stated, meaning}
-use Rattle.lines.specs.Desk.{number, Reads}
-use Rattle.lines.specs.declared.desk.Desk.{Desk}
-use Rattle.lines.specs.declared.desk.Fault.{Fault}
+use Rattle.lines.specs.Reads.{Reads}
 use Rattle.lines.specs.declared.Told.{Told}
 use Rattle.lines.specs.declared.Told.the-variants.{Stated, Refused}
 use Rattle.lines.proofs.Taken.{stated-written}

@@ -17,14 +17,14 @@ use Rattle.book.specs.Rule.{tablePlace, table}
 use Rattle.book.specs.Sound.{tablesOf}
 use Rattle.book.specs.declared.rule.Right.{Right}
 use Rattle.book.specs.declared.rule.Right.the-variants.{Look, Set}
-use Rattle.book.proofs.Lists.{getD-part, part-same}
+use Rattle.ground.proofs.Lists.{getD-part, part-same}
 use Rattle.book.proofs.WriteLaws.{length-tables}
 use Rattle.book.proofs.RuleLaws.{place-most}
-use Rattle.lines.specs.Sheet.{Rule, Sheet, concerns, isStated, ruleText}
+use Rattle.line.specs.Sheet.{Rule, Sheet, concerns, isStated, ruleText}
+use Rattle.line.specs.Desk.{TablesOf, slotOf, tableIn, Slot, Holds}
+use Rattle.line.specs.declared.desk.Desk.{Desk}
+use Rattle.line.proofs.HoldLaws.{nought-accepts}
 use Rattle.lines.specs.Grammar.{RulesFit, WellFormed}
-use Rattle.lines.specs.Desk.{TablesOf, slotOf, tableIn, Slot, Holds}
-use Rattle.lines.specs.declared.desk.Desk.{Desk}
-use Rattle.lines.proofs.HoldLaws.{nought-accepts}
 use Rattle.sheet.specs.Answer.{Question}
 use Rattle.sheet.specs.Inner.{rightsIn, learnIn}
 

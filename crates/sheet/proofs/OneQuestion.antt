@@ -14,7 +14,7 @@ use Rattle.book.specs.Sound.{tablesOf}
 use Rattle.book.specs.Written.{bookOf}
 use Rattle.book.specs.declared.rule.Right.{Right}
 use Rattle.book.specs.declared.rule.Right.the-variants.{Look, Set}
-use Rattle.book.proofs.Lists.{getD-part}
+use Rattle.ground.proofs.Lists.{getD-part}
 use Rattle.book.proofs.RuleLaws.{place-most}
 use Rattle.plan.specs.Plans.{System, Lawful, Plan}
 use Rattle.plan.proofs.Written.{written-works, written-unique}
@@ -22,8 +22,8 @@ use Rattle.printing.specs.Printed.{reachText, Prints}
 use Rattle.printing.proofs.Theorems.{prints-unique}
 use Rattle.question.specs.Question.{systemOf, startNumber}
 use Rattle.words.proofs.Unique.{mask-one}
-use Rattle.lines.specs.Sheet.{Sheet}
-use Rattle.lines.proofs.Unique.{table-one, tables-one}
+use Rattle.line.specs.Sheet.{Sheet}
+use Rattle.line.proofs.Unique.{table-one, tables-one}
 use Rattle.sheet.specs.Answer.{Question, Tells}
 
 -- ---- rights

@@ -35,10 +35,10 @@ use Rattle.question.specs.Rows.{TeamFits, KnownFits, GoalFits}
 use Rattle.question.specs.Asks.{ValidQuestion}
 use Rattle.question.proofs.Unique.{lawful}
 use Rattle.words.specs.Words.{member}
-use Rattle.lines.specs.Sheet.{Known, Sheet, knownSettings, knownTrue}
+use Rattle.line.specs.Sheet.{Known, Sheet, knownSettings, knownTrue}
+use Rattle.line.specs.Desk.{TablesOf}
+use Rattle.line.proofs.HoldLaws.{zero-at, zero-truth}
 use Rattle.lines.specs.Grammar.{PostsFit, KnownFit, WellFormed}
-use Rattle.lines.specs.Desk.{TablesOf}
-use Rattle.lines.proofs.HoldLaws.{zero-at, zero-truth}
 use Rattle.sheet.specs.Answer.{Question}
 
 -- ---- what is named

@@ -24,10 +24,10 @@ use Rattle.printing.proofs.Theorems.{prints-unique, refused-length, reach-lengt
 use Rattle.sides.specs.Over.{learnTable}
 use Rattle.question.specs.Question.{systemOf, startNumber, NoMaking}
 use Rattle.finder.proofs.Theorems.{enough}
-use Rattle.lines.specs.Sheet.{Sheet}
+use Rattle.line.specs.Sheet.{Sheet}
+use Rattle.line.specs.Desk.{TablesOf}
 use Rattle.lines.specs.Reading.{Outcome, refused, stated, meaning}
 use Rattle.lines.specs.Grammar.{WellFormed}
-use Rattle.lines.specs.Desk.{TablesOf}
 use Rattle.lines.proofs.Taken.{stated-written}
 use Rattle.lines.proofs.Bounds.{Small, small-meaning}
 use Rattle.sheet.specs.Answer.{Question, Tells, Prints-outcome, Answers}

@@ -17,9 +17,9 @@ use Rattle.plan.specs.Ranks.{Reach, Cannot, Written}
 use Rattle.printing.specs.Printed.{refusedText, cannotText, reachText, Prints}
 use Rattle.question.specs.Question.{systemOf, startNumber}
 use Rattle.words.specs.Words.{member}
-use Rattle.lines.specs.Sheet.{Sheet, ruleText, knownSettings, knownTrue}
+use Rattle.line.specs.Sheet.{Sheet, ruleText, knownSettings, knownTrue}
+use Rattle.line.specs.Desk.{TablesOf}
 use Rattle.lines.specs.Reading.{Outcome, refused, stated, meaning}
-use Rattle.lines.specs.Desk.{TablesOf}
 
 -- the question that a sheet asks: "Every rule and goal is worked on as a table", and a mask has a bit for each post or setting that is named
 pub record Question (sheet : Sheet) (rights make learn : List ℕ) (team known values : ℕ) : Type 0 where

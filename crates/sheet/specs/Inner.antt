@@ -5,10 +5,10 @@ use lib.ListN.{take}
 use Rattle.book.specs.Written.{bookOf}
 use Rattle.plan.specs.Plans.{System}
 use Rattle.question.specs.Question.{systemOf, startNumber}
-use Rattle.lines.specs.Sheet.{Sheet}
+use Rattle.line.specs.Sheet.{Sheet}
+use Rattle.line.specs.Desk.{Holds}
+use Rattle.line.specs.declared.desk.Desk.{Desk}
 use Rattle.lines.specs.Grammar.{WellFormed}
-use Rattle.lines.specs.Desk.{Holds}
-use Rattle.lines.specs.declared.desk.Desk.{Desk}
 
 -- a whole sheet is on the desk
 pub record Whole (d : Desk) : Type 0 where

@@ -1,7 +1,7 @@
 // The question that a whole sheet asks, through the same book and the same finder as stored books. For
 // this crate alone: a whole sheet is on the desk.
 use finder::Answer;
-use lines::Desk;
+use line::Desk;
 use question::Question;
 ghost use mathlib.Core.Path.{_≡_};
 ghost use Prim.Native.Nat.{_+_, _*_};

@@ -2,11 +2,11 @@
 use mathlib.Core.Path.{_≡_, sym, ap, _∙_, subst}
 use Prim.Native.Nat.{ℕ}
 use native.Mathlib.Omega.{arith}
+use Rattle.line.specs.declared.desk.Due.{Due}
+use Rattle.line.specs.declared.desk.Due.the-variants.{Asks}
+use Rattle.line.specs.declared.desk.Fault.the-variants.{Malformed}
 use Rattle.lines.specs.Reading.{Outcome, ending}
-use Rattle.lines.specs.Desk.{Reads}
-use Rattle.lines.specs.declared.desk.Due.{Due}
-use Rattle.lines.specs.declared.desk.Due.the-variants.{Asks}
-use Rattle.lines.specs.declared.desk.Fault.the-variants.{Malformed}
+use Rattle.lines.specs.Reads.{Reads}
 use Rattle.lines.specs.declared.Told.the-variants.{Stated}
 use Rattle.lines.proofs.ReadLaws.{refused-is, ended, ended-late, ended-whole}
 use borrow.Author.Needs.{needs}

@@ -6,9 +6,11 @@ use native.Mathlib.Omega.{arith}
 use lib.ListN.{length, drop}
 use Rattle.words.specs.Words.{split, newline}
 use Rattle.words.proofs.Pieces.{part, piece-is}
-use Rattle.lines.specs.Sheet.{Sheet}
-use Rattle.lines.specs.Reading.{Outcome, step, lines}
-use Rattle.lines.specs.Desk.{Holds, Reads}
+use Rattle.line.specs.Sheet.{Sheet}
+use Rattle.line.specs.Steps.{step}
+use Rattle.line.specs.Desk.{Holds}
+use Rattle.lines.specs.Reading.{Outcome, lines}
+use Rattle.lines.specs.Reads.{Reads}
 use Rattle.lines.proofs.ReadLaws.{faulted-by, went-on-by, refused-is, rest-ends, rest-faults, rest-goes-on}
 use Rattle.lines.proofs.rest.Statement.{statement}
 use Rattle.lines.proofs.rest.Tie as tie

@@ -1,0 +1,102 @@
+-- What each line of a sheet does: it is at fault, or it states something more. "22, 23, the formula's number", in this order; "25 directly after line 1".
+use mathlib.Core.Bool.{Bool, true, false, not, _&&_}
+use mathlib.Core.List.{List, [], _∷_, _++_}
+use Prim.Native.Nat.{ℕ, zero, suc}
+use lib.Dec.{leb, ltb}
+use lib.ListN.{length, drop}
+use Rattle.ground.specs.Text.{bytes}
+use Rattle.formula.specs.Numbered.{formulaNumber}
+use Rattle.book.specs.declared.rule.Right.the-variants.{Look, Set}
+use Rattle.words.specs.Words.{begins, twice}
+use Rattle.line.specs.Sheet.{Rule, Known as KnownSetting, Sheet, isStated, knownSettings}
+use Rattle.line.specs.Forms.{isSize, digitAt, isRule, ruleOf, isTeam, teamOf, isKnown, knownOf}
+use Rattle.line.specs.declared.desk.Due.{Due}
+use Rattle.line.specs.declared.desk.Due.the-variants.{Rights, Known, Make, Asks}
+
+-- what a line does: it is at fault, with this number; or the sheet goes on, with what is due next and what is stated so far
+pub data Step : Type 0 where
+  fault : ℕ → Step
+  next : Due → Sheet → Step
+
+-- a fault unless the test holds
+abbrev pub unless : Bool → ℕ → Step → Step
+unless true number later = later
+unless false number later = fault number
+
+-- the formula's number unless F is a formula of n settings
+abbrev pub unlessNumbered : ℕ → Step → Step
+unlessNumbered zero later = later
+unlessNumbered (suc number) later = fault (suc number)
+
+unfoldable pub unlessRefused : ℕ → List ℕ → Step → Step
+unlessRefused n F later = unlessNumbered (formulaNumber n F) later
+
+-- a sheet of which only the size is stated; the text `0` stands for the make formula until its line comes
+unfoldable pub sized : ℕ → ℕ → Sheet
+sized n m = record { settings = n; posts = m; rules = []; team = []; known = []; make = bytes "0"; asks = [] }
+
+-- the sheet with these lists for its own
+abbrev pub stating : Sheet → List Rule → List ℕ → List KnownSetting → List ℕ → List (List ℕ) → Sheet
+stating sheet rules team known make asks = record { settings = sheet .settings; posts = sheet .posts; rules = rules; team = team; known = known; make = make; asks = asks }
+
+-- and the sheet with one line more
+unfoldable pub withRule : Sheet → Rule → Sheet
+withRule sheet r = stating sheet (sheet .rules ++ (r ∷ [])) (sheet .team) (sheet .known) (sheet .make) (sheet .asks)
+
+unfoldable pub withTeam : Sheet → List ℕ → Sheet
+withTeam sheet line = stating sheet (sheet .rules) (teamOf line) (sheet .known) (sheet .make) (sheet .asks)
+
+unfoldable pub withKnown : Sheet → List ℕ → Sheet
+withKnown sheet line = stating sheet (sheet .rules) (sheet .team) (knownOf line) (sheet .make) (sheet .asks)
+
+unfoldable pub withMake : Sheet → List ℕ → Sheet
+withMake sheet F = stating sheet (sheet .rules) (sheet .team) (sheet .known) F (sheet .asks)
+
+unfoldable pub withAsk : Sheet → List ℕ → Sheet
+withAsk sheet F = stating sheet (sheet .rules) (sheet .team) (sheet .known) (sheet .make) (sheet .asks ++ (F ∷ []))
+
+-- `size N M`; "25 n above 5 in the program"
+unfoldable pub sizeStep : List ℕ → Step
+sizeStep line = unless (isSize line) 22 (unless (leb (digitAt line 5) 5) 25 (next Rights (sized (digitAt line 5) (digitAt line 7))))
+
+-- a right: "23 right [..] named twice"
+unfoldable pub ruleStep : Sheet → Rule → Step
+ruleStep sheet r =
+    unless (not (isStated (sheet .rules) (r .right) (r .setting) (r .post))) 23 (unlessRefused (sheet .settings) (r .text) (next Rights (withRule sheet r)))
+
+-- `team`: "23 [..] post [..] named twice"
+unfoldable pub teamStep : Sheet → List ℕ → Step
+teamStep sheet line = unless (isTeam (sheet .posts) line) 22 (unless (not (twice (λ i. false) (teamOf line))) 23 (next Known (withTeam sheet line)))
+
+-- `known`: "23 [..] setting named twice"
+unfoldable pub knownStep : Sheet → List ℕ → Step
+knownStep sheet line =
+    unless (isKnown (sheet .settings) line) 22 (unless (not (twice (λ i. false) (knownSettings (knownOf line)))) 23 (next Make (withKnown sheet line)))
+
+unfoldable pub makeStep : Sheet → List ℕ → Step
+makeStep sheet line = unless (begins (bytes "make ") line) 22 (unlessRefused (sheet .settings) (drop 5 line) (next Asks (withMake sheet (drop 5 line))))
+
+-- "up to four `ask F`"
+unfoldable pub askStep : Sheet → List ℕ → Step
+askStep sheet line =
+    unless (begins (bytes "ask ") line && ltb (length (sheet .asks)) 4) 22 (unlessRefused (sheet .settings) (drop 4 line) (next Asks (withAsk sheet (drop 4 line))))
+
+-- where rights are due: one more, or the team
+abbrev pub oneOf : Bool → Step → Bool → Step → Step → Step
+oneOf true look set? set team = look
+oneOf false look true set team = set
+oneOf false look false set team = team
+
+unfoldable pub rightsStep : Sheet → List ℕ → Step
+rightsStep sheet line =
+    oneOf
+    (isRule (bytes "read ") (sheet .settings) (sheet .posts) line) (ruleStep sheet (ruleOf (bytes "read ") Look line))
+    (isRule (bytes "write ") (sheet .settings) (sheet .posts) line) (ruleStep sheet (ruleOf (bytes "write ") Set line))
+    (teamStep sheet line)
+
+-- the line after the first, by what is due
+abbrev pub step : Due → Sheet → List ℕ → Step
+step Rights sheet line = rightsStep sheet line
+step Known sheet line = knownStep sheet line
+step Make sheet line = makeStep sheet line
+step Asks sheet line = askStep sheet line
