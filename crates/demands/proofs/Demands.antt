@@ -48,7 +48,7 @@ use Rattle.plancheck.proofs.OneAnswer.{checks-one}
 use Rattle.plancheck.proofs.Theorems.{yes-exact}
 use Rattle.printing.specs.Printed.{refusedText, cannotText, reachText, Prints}
 use Rattle.line.specs.Sheet.{Sheet}
-use Rattle.lines.specs.Reading.{Outcome, meaning, refused, stated}
+use Rattle.lines.specs.Reading.{Meaning, meaning, refused, stated}
 use Rattle.lines.specs.Place.{MalformedAt}
 use Rattle.sheet.specs.Answer.{Prints-outcome, Answers}
 use Rattle.lines.proofs.Place.{malformed-line, malformed-refused}
@@ -111,7 +111,7 @@ refused-plan book q make learn plan r x = x
 
 -- a sheet's is printed; 22 and its line are told by the grammar alone, unless an earlier line is refused for something else; and the formula's number is the one that `formula::read` answers
 pub refused-sheet : (s old : List ℕ) (r : ℕ) (new : List ℕ) (x L : ℕ) → meaning s ≡ refused x L → Answers s old r new → Prints old (refusedText x L) r new
-refused-sheet s old r new x L m a = subst (λ (o : Outcome). Prints-outcome o old r new) m a
+refused-sheet s old r new x L m a = subst (λ (o : Meaning). Prints-outcome o old r new) m a
 
 pub malformed : (s : List ℕ) (L : ℕ) → meaning s ≡ refused 22 L → MalformedAt s L
 malformed = malformed-line

@@ -16,7 +16,7 @@ use Rattle.book.specs.declared.rule.Right.the-variants.{Look, Set}
 use Rattle.words.specs.Words.{begins, twice}
 use Rattle.line.specs.Sheet.{Rule, Sheet, isStated, knownSettings}
 use Rattle.line.specs.Forms.{isSize, digitAt, isRule, ruleOf, isTeam, teamOf, isKnown, knownOf}
-use Rattle.line.specs.Steps.{Step, fault, next, unless, unlessNumbered, unlessRefused, sized, withRule, withTeam, withKnown, withMake, withAsk, sizeStep, ruleStep, teamStep, knownStep, makeStep, askStep, oneOf, rightsStep}
+use Rattle.line.specs.Steps.{Step, fault, next, unless, unlessNumbered, unlessRefused, sized, withRule, withTeam, withKnown, withMake, withAsk, sizeStep, ruleStep, teamStep, knownStep, makeStep, askStep, rightOrTeam, rightsStep}
 use Rattle.line.specs.declared.desk.Due.the-variants.{Rights, Known, Make, Asks}
 
 -- ---- a formula
@@ -89,6 +89,6 @@ module _ (sheet : Sheet) where
     ask-by a b p q = ap₂ (λ (a b : Bool). unless (a && b) 22 (unlessRefused (sheet .settings) (drop 4 line) (next Asks (withAsk sheet (drop 4 line))))) p q
 
     pub rights-by : (a b : Bool) → isRule (bytes "read ") (sheet .settings) (sheet .posts) line ≡ a → isRule (bytes "write ") (sheet .settings) (sheet .posts) line ≡ b
-        → rightsStep sheet line ≡ oneOf a (ruleStep sheet (ruleOf (bytes "read ") Look line)) b (ruleStep sheet (ruleOf (bytes "write ") Set line)) (teamStep sheet line)
+        → rightsStep sheet line ≡ rightOrTeam a (ruleStep sheet (ruleOf (bytes "read ") Look line)) b (ruleStep sheet (ruleOf (bytes "write ") Set line)) (teamStep sheet line)
     unfolding rightsStep
-    rights-by a b p q = ap₂ (λ (a b : Bool). oneOf a (ruleStep sheet (ruleOf (bytes "read ") Look line)) b (ruleStep sheet (ruleOf (bytes "write ") Set line)) (teamStep sheet line)) p q
+    rights-by a b p q = ap₂ (λ (a b : Bool). rightOrTeam a (ruleStep sheet (ruleOf (bytes "read ") Look line)) b (ruleStep sheet (ruleOf (bytes "write ") Set line)) (teamStep sheet line)) p q

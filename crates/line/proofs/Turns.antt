@@ -23,7 +23,7 @@ use Rattle.words.proofs.Pieces.{tail}
 use Rattle.words.proofs.NameLaws.{few-enough, names-stray, names-of, stray-names, of-names, marked-none}
 use Rattle.line.specs.Sheet.{Sheet, knownSettings}
 use Rattle.line.specs.Forms.{isRule, ruleOf, postWords, isTeam, teamOf, settingWords, isKnown, knownOf}
-use Rattle.line.specs.Steps.{Step, fault, next, unless, unlessRefused, withTeam, withKnown, withMake, withAsk, ruleStep, teamStep, knownStep, makeStep, askStep, oneOf, rightsStep}
+use Rattle.line.specs.Steps.{Step, fault, next, unless, unlessRefused, withTeam, withKnown, withMake, withAsk, ruleStep, teamStep, knownStep, makeStep, askStep, rightOrTeam, rightsStep}
 use Rattle.line.specs.Desk.{number, Proper, Holds, Steps}
 use Rattle.line.specs.Inner.{teamDesk, knownDesk, makeDesk, askedDesk, placedDesk, dueAfter}
 use Rattle.line.specs.declared.desk.Due.{Due}
@@ -211,5 +211,5 @@ module _ (sheet : Sheet) (d : Desk) (h : Holds sheet d) (line : List ℕ) where
   rule-form w a e = ap₂ (λ (n m : ℕ). isRule w n m line) (sym (h .settings)) (sym (h .posts)) ∙ e
 
   pub rights-of : (a b : Bool) → isRule (bytes "read ") (d .settings) (d .posts) line ≡ a → isRule (bytes "write ") (d .settings) (d .posts) line ≡ b
-      → rightsStep sheet line ≡ oneOf a (ruleStep sheet (ruleOf (bytes "read ") Look line)) b (ruleStep sheet (ruleOf (bytes "write ") Set line)) (teamStep sheet line)
+      → rightsStep sheet line ≡ rightOrTeam a (ruleStep sheet (ruleOf (bytes "read ") Look line)) b (ruleStep sheet (ruleOf (bytes "write ") Set line)) (teamStep sheet line)
   rights-of a b p q = rights-by sheet line a b (rule-form (bytes "read ") a p) (rule-form (bytes "write ") b q)

@@ -82,14 +82,14 @@ askStep sheet line =
     unless (begins (bytes "ask ") line && ltb (length (sheet .asks)) 4) 22 (unlessRefused (sheet .settings) (drop 4 line) (next Asks (withAsk sheet (drop 4 line))))
 
 -- where rights are due: one more, or the team
-abbrev pub oneOf : Bool → Step → Bool → Step → Step → Step
-oneOf true look set? set team = look
-oneOf false look true set team = set
-oneOf false look false set team = team
+abbrev pub rightOrTeam : Bool → Step → Bool → Step → Step → Step
+rightOrTeam true look set? set team = look
+rightOrTeam false look true set team = set
+rightOrTeam false look false set team = team
 
 unfoldable pub rightsStep : Sheet → List ℕ → Step
 rightsStep sheet line =
-    oneOf
+    rightOrTeam
     (isRule (bytes "read ") (sheet .settings) (sheet .posts) line) (ruleStep sheet (ruleOf (bytes "read ") Look line))
     (isRule (bytes "write ") (sheet .settings) (sheet .posts) line) (ruleStep sheet (ruleOf (bytes "write ") Set line))
     (teamStep sheet line)

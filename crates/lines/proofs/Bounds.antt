@@ -16,10 +16,10 @@ use Rattle.words.specs.Words.{split, newline, begins, twice}
 use Rattle.words.proofs.Split.{split-length}
 use Rattle.line.specs.Sheet.{Rule, Sheet, isStated, knownSettings}
 use Rattle.line.specs.Forms.{isSize, digitAt, isRule, ruleOf, isTeam, teamOf, isKnown, knownOf}
-use Rattle.line.specs.Steps.{Step, fault, next, unless, unlessNumbered, unlessRefused, sized, withRule, withTeam, withKnown, withMake, withAsk, sizeStep, ruleStep, teamStep, knownStep, makeStep, askStep, oneOf, rightsStep, step}
+use Rattle.line.specs.Steps.{Step, fault, next, unless, unlessNumbered, unlessRefused, sized, withRule, withTeam, withKnown, withMake, withAsk, sizeStep, ruleStep, teamStep, knownStep, makeStep, askStep, rightOrTeam, rightsStep, step}
 use Rattle.line.specs.declared.desk.Due.{Due}
 use Rattle.line.specs.declared.desk.Due.the-variants.{Rights, Known, Make, Asks}
-use Rattle.lines.specs.Reading.{Outcome, refused, stated, ending, lines, firstLine, meaning}
+use Rattle.lines.specs.Reading.{Meaning, refused, stated, ending, lines, firstLine, meaning}
 use Rattle.lines.proofs.LineByLine.{after, lines-after, first-after}
 use Rattle.lines.proofs.Grammar.{number-small}
 
@@ -41,7 +41,7 @@ small-refused n F later h = by-number (formulaNumber n F) (number-small n F)
     by-number zero l = h
     by-number (suc x) l = omega arith
 
-small-one : (a b : Bool) (x y z : Step) → SmallStep x → SmallStep y → SmallStep z → SmallStep (oneOf a x b y z)
+small-one : (a b : Bool) (x y z : Step) → SmallStep x → SmallStep y → SmallStep z → SmallStep (rightOrTeam a x b y z)
 small-one true b x y z h k l = h
 small-one false true x y z h k l = k
 small-one false false x y z h k l = l
@@ -90,7 +90,7 @@ small-step Asks v h line = small-ask v h line
 
 -- ---- all lines
 
-abbrev pub Small : ℕ → Outcome → Type 0
+abbrev pub Small : ℕ → Meaning → Type 0
 Small most (refused x line) = (x ≤ 25) × (line ≤ most)
 Small most (stated v) = v .settings ≤ 5
 
@@ -101,7 +101,7 @@ small-ending Make v rest L h = (omega arith, omega arith)
 small-ending Asks v [] L h = h
 small-ending Asks v (c ∷ rest) L h = (omega arith, omega arith)
 
-small-later : (o : Outcome) (a b : ℕ) → a ≤ b → Small a o → Small b o
+small-later : (o : Meaning) (a b : ℕ) → a ≤ b → Small a o → Small b o
 small-later (refused x line) a b l h = (h .0, omega (arith, h .1))
 small-later (stated v) a b l h = h
 

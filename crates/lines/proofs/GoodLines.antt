@@ -13,7 +13,7 @@ use Rattle.book.specs.declared.rule.Right.the-variants.{Look, Set}
 use Rattle.words.specs.Words.{begins, twice}
 use Rattle.line.specs.Sheet.{Rule, Sheet, isStated, knownSettings}
 use Rattle.line.specs.Forms.{isSize, digitAt, isRule, ruleOf, isTeam, teamOf, isKnown, knownOf}
-use Rattle.line.specs.Steps.{Step, next, unless, unlessRefused, sized, withRule, withTeam, withKnown, withMake, withAsk, sizeStep, ruleStep, teamStep, knownStep, makeStep, askStep, oneOf, rightsStep, step}
+use Rattle.line.specs.Steps.{Step, next, unless, unlessRefused, sized, withRule, withTeam, withKnown, withMake, withAsk, sizeStep, ruleStep, teamStep, knownStep, makeStep, askStep, rightOrTeam, rightsStep, step}
 use Rattle.line.specs.declared.desk.Due.{Due}
 use Rattle.line.specs.declared.desk.Due.the-variants.{Rights, Known, Make, Asks}
 use Rattle.lines.specs.Grammar.{ended, sizeText, word, ruleLine, ruleLines, makeLine, askLines, text, InLine, RulesFit, AsksFit, WellFormed}
@@ -86,7 +86,7 @@ rights-good v line b i =
     (ruleStep v (ruleOf (bytes "read ") Look line)) (ruleStep v (ruleOf (bytes "write ") Set line)) (teamStep v line)
     (rule-good v Look line b i) (rule-good v Set line b i) (team-good v line b)
   where
-    by-form : (look set? : Bool) (x y z : Step) → (T look → Good (toRights v ++ ended line) x) → (T set? → Good (toRights v ++ ended line) y) → Good (toRights v ++ ended line) z → Good (toRights v ++ ended line) (oneOf look x set? y z)
+    by-form : (look set? : Bool) (x y z : Step) → (T look → Good (toRights v ++ ended line) x) → (T set? → Good (toRights v ++ ended line) y) → Good (toRights v ++ ended line) z → Good (toRights v ++ ended line) (rightOrTeam look x set? y z)
     by-form true set? x y z f g h = f tt
     by-form false true x y z f g h = g tt
     by-form false false x y z f g h = h

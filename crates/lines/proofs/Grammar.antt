@@ -20,7 +20,7 @@ use Rattle.line.specs.Sheet.{Rule, Sheet, isStated, knownSettings}
 use Rattle.line.specs.Forms.{isSize, isRule, ruleOf, isTeam, isKnown}
 use Rattle.line.specs.Steps.{Step, next, unless, unlessNumbered, unlessRefused, sized, withRule, withTeam, withKnown, withMake, withAsk, sizeStep, ruleStep, teamStep, knownStep, makeStep, askStep, rightsStep}
 use Rattle.line.specs.declared.desk.Due.the-variants.{Rights, Known, Make, Asks}
-use Rattle.lines.specs.Reading.{Outcome, refused, stated, lines, firstLine, meaning}
+use Rattle.lines.specs.Reading.{Meaning, refused, stated, lines, firstLine, meaning}
 use Rattle.lines.specs.Grammar.{ended, sizeText, word, ruleLine, ruleLines, teamLine, knownLine, makeLine, askLines, text, RulesFit, AsksFit, WellFormed}
 use Rattle.lines.proofs.LineForms.{clear-append, size-read, size-clear, rule-read, rule-clear, team-read, team-clear, known-read, known-clear}
 use Rattle.lines.proofs.LineByLine.{line-clear, after, lines-split, first-split}
@@ -53,7 +53,7 @@ number-small n s =
 
 -- ---- what a well-formed sheet may come to
 
-abbrev pub Fine : Sheet → Outcome → Type 0
+abbrev pub Fine : Sheet → Meaning → Type 0
 Fine w (refused number line) = number ≡ 22 → ⊥
 Fine w (stated v) = v ≡ w
 
@@ -161,7 +161,7 @@ module _ (w : Sheet) (h : WellFormed w) where
 
 -- ---- the theorem, and what it says of 22
 
-fine-out : (w : Sheet) (o : Outcome) → Fine w o → (o ≡ stated w) ⊎ ((x : ℕ) × (p : ℕ) × (o ≡ refused x p) × (x ≡ 22 → ⊥))
+fine-out : (w : Sheet) (o : Meaning) → Fine w o → (o ≡ stated w) ⊎ ((x : ℕ) × (p : ℕ) × (o ≡ refused x p) × (x ≡ 22 → ⊥))
 fine-out w (refused x p) h = inr (x, p, refl, h)
 fine-out w (stated v) h = inl (ap stated h)
 

@@ -8,7 +8,7 @@ use Rattle.words.proofs.Split.{Clear, some-piece, split-marked}
 use Rattle.line.specs.Sheet.{Sheet}
 use Rattle.line.specs.Steps.{Step, fault, next, sizeStep, step}
 use Rattle.line.specs.declared.desk.Due.{Due}
-use Rattle.lines.specs.Reading.{Outcome, refused, lines, firstLine}
+use Rattle.lines.specs.Reading.{Meaning, refused, lines, firstLine}
 use Rattle.lines.specs.Grammar.{ended, InLine}
 
 -- to be in a line is to be clear of byte 10
@@ -21,7 +21,7 @@ line-clear [] h = tt
 line-clear (c ∷ s) h = (h .0, line-clear s (h .1))
 
 -- what comes of a sheet after line L, from what that line does
-abbrev pub after : ℕ → List (List ℕ) → Step → Outcome
+abbrev pub after : ℕ → List (List ℕ) → Step → Meaning
 after L pieces (fault number) = refused number L
 after L pieces (next d v) = lines (suc L) d v pieces
 

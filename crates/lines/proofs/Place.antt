@@ -13,7 +13,7 @@ use Rattle.ground.proofs.Bools.{decide, both, eq→eqb, lt-or-ge}
 use Rattle.ground.proofs.Search.{least-unique}
 use Rattle.words.specs.Words.{split, newline}
 use Rattle.words.proofs.Split.{joined, some-piece, joined-split}
-use Rattle.lines.specs.Reading.{Outcome, refused, stated, firstLine, meaning}
+use Rattle.lines.specs.Reading.{Meaning, refused, stated, firstLine, meaning}
 use Rattle.lines.specs.Grammar.{ended, text}
 use Rattle.lines.specs.Place.{BeginsSheet, IsSheet, allEnded, firstLines, Breaks, MalformedAt, at-line, at-end}
 use Rattle.lines.proofs.SoFar.{begins-less}
@@ -114,7 +114,7 @@ pub malformed-refused : (s : List ℕ) (L : ℕ) → MalformedAt s L → (meanin
 unfolding firstLines allEnded
 malformed-refused s L m = by-outcome (meaning s) refl
   where
-    by-outcome : (o : Outcome) → meaning s ≡ o → (o ≡ refused 22 L) ⊎ ((x : ℕ) × (p : ℕ) × (o ≡ refused x p) × (x ≡ 22 → ⊥) × (p < L))
+    by-outcome : (o : Meaning) → meaning s ≡ o → (o ≡ refused 22 L) ⊎ ((x : ℕ) × (p : ℕ) × (o ≡ refused x p) × (x ≡ 22 → ⊥) × (p < L))
     by-outcome (stated w) e = absurd (sheet-sound m (taken-only-well-formed s w e))
     by-outcome (refused x p) e =
         elim (decide (eqb x 22)) [

@@ -17,7 +17,7 @@ use Rattle.line.specs.declared.desk.Desk.{Desk}
 use Rattle.line.specs.declared.desk.Fault.{Fault}
 use Rattle.line.specs.declared.desk.Taken.{Taken}
 use Rattle.line.specs.declared.desk.Taken.the-variants.{Next, No}
-use Rattle.lines.specs.Reading.{Outcome, refused, stated, ending, lines, firstLine, meaning}
+use Rattle.lines.specs.Reading.{Meaning, refused, stated, ending, lines, firstLine, meaning}
 use Rattle.lines.specs.Reads.{Reads}
 use Rattle.lines.specs.declared.Told.{Told}
 use Rattle.lines.specs.declared.Told.the-variants.{Refused}
@@ -41,8 +41,8 @@ pub went-on-by : (st : Step) {t : Taken} (d : Desk) {due : Due} → t ≡ Next d
 went-on-by st {t} d {due} e s = went-on st due d (subst (λ (x : Taken). Steps st x d) e s)
 
 -- a sheet that is refused
-pub refused-is : {o : Outcome} {t : Told} (d : Desk) (why : Fault) (line : ℕ) → Proper why → o ≡ refused (number why) line → (t ≡ Refused why line) × Holds (sized 1 1) d → Reads o t d
-refused-is {o} {t} d why line p e (f, h) = subst (λ (x : Outcome). Reads x t d) (sym e) (subst (λ (x : Told). Reads (refused (number why) line) x d) (sym f) (refl, p, refl, h))
+pub refused-is : {o : Meaning} {t : Told} (d : Desk) (why : Fault) (line : ℕ) → Proper why → o ≡ refused (number why) line → (t ≡ Refused why line) × Holds (sized 1 1) d → Reads o t d
+refused-is {o} {t} d why line p e (f, h) = subst (λ (x : Meaning). Reads x t d) (sym e) (subst (λ (x : Told). Reads (refused (number why) line) x d) (sym f) (refl, p, refl, h))
 
 -- ---- the lines after the first, from a place on
 

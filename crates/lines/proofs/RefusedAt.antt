@@ -11,7 +11,7 @@ use Rattle.line.specs.Sheet.{Sheet}
 use Rattle.line.specs.Steps.{Step, fault, next, sized, sizeStep, step}
 use Rattle.line.specs.declared.desk.Due.{Due}
 use Rattle.line.specs.declared.desk.Due.the-variants.{Rights, Known, Make, Asks}
-use Rattle.lines.specs.Reading.{Outcome, refused, stated, ending, lines, firstLine}
+use Rattle.lines.specs.Reading.{Meaning, refused, stated, ending, lines, firstLine}
 use Rattle.lines.specs.Grammar.{ended}
 use Rattle.lines.specs.Place.{BeginsSheet, allEnded}
 use Rattle.lines.proofs.LineByLine.{in-line, after, lines-after, first-after, lines-split, first-split}
@@ -19,7 +19,7 @@ use Rattle.lines.proofs.SoFar.{soFar, WellSoFar, begins-less, so-far-be
 use Rattle.lines.proofs.GoodLines.{size-good, step-good}
 
 -- x at L, after the text `before`, from line K on, where the sheet goes on with these pieces; `run` is what comes of another text in their place
-pub record At (before : List ℕ) (pieces : List (List ℕ)) (run : List ℕ → Outcome) (K x L : ℕ) : Type 0 where
+pub record At (before : List ℕ) (pieces : List (List ℕ)) (run : List ℕ → Meaning) (K x L : ℕ) : Type 0 where
   pub taken : ℕ
   pub place : L ≡ K + taken
   pub inside : taken < length pieces
@@ -27,11 +27,11 @@ pub record At (before : List ℕ) (pieces : List (List ℕ)) (run : List ℕ →
   pub formed : (x ≡ 22 → ⊥) → (suc taken < length pieces) × BeginsSheet (before ++ allEnded (take (suc taken) pieces))
   pub same : suc taken < length pieces → (rest : List ℕ) → run (allEnded (take (suc taken) pieces) ++ rest) ≡ refused x L
 
-abbrev pub Placed : List ℕ → List (List ℕ) → (List ℕ → Outcome) → ℕ → Outcome → Type 0
+abbrev pub Placed : List ℕ → List (List ℕ) → (List ℕ → Meaning) → ℕ → Meaning → Type 0
 Placed before pieces run K (refused x L) = At before pieces run K x L
 Placed before pieces run K (stated w) = Unit
 
-module _ (before : List ℕ) (run : List ℕ → Outcome) (K : ℕ) (b : BeginsSheet before) where
+module _ (before : List ℕ) (run : List ℕ → Meaning) (K : ℕ) (b : BeginsSheet before) where
   begun-here : (pieces : List (List ℕ)) → BeginsSheet (before ++ allEnded (take 0 pieces))
   unfolding allEnded
   begun-here pieces = subst BeginsSheet (sym (append-nil before)) b
@@ -60,7 +60,7 @@ module _ (before : List ℕ) (run : List ℕ → Outcome) (K : ℕ) (b : BeginsS
   }
   at-step line (next d u) another more g e f = onward (lines (suc K) d u (another ∷ more)) (f d u (g .0))
     where
-      onward : (o : Outcome) → Placed (soFar d u) (another ∷ more) (λ s. lines (suc K) d u (split newline s)) (suc K) o → Placed before (line ∷ another ∷ more) run K o
+      onward : (o : Meaning) → Placed (soFar d u) (another ∷ more) (λ s. lines (suc K) d u (split newline s)) (suc K) o → Placed before (line ∷ another ∷ more) run K o
       onward (refused x L) a =
           let moved : (s : List ℕ) → BeginsSheet (soFar d u ++ s) → BeginsSheet (before ++ (ended line ++ s)) =
           λ s k. subst BeginsSheet (append-assoc before (ended line) s) (subst (λ (t : List ℕ). BeginsSheet (t ++ s)) (g .1) k) in
@@ -87,7 +87,7 @@ lines-placed [] rest K due v c h = by-due due v rest h
     by-due Asks v [] h = tt
     by-due Asks v (x ∷ rest) h = at-last (soFar Asks v) (λ s. lines K Asks v (split newline s)) K (so-far-begins Asks v h) (x ∷ rest)
 lines-placed (another ∷ more) line K due v c h =
-    let run : List ℕ → Outcome = λ s. lines K due v (split newline s) in
+    let run : List ℕ → Meaning = λ s. lines K due v (split newline s) in
     subst (Placed (soFar due v) (line ∷ another ∷ more) run K) (sym (lines-after K due v line another more))
     (at-step (soFar due v) run K (so-far-begins due v h) line (step due v line) another more
     (step-good due v line h (in-line line (c .0)))
@@ -104,7 +104,7 @@ first-placed : (line : List ℕ) (more : List (List ℕ)) → AllClear newline (
 unfolding firstLine
 first-placed rest [] c = at-last [] (λ s. firstLine (split newline s)) 1 empty-begins rest
 first-placed line (another ∷ more) c =
-    let run : List ℕ → Outcome = λ s. firstLine (split newline s) in
+    let run : List ℕ → Meaning = λ s. firstLine (split newline s) in
     subst (Placed [] (line ∷ another ∷ more) run 1) (sym (first-after line another more))
     (at-step [] run 1 empty-begins line (sizeStep line) another more
     (size-good line)

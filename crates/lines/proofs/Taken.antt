@@ -12,7 +12,7 @@ use Rattle.line.specs.Sheet.{Sheet}
 use Rattle.line.specs.Steps.{Step, fault, next, sizeStep, step}
 use Rattle.line.specs.declared.desk.Due.{Due}
 use Rattle.line.specs.declared.desk.Due.the-variants.{Rights, Known, Make, Asks}
-use Rattle.lines.specs.Reading.{Outcome, refused, stated, ending, lines, firstLine, meaning}
+use Rattle.lines.specs.Reading.{Meaning, refused, stated, ending, lines, firstLine, meaning}
 use Rattle.lines.specs.Grammar.{ended, text, WellFormed}
 use Rattle.lines.specs.Place.{IsSheet}
 use Rattle.lines.proofs.LineByLine.{in-line, after, lines-after, first-after}
@@ -20,7 +20,7 @@ use Rattle.lines.proofs.SoFar.{soFar, WellSoFar, whole, Good}
 use Rattle.lines.proofs.GoodLines.{size-good, step-good}
 
 -- what is stated is well formed, and its text is s
-abbrev Written : List ℕ → Outcome → Type 0
+abbrev Written : List ℕ → Meaning → Type 0
 Written s (refused number line) = Unit
 Written s (stated w) = WellFormed w × (text w ≡ s)
 

@@ -3,12 +3,12 @@ use mathlib.Core.Path.{_≡_}
 use Rattle.line.specs.Steps.{sized}
 use Rattle.line.specs.Desk.{number, Proper, Holds}
 use Rattle.line.specs.declared.desk.Desk.{Desk}
-use Rattle.lines.specs.Reading.{Outcome, refused, stated}
+use Rattle.lines.specs.Reading.{Meaning, refused, stated}
 use Rattle.lines.specs.declared.Told.{Told}
 use Rattle.lines.specs.declared.Told.the-variants.{Stated, Refused}
 
 -- what is read of a sheet: its first fault, with the desk of the smallest size beside it; or all that it states, on the desk
-abbrev pub Reads : Outcome → Told → Desk → Type 0
+abbrev pub Reads : Meaning → Told → Desk → Type 0
 Reads (refused x line) (Refused why at) d = (number why ≡ x) × Proper why × (at ≡ line) × Holds (sized 1 1) d
 Reads (refused x line) Stated d = ⊥
 Reads (stated sheet) (Refused why at) d = ⊥

@@ -30,8 +30,8 @@ use Rattle.words.specs.Words.{member, onto, split, begins, among, isFalse, bare
 use Rattle.line.specs.Forms.{isSetting, isPost, isSize, digitAt, isRule, ruleOf, postWords, isTeam, teamOf, settingWords, isKnown, knownBy, knownOf}
 use Rattle.line.specs.Steps.{unlessRefused, sized, withRule, withTeam, withKnown, withMake, withAsk, sizeStep, ruleStep, teamStep, knownStep, makeStep, askStep, rightsStep}
 use Rattle.line.specs.Desk.{TablesOf}
-use Rattle.lines.specs.Reading.{Outcome, refused, stated, lines, firstLine, meaning}
-use Rattle.sheet.specs.Answer.{Question, Tells, Prints-outcome}
+use Rattle.lines.specs.Reading.{Meaning, refused, stated, lines, firstLine, meaning}
+use Rattle.sheet.specs.Answer.{Question, PrintsFound, Prints-outcome}
 use Rattle.line.proofs.HoldLaws.{nought-accepts}
 use Rattle.lines.proofs.Examples.{sheets-computed}
 use Rattle.sheet.proofs.Theorems.{answer-unique}
@@ -44,17 +44,17 @@ use Rattle.marked.proofs.FindRows.{by-look, p6-shown, stuck, p7-caught,
 
 -- ---- a row, from the meaning of its sheet
 
-row-prints : (s t : String) (o : Outcome) → meaning (bytes s) ≡ o → ((old : List ℕ) → Prints-outcome o old (length (bytes t)) (fitted old (bytes t))) → Holds (prints s t)
+row-prints : (s t : String) (o : Meaning) → meaning (bytes s) ≡ o → ((old : List ℕ) → Prints-outcome o old (length (bytes t)) (fitted old (bytes t))) → Holds (prints s t)
 row-prints s t o m f old =
-    let yes = subst (λ (x : Outcome). Prints-outcome x old (length (bytes t)) (fitted old (bytes t))) (sym m) (f old) in
+    let yes = subst (λ (x : Meaning). Prints-outcome x old (length (bytes t)) (fitted old (bytes t))) (sym m) (f old) in
     (yes, λ r new a. answer-unique (bytes s) old r (length (bytes t)) new (fitted old (bytes t)) a yes)
 
 -- what a question's row says, as it is printed
 tells-reach : (c : Case) (h : ℕ) (k : Certificate) → T (shows c h k) → (t : List ℕ) → t ≡ reachText h (k .plan) → (old : List ℕ)
-    → Tells (systemFor c) (startFor c) old (length t) (fitted old t)
+    → PrintsFound (systemFor c) (startFor c) old (length t) (fitted old t)
 tells-reach c h k x t e old = inl (h, k .plan, shown-least c h k x, shown-written c h k x, record { count = ap length e; room = ap (fitted old) e })
 
-tells-cannot : (c : Case) (states : List ℕ) → T (catches c states) → (old : List ℕ) → Tells (systemFor c) (startFor c) old (length cannotText) (fitted old cannotText)
+tells-cannot : (c : Case) (states : List ℕ) → T (catches c states) → (old : List ℕ) → PrintsFound (systemFor c) (startFor c) old (length cannotText) (fitted old cannotText)
 tells-cannot c states x old = inr (caught-none c states x, record { count = refl; room = refl })
 
 -- ---- the question of P6 to P8
@@ -116,7 +116,7 @@ module _ (team : ℕ) (posts learn : List ℕ) (asks : List (List ℕ)) (w : Wel
   }
 
   sixth-prints : (s t : String) → meaning (bytes s) ≡ stated (sheet posts asks)
-      → ((old : List ℕ) → Tells (systemFor (sixth team learn)) (startFor (sixth team learn)) old (length (bytes t)) (fitted old (bytes t))) → Holds (prints s t)
+      → ((old : List ℕ) → PrintsFound (systemFor (sixth team learn)) (startFor (sixth team learn)) old (length (bytes t)) (fitted old (bytes t))) → Holds (prints s t)
   sixth-prints s t m f = row-prints s t (stated (sheet posts asks)) m (λ old. (tables (p6 .rules), first 204, tables learn, team, 0, 0, asked, f old))
 
 -- `team 1 2`, `team 1`

@@ -35,7 +35,7 @@ use Rattle.finder.specs.declared.finding.Answer.the-variants.{Reach, Cannot, Re
 use Rattle.question.proofs.Unique.{lawful}
 use Rattle.finder.proofs.Unique.{find-clear}
 use Rattle.line.specs.declared.desk.Desk.{Desk}
-use Rattle.sheet.specs.Answer.{Question, Tells}
+use Rattle.sheet.specs.Answer.{Question, PrintsFound}
 use Rattle.sheet.specs.Inner.{Whole, rightsIn, learnIn, bookIn, systemIn, startIn}
 use Rattle.sheet.proofs.SheetQuestion.{asked-writable, asked-valid, asked-most}
 use Rattle.sheet.proofs.DeskRights.{rights-length, desk-question}
@@ -142,9 +142,9 @@ module _ {d : Desk} (x : Whole d) where
       plan-readable = ((tree, plan-bytes, lettered), omega (arith, ap length plan-bytes, plan-most tree (reached .1 .1)))
 
       pub plan-told : (old : List ℕ) (x : ℕ) (new : List ℕ) → ((p : Plan) → take size plan′ ≡ encode p → Lettered p → Prints old (reachText height p) x new)
-          → Tells (systemIn d) (startIn d) old x new
+          → PrintsFound (systemIn d) (startIn d) old x new
       unfolding tree
       plan-told old x new f = inl (height, tree, reached .0, reached .1 .1, f tree plan-bytes lettered)
 
-    pub cannot-told : (old : List ℕ) (x : ℕ) (new : List ℕ) → r ≡ Cannot → Prints old cannotText x new → Tells (systemIn d) (startIn d) old x new
+    pub cannot-told : (old : List ℕ) (x : ℕ) (new : List ℕ) → r ≡ Cannot → Prints old cannotText x new → PrintsFound (systemIn d) (startIn d) old x new
     cannot-told old x new e f = inr (subst (λ (y : Answer). Answers (systemIn d) (startIn d) plan y plan′) e answered .0, f)

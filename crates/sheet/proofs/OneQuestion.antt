@@ -24,7 +24,7 @@ use Rattle.question.specs.Question.{systemOf, startNumber}
 use Rattle.words.proofs.Unique.{mask-one}
 use Rattle.line.specs.Sheet.{Sheet}
 use Rattle.line.proofs.Unique.{table-one, tables-one}
-use Rattle.sheet.specs.Answer.{Question, Tells}
+use Rattle.sheet.specs.Answer.{Question, PrintsFound}
 
 -- ---- rights
 
@@ -81,7 +81,7 @@ module _ {sheet : Sheet} {R R′ make make′ learn learn′ : List ℕ} {team t
 
 -- ---- its answer
 
-pub tells-one : {n : ℕ} {S : System} {k : ℕ} → Lawful n S → n ≤ 7 → {old new new′ : List ℕ} {r r′ : ℕ} → Tells S k old r new → Tells S k old r′ new′ → (r ≡ r′) × (new ≡ new′)
+pub tells-one : {n : ℕ} {S : System} {k : ℕ} → Lawful n S → n ≤ 7 → {old new new′ : List ℕ} {r r′ : ℕ} → PrintsFound S k old r new → PrintsFound S k old r′ new′ → (r ≡ r′) × (new ≡ new′)
 tells-one {n} {S} {k} law few {old} {new} {new′} {r} {r′} (inl (h, p, l, w, x)) (inl (j, s, m, v, y)) =
     prints-unique x (subst₂ (λ (i : ℕ) (t : Plan). Prints old (reachText i t) r′ new′) (least-unique m l) (written-unique law few s p k v w) y)
 tells-one {n} {S} {k} law few (inl (h, p, l, w, x)) (inr (none, y)) = absurd (none p (written-works S p k w))

@@ -26,11 +26,11 @@ use Rattle.question.specs.Question.{systemOf, startNumber, NoMaking}
 use Rattle.finder.proofs.Theorems.{enough}
 use Rattle.line.specs.Sheet.{Sheet}
 use Rattle.line.specs.Desk.{TablesOf}
-use Rattle.lines.specs.Reading.{Outcome, refused, stated, meaning}
+use Rattle.lines.specs.Reading.{Meaning, refused, stated, meaning}
 use Rattle.lines.specs.Grammar.{WellFormed}
 use Rattle.lines.proofs.Taken.{stated-written}
 use Rattle.lines.proofs.Bounds.{Small, small-meaning}
-use Rattle.sheet.specs.Answer.{Question, Tells, Prints-outcome, Answers}
+use Rattle.sheet.specs.Answer.{Question, PrintsFound, Prints-outcome, Answers}
 use Rattle.sheet.proofs.SheetQuestion.{tables-length, asked-lawful, asked-most}
 use Rattle.sheet.proofs.OneQuestion.{same-system, same-start, tells-one}
 
@@ -39,18 +39,18 @@ use Rattle.sheet.proofs.OneQuestion.{same-system, same-start, tells-one
 pub answer-unique : (s old : List ℕ) (r r′ : ℕ) (new new′ : List ℕ) → Answers s old r new → Answers s old r′ new′ → (r ≡ r′) × (new ≡ new′)
 answer-unique s old r r′ new new′ a b = by-outcome (meaning s) refl a b
   where
-    by-outcome : (o : Outcome) → meaning s ≡ o → Prints-outcome o old r new → Prints-outcome o old r′ new′ → (r ≡ r′) × (new ≡ new′)
+    by-outcome : (o : Meaning) → meaning s ≡ o → Prints-outcome o old r new → Prints-outcome o old r′ new′ → (r ≡ r′) × (new ≡ new′)
     by-outcome (refused x line) m p q = prints-unique p q
     by-outcome (stated sheet) m (R, M, L, t, k, v, q, x) (R′, M′, L′, t′, k′, v′, q′, y) =
         let w : WellFormed sheet = stated-written s sheet m .0 in
-        tells-one (asked-lawful w q) (w .settings-most) x (subst₂ (λ (S : System) (i : ℕ). Tells S i old r′ new′) (same-system q′ q) (same-start q′ q) y)
+        tells-one (asked-lawful w q) (w .settings-most) x (subst₂ (λ (S : System) (i : ℕ). PrintsFound S i old r′ new′) (same-system q′ q) (same-start q′ q) y)
 
 -- ---- 28,234 bytes always suffice
 
 pub answer-most : (s old : List ℕ) (r : ℕ) (new : List ℕ) → Answers s old r new → r ≤ 28234
 answer-most s old r new a = by-outcome (meaning s) refl (small-meaning s) a
   where
-    by-outcome : (o : Outcome) → meaning s ≡ o → Small 32770 o → Prints-outcome o old r new → r ≤ 28234
+    by-outcome : (o : Meaning) → meaning s ≡ o → Small 32770 o → Prints-outcome o old r new → r ≤ 28234
     by-outcome (refused x line) m h p = omega (arith, p .count, refused-length x line (omega (arith, h .0)) (omega (arith, h .1)))
     by-outcome (stated sheet) m h (R, M, L, t, k, v, q, inl (i, p, l, w, x)) =
         let S : System = systemOf (sheet .settings) (bookOf (sheet .settings) (sheet .posts) R) t M L in
@@ -78,10 +78,10 @@ reach-long h p =
 
 module _ (s old : List ℕ) (r : ℕ) (new : List ℕ) {sheet : Sheet} {rights make learn : List ℕ} {team known values : ℕ}
     (m : meaning s ≡ stated sheet) (q : Question sheet rights make learn team known values) (a : Answers s old r new) where
-  told : Tells (System-for sheet rights make learn team) (startNumber known values) old r new
+  told : PrintsFound (System-for sheet rights make learn team) (startNumber known values) old r new
   told =
-      let b = subst (λ (o : Outcome). Prints-outcome o old r new) m a in
-      subst₂ (λ (S : System) (i : ℕ). Tells S i old r new) (same-system (b .6) q) (same-start (b .6) q) (b .7)
+      let b = subst (λ (o : Meaning). Prints-outcome o old r new) m a in
+      subst₂ (λ (S : System) (i : ℕ). PrintsFound S i old r new) (same-system (b .6) q) (same-start (b .6) q) (b .7)
 
   -- where a plan works, `reach` is printed with the least height of one and a plan of that height that works
   pub reach-printed : (p : Plan) → Works (System-for sheet rights make learn team) (startNumber known values) p

@@ -19,7 +19,7 @@ use Rattle.question.specs.Question.{systemOf, startNumber}
 use Rattle.words.specs.Words.{member}
 use Rattle.line.specs.Sheet.{Sheet, ruleText, knownSettings, knownTrue}
 use Rattle.line.specs.Desk.{TablesOf}
-use Rattle.lines.specs.Reading.{Outcome, refused, stated, meaning}
+use Rattle.lines.specs.Reading.{Meaning, refused, stated, meaning}
 
 -- the question that a sheet asks: "Every rule and goal is worked on as a table", and a mask has a bit for each post or setting that is named
 pub record Question (sheet : Sheet) (rights make learn : List ℕ) (team known values : ℕ) : Type 0 where
@@ -35,17 +35,17 @@ pub record Question (sheet : Sheet) (rights make learn : List ℕ) (team known v
 
 -- the answer to it, with the room for what is printed before and after, and the length of all of it: "reach" with the least height and the plan
 -- written, or "cannot"
-abbrev pub Tells : System → ℕ → List ℕ → ℕ → List ℕ → Type 0
-Tells S start old r new =
+abbrev pub PrintsFound : System → ℕ → List ℕ → ℕ → List ℕ → Type 0
+PrintsFound S start old r new =
     ((h : ℕ) × (p : Plan) × Least (Reach S start) h × Written S start p × Prints old (reachText h p) r new)
     ⊎ (Cannot S start × Prints old cannotText r new)
 
-abbrev pub Prints-outcome : Outcome → List ℕ → ℕ → List ℕ → Type 0
+abbrev pub Prints-outcome : Meaning → List ℕ → ℕ → List ℕ → Type 0
 Prints-outcome (refused number line) old r new = Prints old (refusedText number line) r new
 Prints-outcome (stated sheet) old r new =
     (rights : List ℕ) × (make : List ℕ) × (learn : List ℕ) × (team : ℕ) × (known : ℕ) × (values : ℕ)
     × Question sheet rights make learn team known values
-    × Tells (systemOf (sheet .settings) (bookOf (sheet .settings) (sheet .posts) rights) team make learn) (startNumber known values) old r new
+    × PrintsFound (systemOf (sheet .settings) (bookOf (sheet .settings) (sheet .posts) rights) team make learn) (startNumber known values) old r new
 
 -- what `answer` prints for the sheet s
 abbrev pub Answers : List ℕ → List ℕ → ℕ → List ℕ → Type 0

@@ -7,7 +7,7 @@ ghost use mathlib.Core.Path.{_≡_};
 ghost use Prim.Native.Nat.{_+_, _*_};
 ghost use lib.ListN.{length, take};
 ghost use Rattle.finder.specs.Finds.{Answers};
-ghost use Rattle.sheet.specs.Answer.{Tells};
+ghost use Rattle.sheet.specs.Answer.{PrintsFound};
 ghost use Rattle.sheet.specs.Inner.{Whole, bookIn, systemIn, startIn};
 
 // The most bytes that a book, a rank table and a plan of 5 settings have: 512 × (1 + 5), 7^5, and
@@ -60,7 +60,7 @@ fn find(desk: Desk, plan: &mut [u8]) -> Answer
 // the plan fits its room.
 pub(crate) fn ask(desk: Desk, out: &mut [u8]) -> usize
     requires { ⌜ Whole desk ⌝ }
-    ensures { λ r. ⌜ Tells (systemIn desk) (startIn desk) (now (out .entry)) r (now (out .exit)) ⌝ }
+    ensures { λ r. ⌜ PrintsFound (systemIn desk) (startIn desk) (now (out .entry)) r (now (out .exit)) ⌝ }
 {
     let mut plan = [0u8; PLAN_MOST];
     match find(desk, &mut plan) {

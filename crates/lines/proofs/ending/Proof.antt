@@ -5,7 +5,7 @@ use native.Mathlib.Omega.{arith}
 use Rattle.line.specs.declared.desk.Due.{Due}
 use Rattle.line.specs.declared.desk.Due.the-variants.{Asks}
 use Rattle.line.specs.declared.desk.Fault.the-variants.{Malformed}
-use Rattle.lines.specs.Reading.{Outcome, ending}
+use Rattle.lines.specs.Reading.{Meaning, ending}
 use Rattle.lines.specs.Reads.{Reads}
 use Rattle.lines.specs.declared.Told.the-variants.{Stated}
 use Rattle.lines.proofs.ReadLaws.{refused-is, ended, ended-late, ended-whole}
@@ -50,7 +50,7 @@ returns-4 : tie.Need-returns-4
 returns-4 c = λ sheet h. refused-is (c .refused3 .result .desk) Malformed (c .before .before .before .before .args .number) tt (ended (c .before .before .before .before .args .due) sheet (c .before .before .before .before .args .rest .now) (c .before .before .before .before .args .number) (λ e. let z : _≡_ {A = Due} Asks _ = sym e ∙ c .before .enum-told3 .given .1 in let y : _≡_ {A = ℕ} 0 1 = cc in omega arith)) (c .refused3 .ensures)
 
 returns-5 : tie.Need-returns-5
-returns-5 c = λ sheet h. subst (λ (o : Outcome). Reads o Stated (c .before .before .before .before .args .desk)) (sym (ap (λ (x : Due). ending x sheet (c .before .before .before .before .args .rest .now) (c .before .before .before .before .args .number)) (c .before .enum-told4 .given .1) ∙ ended-whole sheet (c .before .before .before .before .args .rest .now) (c .before .before .before .before .args .number) (c .if1 .left))) h
+returns-5 c = λ sheet h. subst (λ (o : Meaning). Reads o Stated (c .before .before .before .before .args .desk)) (sym (ap (λ (x : Due). ending x sheet (c .before .before .before .before .args .rest .now) (c .before .before .before .before .args .number)) (c .before .enum-told4 .given .1) ∙ ended-whole sheet (c .before .before .before .before .args .rest .now) (c .before .before .before .before .args .number) (c .if1 .left))) h
 
 pub ending-spec : {M : Type 1} → statement M
 ending-spec =

@@ -9,7 +9,7 @@ use Rattle.words.specs.Words.{split, newline}
 use Rattle.words.proofs.Pieces.{piece-is}
 use Rattle.line.specs.Steps.{sizeStep}
 use Rattle.line.specs.declared.desk.Fault.the-variants.{Malformed, Length}
-use Rattle.lines.specs.Reading.{Outcome, lines}
+use Rattle.lines.specs.Reading.{Meaning, lines}
 use Rattle.lines.specs.Reads.{Reads}
 use Rattle.lines.proofs.ReadLaws.{faulted-by, went-on-by, refused-is, too-long, no-line, size-faults, size-goes-on}
 use borrow.Author.Needs.{needs}
@@ -66,7 +66,7 @@ returns-4 : tie.Need-returns-4
 returns-4 c =
     let p = piece-is (c .before .before .before .before .before .before .before .before .before .before .args .sheet .now) 0 newline (c .before .before .before .before .before .before .before .piece-end .result) (omega arith) (c .before .before .before .before .before .before .before .piece-end .ensures) in
     let w = went-on-by (sizeStep (take (c .before .before .before .before .before .before .before .piece-end .result) (c .before .before .before .before .before .before .before .before .before .before .args .sheet .now))) (c .before .before .before .before .size-line .result .desk) (c .before .before .taken2 .given .1) (c .before .before .before .before .size-line .ensures) in
-    subst (λ (o : Outcome). Reads o (c .rest .result .told) (c .rest .result .desk)) (sym (size-goes-on (c .before .before .before .before .before .before .before .before .before .before .args .sheet .now) (c .before .before .before .before .before .before .before .before .if1 .left) (c .before .before .before .before .before .before .before .piece-end .result) p (c .before .before .before .before .before .before .if2 .left) (w .1)))
+    subst (λ (o : Meaning). Reads o (c .rest .result .told) (c .rest .result .desk)) (sym (size-goes-on (c .before .before .before .before .before .before .before .before .before .before .args .sheet .now) (c .before .before .before .before .before .before .before .before .if1 .left) (c .before .before .before .before .before .before .before .piece-end .result) p (c .before .before .before .before .before .before .if2 .left) (w .1)))
     (subst (λ (k : ℕ). Reads (lines 2 (c .before .before .taken2 .given .0 .0) (w .0) (split newline (drop k (c .before .before .before .before .before .before .before .before .before .before .args .sheet .now)))) (c .rest .result .told) (c .rest .result .desk)) (add-one (c .before .before .before .before .before .before .before .piece-end .result)) (c .rest .ensures (w .0) (w .2)))
 
 pub read-spec : {M : Type 1} → statement M

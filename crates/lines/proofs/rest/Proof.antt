@@ -9,7 +9,7 @@ use Rattle.words.proofs.Pieces.{part, piece-is}
 use Rattle.line.specs.Sheet.{Sheet}
 use Rattle.line.specs.Steps.{step}
 use Rattle.line.specs.Desk.{Holds}
-use Rattle.lines.specs.Reading.{Outcome, lines}
+use Rattle.lines.specs.Reading.{Meaning, lines}
 use Rattle.lines.specs.Reads.{Reads}
 use Rattle.lines.proofs.ReadLaws.{faulted-by, went-on-by, refused-is, rest-ends, rest-faults, rest-goes-on}
 use Rattle.lines.proofs.rest.Statement.{statement}
@@ -45,7 +45,7 @@ returns : tie.Need-returns Inv-loop μ-loop
 returns c = λ stated h.
     let z = c .before .before .before .before .loop .inv .3 stated h in
     let p = piece-is (c .before .before .before .before .before .before .args .sheet .now) (c .before .before .before .before .loop .at) newline (c .before .before .before .piece-end .result) (c .before .before .before .before .loop .inv .0) (c .before .before .before .piece-end .ensures) in
-    subst (λ (o : Outcome). Reads o (c .ending .result .told) (c .ending .result .desk)) (sym (rest-ends (c .before .before .before .before .before .before .args .sheet .now) (c .before .before .before .before .loop .at) (c .before .before .before .piece-end .result) (c .before .before .before .before .loop .number) (c .before .before .before .before .loop .due) (z .0) p (c .before .before .if1 .taken)) ∙ z .2) (c .ending .ensures (z .0) (z .1))
+    subst (λ (o : Meaning). Reads o (c .ending .result .told) (c .ending .result .desk)) (sym (rest-ends (c .before .before .before .before .before .before .args .sheet .now) (c .before .before .before .before .loop .at) (c .before .before .before .piece-end .result) (c .before .before .before .before .loop .number) (c .before .before .before .before .loop .due) (z .0) p (c .before .before .if1 .taken)) ∙ z .2) (c .ending .ensures (z .0) (z .1))
 
 sub-later-line : tie.Need-sub-later-line Inv-loop μ-loop
 sub-later-line c = piece-is (c .before .before .before .before .args .sheet .now) (c .before .before .loop .at) newline (c .before .piece-end .result) (c .before .before .loop .inv .0) (c .before .piece-end .ensures) .from
