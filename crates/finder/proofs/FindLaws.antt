@@ -30,7 +30,7 @@ use Rattle.question.specs.Question.{startNumber}
 use Rattle.question.specs.Rows.{number, place, KnownFits, questionRows}
 use Rattle.question.specs.Asks.{ValidQuestion, Asks}
 use Rattle.finder.specs.Finds.{RanksFilled, Answers, findRows}
-use Rattle.finder.specs.Told.{Told, Room}
+use Rattle.writer.specs.Told.{Told, Room}
 use Rattle.finder.specs.declared.finding.Answer.the-variants.{Reach}
 use Rattle.question.specs.declared.Refusal.{Refusal}
 use Rattle.question.specs.declared.Question.{Question}

@@ -29,8 +29,8 @@ use Rattle.sides.specs.Over.{entry, PostTables, Made, Learnt, Marks, rankIf}
 use Rattle.sides.proofs.Tables.{post-known, goal-marked}
 use Rattle.spread.specs.Spread.{rank, May, HasLower, by-set, by-look, Spread}
 use Rattle.question.specs.Question.{goalSettled, systemOf}
-use Rattle.finder.specs.Told.{Told}
-use Rattle.finder.proofs.StepLaws.{some-bit}
+use Rattle.writer.specs.Told.{Told}
+use Rattle.writer.proofs.StepLaws.{some-bit}
 
 -- ---- masks
 

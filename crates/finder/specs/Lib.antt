@@ -1,3 +1,2 @@
--- What a reader must believe of the finder: what `find` gives. `Told` is for the private functions.
+-- What a reader must believe of the finder: what `find` gives.
 pub mod Finds
-pub mod Told

@@ -1,6 +1,4 @@
 // The finder: refusals 6 to 13, the ranks of all knowledge numbers, then the answer and its plan.
-use crate::written::length;
-use crate::written::write;
 use book::Right;
 use ground::SETTINGS_MOST;
 use knowledge::Knowledge;
@@ -9,11 +7,13 @@ use question::Question;
 use question::Refusal;
 use question::ask;
 use sides::SIDES;
+use writer::length;
+use writer::write;
 ghost use mathlib.Core.Path.{_≡_};
 ghost use Prim.Native.Nat.{ℕ, _^_, _≤_, _<_};
 ghost use lib.ListN.{length as size};
 ghost use Rattle.plan.specs.Plans.{System};
-ghost use Rattle.finder.specs.Told.{Told};
+ghost use Rattle.writer.specs.Told.{Told};
 ghost use Rattle.question.specs.Rows.{KnownFits};
 ghost use Rattle.finder.specs.Finds.{RanksFilled, Answers, Finds};
 ghost use Rattle.question.specs.Question.{systemOf, startNumber};

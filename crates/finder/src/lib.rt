@@ -4,8 +4,6 @@
 // were. A valid question fills the first 7^n bytes of the rank table with the ranks of all knowledge
 // numbers, and a success the first bytes of the plan room with the plan; no other byte is touched.
 mod finding;
-mod steps;
-mod written;
 
 pub use finding::Answer;
 pub use finding::find;

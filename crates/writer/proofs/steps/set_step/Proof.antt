@@ -8,9 +8,9 @@ use native.Mathlib.Omega.{arith}
 use Rattle.ground.specs.Digits.{bit}
 use Rattle.ground.specs.Search.{Least}
 use Rattle.plan.proofs.Certificate.{setTo-lt, lookAt-lt}
-use Rattle.finder.proofs.StepLaws.{number-small, side-small, at-side, rank-at, set-nobody, set-no-lower, set-do}
-use Rattle.finder.proofs.steps.set_step.Statement.{statement}
-use Rattle.finder.proofs.steps.set_step.Tie as tie
+use Rattle.writer.proofs.StepLaws.{number-small, side-small, at-side, rank-at, set-nobody, set-no-lower, set-do}
+use Rattle.writer.proofs.steps.set_step.Statement.{statement}
+use Rattle.writer.proofs.steps.set_step.Tie as tie
 
 mul-posts : tie.Need-mul-posts
 mul-posts c = omega (arith, c .before .pre)

@@ -2,10 +2,10 @@
 use Prim.Native.Nat.{ℕ}
 use mathlib.Core.Path.{_≡_, subst, sym}
 use native.Mathlib.Omega.{arith}
-use Rattle.finder.specs.Told.{Tries, family}
-use Rattle.finder.proofs.StepLaws.{pair-past, family-false, family-true, family-look}
-use Rattle.finder.proofs.steps.step_of.Statement.{statement}
-use Rattle.finder.proofs.steps.step_of.Tie as tie
+use Rattle.writer.specs.Told.{Tries, family}
+use Rattle.writer.proofs.StepLaws.{pair-past, family-false, family-true, family-look}
+use Rattle.writer.proofs.steps.step_of.Statement.{statement}
+use Rattle.writer.proofs.steps.step_of.Tie as tie
 
 returns : tie.Need-returns
 returns c = λ S t. pair-past t (c .before .before .args .k) (c .before .before .args .pair) (c .if1 .taken)

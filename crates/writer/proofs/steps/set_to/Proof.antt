@@ -1,8 +1,8 @@
 -- `set_to` meets its contract: the digits of the state after the set are those of its number.
-use Rattle.finder.proofs.StepLaws.{set-number}
+use Rattle.writer.proofs.StepLaws.{set-number}
 use borrow.Author.Needs.{needs}
-use Rattle.finder.proofs.steps.set_to.Statement.{statement}
-use Rattle.finder.proofs.steps.set_to.Tie as tie
+use Rattle.writer.proofs.steps.set_to.Statement.{statement}
+use Rattle.writer.proofs.steps.set_to.Tie as tie
 
 from-number-requires : tie.Need-from-number-requires
 from-number-requires c κs = search needs

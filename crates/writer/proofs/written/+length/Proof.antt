@@ -5,21 +5,21 @@ use native.Mathlib.Omega.{arith}
 use lib.ListN.{getD}
 use Rattle.knowledge.specs.declared.act.Act.the-variants.{Set, Look}
 use Rattle.plan.specs.Plans.{stop}
-use Rattle.finder.specs.Told.{Chooses, Ranked}
-use Rattle.finder.specs.declared.steps.Step.the-variants.{Stop, Do}
-use Rattle.finder.proofs.StepLaws.{number-small}
-use Rattle.finder.proofs.PlanLaws.{next-set, next-look, step-setting, most, stop-plan, set-plan, look-plan}
+use Rattle.writer.specs.Told.{Chooses, Ranked}
+use Rattle.writer.specs.declared.steps.Step.the-variants.{Stop, Do}
+use Rattle.writer.proofs.StepLaws.{number-small}
+use Rattle.writer.proofs.PlanLaws.{next-set, next-look, step-setting, most, stop-plan, set-plan, look-plan}
 use Prim.Native.Nat.{ℕ, _<_}
 use borrow.Fn.Kinds.{In}
 use borrow.Fn.PlainCycle.{Measures, is, falls, and}
-use Rattle.finder.proofs.written.length.Reads as length
-use Rattle.finder.proofs.written.length.Kinds as length-kinds
-use Rattle.finder.proofs.written.+length.Lts-length as length-lts
-use Rattle.finder.proofs.steps.choose.Reads as choose-reads
-use Rattle.finder.proofs.steps.look_at.Reads as look-at-reads
-use Rattle.finder.proofs.steps.set_to.Reads as set-to-reads
-use Rattle.finder.proofs.written.+length.{statement}
-use Rattle.finder.proofs.written.+length.Tie.{close}
+use Rattle.writer.proofs.written.length.Reads as length
+use Rattle.writer.proofs.written.length.Kinds as length-kinds
+use Rattle.writer.proofs.written.+length.Lts-length as length-lts
+use Rattle.writer.proofs.steps.choose.Reads as choose-reads
+use Rattle.writer.proofs.steps.look_at.Reads as look-at-reads
+use Rattle.writer.proofs.steps.set_to.Reads as set-to-reads
+use Rattle.writer.proofs.written.+length.{statement}
+use Rattle.writer.proofs.written.+length.Tie.{close}
 
 abbrev μ-length : Measures 3 length-kinds.ps ℕ
 μ-length κs a = getD (a .1 .1 .1 .0 .now) (a .1 .1 .1 .1 .0) 0

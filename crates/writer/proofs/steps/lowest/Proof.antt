@@ -1,9 +1,9 @@
 -- `lowest` meets its contract: the loop has found no bit below q.
 use Prim.Native.Nat.{_-_, _≤_}
 use native.Mathlib.Omega.{arith}
-use Rattle.finder.proofs.StepLaws.{NoneBelow, bit-set, bit-clear, lowest-here, lowest-more, lowest-last}
-use Rattle.finder.proofs.steps.lowest.Statement.{statement}
-use Rattle.finder.proofs.steps.lowest.Tie as tie
+use Rattle.writer.proofs.StepLaws.{NoneBelow, bit-set, bit-clear, lowest-here, lowest-more, lowest-last}
+use Rattle.writer.proofs.steps.lowest.Statement.{statement}
+use Rattle.writer.proofs.steps.lowest.Tie as tie
 
 abbrev Inv-loop : tie.InvT-loop
 Inv-loop posts q₀ q = (q ≤ 7) × NoneBelow posts q

@@ -3,10 +3,10 @@ use Prim.Native.Nat.{ℕ, _-_, _≤_}
 use mathlib.Core.Path.{_≡_, subst}
 use native.Mathlib.Omega.{arith}
 use Rattle.plan.specs.Plans.{System}
-use Rattle.finder.specs.Told.{Told, Tries, family}
-use Rattle.finder.proofs.StepLaws.{NoneTo, none-left, none-more, smallest}
-use Rattle.finder.proofs.steps.choose.Statement.{statement}
-use Rattle.finder.proofs.steps.choose.Tie as tie
+use Rattle.writer.specs.Told.{Told, Tries, family}
+use Rattle.writer.proofs.StepLaws.{NoneTo, none-left, none-more, smallest}
+use Rattle.writer.proofs.steps.choose.Statement.{statement}
+use Rattle.writer.proofs.steps.choose.Tie as tie
 
 abbrev Inv-loop : tie.InvT-loop
 Inv-loop n set look ranks k side pair₀ pair = (pair ≤ 21) × ((S : System) → Told n set look ranks S → NoneTo S ranks k pair)

@@ -8,22 +8,22 @@ use lib.ListN.{length, getD, length-set}
 use Rattle.knowledge.specs.Acts.{planByte}
 use Rattle.knowledge.specs.declared.act.Act.the-variants.{Set, Look}
 use Rattle.plan.specs.Plans.{stop}
-use Rattle.finder.specs.Told.{Chooses, Ranked, Room}
-use Rattle.finder.specs.declared.steps.Step.the-variants.{Stop, Do}
-use Rattle.finder.proofs.StepLaws.{number-small}
-use Rattle.finder.proofs.PlanLaws.{next-set, next-look, step-setting, step-byte, stop-plan, room-here, room-set, set-written, room-false, room-true, look-written}
+use Rattle.writer.specs.Told.{Chooses, Ranked, Room}
+use Rattle.writer.specs.declared.steps.Step.the-variants.{Stop, Do}
+use Rattle.writer.proofs.StepLaws.{number-small}
+use Rattle.writer.proofs.PlanLaws.{next-set, next-look, step-setting, step-byte, stop-plan, room-here, room-set, set-written, room-false, room-true, look-written}
 use Prim.Native.Nat.{ℕ, _<_}
 use borrow.Fn.Kinds.{In}
 use borrow.Fn.PlainCycle.{Measures, is, falls, and}
-use Rattle.finder.proofs.written.write.Reads as write
-use Rattle.finder.proofs.written.write.Kinds as write-kinds
-use Rattle.finder.proofs.written.+write.Lts-write as write-lts
-use Rattle.finder.proofs.steps.choose.Reads as choose-reads
-use Rattle.finder.proofs.steps.look_at.Reads as look-at-reads
-use Rattle.finder.proofs.steps.set_to.Reads as set-to-reads
+use Rattle.writer.proofs.written.write.Reads as write
+use Rattle.writer.proofs.written.write.Kinds as write-kinds
+use Rattle.writer.proofs.written.+write.Lts-write as write-lts
+use Rattle.writer.proofs.steps.choose.Reads as choose-reads
+use Rattle.writer.proofs.steps.look_at.Reads as look-at-reads
+use Rattle.writer.proofs.steps.set_to.Reads as set-to-reads
 use Rattle.knowledge.proofs.act.Act.byte.Reads as byte-reads
-use Rattle.finder.proofs.written.+write.{statement}
-use Rattle.finder.proofs.written.+write.Tie.{close}
+use Rattle.writer.proofs.written.+write.{statement}
+use Rattle.writer.proofs.written.+write.Tie.{close}
 
 abbrev μ-write : Measures 4 write-kinds.ps ℕ
 μ-write κs a = getD (a .1 .1 .1 .0 .now) (a .1 .1 .1 .1 .0) 0

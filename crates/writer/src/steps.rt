@@ -16,7 +16,7 @@ ghost use Rattle.knowledge.specs.Acts.{setTo, lookAt, ofKind};
 ghost use Rattle.knowledge.specs.declared.act.Act.the-variants.{Set, Look};
 ghost use Rattle.plan.specs.Plans.{System};
 ghost use Rattle.sides.specs.Sides.{nowSideNumber};
-ghost use Rattle.finder.specs.Told.{Told, Tries, family, Chooses};
+ghost use Rattle.writer.specs.Told.{Told, Tries, family, Chooses};
 
 pub enum Step {
     Stop,

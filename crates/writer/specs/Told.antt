@@ -3,7 +3,6 @@ use mathlib.Core.Path.{_≡_}
 use mathlib.Core.Bool.{Bool}
 use mathlib.Core.List.{List}
 use Prim.Native.Nat.{ℕ, _+_, _/_, _%_, _^_, _≤_, _<_}
-use lib.Dec.{T}
 use lib.ListN.{length, getD}
 use Rattle.ground.specs.Digits.{digit, bit}
 use Rattle.knowledge.specs.Acts.{ofKind}
@@ -15,8 +14,8 @@ use Rattle.plan.specs.Ranks.{IsRank, Chosen, Written}
 use Rattle.plan.specs.Certificate.{Leads}
 use Rattle.sides.specs.Sides.{nowSideNumber}
 use Rattle.sides.specs.Over.{entry}
-use Rattle.finder.specs.declared.steps.Step.{Step}
-use Rattle.finder.specs.declared.steps.Step.the-variants.{Stop, Do}
+use Rattle.writer.specs.declared.steps.Step.{Step}
+use Rattle.writer.specs.declared.steps.Step.the-variants.{Stop, Do}
 
 -- bit q of the two tables tells whether post q may act at a state's present side, and the bytes of the rank table are the ranks
 pub record Told (n : ℕ) (set look : List (List ℕ)) (ranks : List ℕ) (S : System) : Type 0 where

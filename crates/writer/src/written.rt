@@ -14,7 +14,7 @@ ghost use lib.Seq.{sets};
 ghost use Rattle.plan.specs.Plans.{System, Plan};
 ghost use Rattle.plan.specs.Ranks.{Written};
 ghost use Rattle.plan.specs.Bytes.{encode};
-ghost use Rattle.finder.specs.Told.{Told, Ranked, Room};
+ghost use Rattle.writer.specs.Told.{Told, Ranked, Room};
 
 // How many bytes the plan written from k has. For this crate alone: k has a rank below 255.
 pub fn length(

@@ -20,7 +20,7 @@ use Rattle.knowledge.specs.declared.act.Act.the-variants.{Set, Look}
 use lib.Arith.{digits-div, digits-mod}
 use Rattle.knowledge.proofs.Acts.{of-kind-of, byte-of-kind}
 use Rattle.knowledge.proofs.Number.{digits-are}
-use Rattle.finder.specs.declared.steps.Step.{Step}
+use Rattle.writer.specs.declared.steps.Step.{Step}
 use Rattle.knowledge.proofs.States.{number-state, set-state, look-state}
 use Rattle.plan.specs.Plans.{System, may, after-set, after-look}
 use Rattle.plan.specs.Ranks.{Chosen}
@@ -31,7 +31,7 @@ use Rattle.plan.proofs.Certificate.{setTo-lt, lookAt-lt, numbers-closed}
 use Rattle.plan.proofs.Table.{chosen}
 use Rattle.sides.specs.Sides.{nowSideNumber}
 use Rattle.sides.specs.Over.{entry}
-use Rattle.finder.specs.Told.{Told, Lower, Tries, family}
+use Rattle.writer.specs.Told.{Told, Lower, Tries, family}
 
 -- ---- the state after an act, as the knowledge type computes it
 

@@ -21,8 +21,8 @@ use Rattle.plan.proofs.Certificate.{setTo-lt, lookAt-lt, numbers-closed}
 use Rattle.plan.proofs.Table.{lowers-out}
 use Rattle.plan.proofs.Written.{written-exists}
 use Rattle.plan.proofs.Accepted.{written-most}
-use Rattle.finder.specs.Told.{Told, Lower, Chooses, Ranked, Room}
-use Rattle.finder.specs.declared.steps.Step.the-variants.{Stop}
+use Rattle.writer.specs.Told.{Told, Lower, Chooses, Ranked, Room}
+use Rattle.writer.specs.declared.steps.Step.the-variants.{Stop}
 
 module _ {n : ℕ} {sets′ looks : List (List ℕ)} {ranks : List ℕ} where
   -- the act chosen leads to lower entries

@@ -1,8 +1,8 @@
 -- `look_at` meets its contract: the digits of the state after the look are those of its number.
-use Rattle.finder.proofs.StepLaws.{look-number}
+use Rattle.writer.proofs.StepLaws.{look-number}
 use borrow.Author.Needs.{needs}
-use Rattle.finder.proofs.steps.look_at.Statement.{statement}
-use Rattle.finder.proofs.steps.look_at.Tie as tie
+use Rattle.writer.proofs.steps.look_at.Statement.{statement}
+use Rattle.writer.proofs.steps.look_at.Tie as tie
 
 from-number-requires : tie.Need-from-number-requires
 from-number-requires c κs = search needs

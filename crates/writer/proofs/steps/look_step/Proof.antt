@@ -9,9 +9,9 @@ use native.Mathlib.Omega.{arith}
 use Rattle.ground.specs.Digits.{bit}
 use Rattle.ground.specs.Search.{Least}
 use Rattle.plan.proofs.Certificate.{setTo-lt, lookAt-lt}
-use Rattle.finder.proofs.StepLaws.{number-small, side-small, at-side, rank-at, digit-at, look-seen, look-nobody, look-no-lower, look-do}
-use Rattle.finder.proofs.steps.look_step.Statement.{statement}
-use Rattle.finder.proofs.steps.look_step.Tie as tie
+use Rattle.writer.proofs.StepLaws.{number-small, side-small, at-side, rank-at, digit-at, look-seen, look-nobody, look-no-lower, look-do}
+use Rattle.writer.proofs.steps.look_step.Statement.{statement}
+use Rattle.writer.proofs.steps.look_step.Tie as tie
 
 from-number-requires : tie.Need-from-number-requires
 from-number-requires c κs = search needs
