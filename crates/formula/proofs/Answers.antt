@@ -8,7 +8,7 @@ use lib.ListN.{length, replicate}
 use Rattle.formula.specs.Grammar.{sum}
 use Rattle.ground.specs.Bounds.{SettingsFit}
 use Rattle.formula.specs.Read.{number, place, LengthFits, Foreign, Refuses, two, three, four, Reads}
-use Rattle.formula.specs.Words.{Holds, BytesOf, has}
+use Rattle.truths.specs.Two.{Holds, BytesOf, has}
 use Rattle.formula.specs.Automaton.{wants, breaks, verdict, Parsed}
 use Rattle.formula.specs.Scans.{Scans}
 use Rattle.formula.specs.declared.Refusal.{Refusal}
@@ -16,10 +16,10 @@ use Rattle.formula.specs.declared.Answer.{Answer}
 use Rattle.formula.specs.declared.Answer.the-variants.{Accepted, Refused}
 use Rattle.formula.specs.declared.scan.Scanned.{Scanned}
 use Rattle.formula.specs.declared.scan.Scanned.the-variants.{Clean, Stray, Past}
-use Rattle.formula.specs.declared.words.Words.{Words}
+use Rattle.truths.specs.declared.Truths.{Truths}
 use Rattle.formula.proofs.Broken.{broken-place, broken-no-sentence}
 use Rattle.formula.proofs.PartLaws.{sum-whole}
-use Rattle.formula.proofs.TwoWords.{below, table-of}
+use Rattle.truths.proofs.TwoWords.{below, table-of}
 
 abbrev CleanText : ℕ → List ℕ → Type 0
 CleanText n s = (j : ℕ) → Foreign n s j → ⊥
@@ -39,7 +39,7 @@ module _ (n : ℕ) (s : List ℕ) (fit : SettingsFit n) (size : LengthFits s) wh
     pub broken : (x : ℕ) → verdict (wants 0) 0 s ≡ breaks x → Refuses n s 4 x
     broken x v = four fit size clean (broken-no-sentence s x v) (broken-place s x v)
 
-    pub whole : {w u : Words} {next : ℕ} {t : List ℕ} → Parsed sum s 0 w next → length s ≤ next → Holds u (λ v. has w v && below n v) → BytesOf u t → Reads n s Accepted t
+    pub whole : {w u : Truths} {next : ℕ} {t : List ℕ} → Parsed sum s 0 w next → length s ≤ next → Holds u (λ v. has w v && below n v) → BytesOf u t → Reads n s Accepted t
     whole {w} p l h b = record {
       settings = fit;
       size = size;

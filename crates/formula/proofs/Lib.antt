@@ -2,7 +2,6 @@
 pub mod Automaton
 pub mod Begins
 pub mod Broken
-pub mod TwoWords
 pub mod ScanLaws
 pub mod PartLaws
 pub mod Answers

@@ -14,16 +14,16 @@ use Rattle.ground.specs.Digits.{bit}
 use Rattle.ground.proofs.Bools.{T→false, lt-or-ge}
 use Rattle.formula.specs.Grammar.{Kind, sum, product, unit, Sentence, letter, nought, one, negated, bracketed, one-unit, unit-and, one-product, product-or, text, meaning}
 use Rattle.formula.specs.Read.{isLetter}
-use Rattle.formula.specs.Words.{has, Holds}
+use Rattle.truths.specs.Two.{has, Holds}
 use Rattle.formula.specs.Automaton as A
 use Rattle.formula.specs.Automaton.{State, wants, dead, step, isAtom, breaks, ends, verdict, stops, Parsed, Parses}
 use Rattle.formula.specs.declared.parts.Part.{Part}
 use Rattle.formula.specs.declared.parts.Part.the-variants.{Read, Broken}
-use Rattle.formula.specs.declared.words.Words.{Words}
+use Rattle.truths.specs.declared.Truths.{Truths}
 use Rattle.formula.proofs.Automaton.{verdict-text, verdict-dies}
 
 -- what a reader ensures of its answer, once the answer is known
-pub as-read : (k : Kind) (s : List ℕ) (i : ℕ) {r : Part} {w : Words} {next : ℕ} → r ≡ Read w next → Parses k s i r → Parsed k s i w next
+pub as-read : (k : Kind) (s : List ℕ) (i : ℕ) {r : Part} {w : Truths} {next : ℕ} → r ≡ Read w next → Parses k s i r → Parsed k s i w next
 as-read k s i e p = subst (Parses k s i) e p
 
 pub as-broken : (k : Kind) (s : List ℕ) (i : ℕ) {r : Part} {x : ℕ} → r ≡ Broken x → Parses k s i r → (d : ℕ) → verdict (wants d) i (drop i s) ≡ breaks x
@@ -65,7 +65,7 @@ unfolding verdict step
 verdict-or d i t = ap (λ (j : ℕ). verdict (wants d) j t) (sym (add-one i))
 
 -- a part that was read leads to what is judged after it
-module _ {k : Kind} {s : List ℕ} {i : ℕ} {w : Words} {next : ℕ} (p : Parsed k s i w next) where
+module _ {k : Kind} {s : List ℕ} {i : ℕ} {w : Truths} {next : ℕ} (p : Parsed k s i w next) where
   past-part : (d : ℕ) → verdict (wants d) i (drop i s) ≡ verdict (A.has d) next (drop next s)
   past-part d =
       ap (verdict (wants d) i) (p .spans) ∙ verdict-text (p .sentence) d i (drop next s) ∙ ap (λ (j : ℕ). verdict (A.has d) j (drop next s)) (sym (p .until))
@@ -80,7 +80,7 @@ breaks-here st s i f g = elim (lt-or-ge i (length s)) [
 
 -- ---- units
 
-pub negated-read : {s : List ℕ} {i : ℕ} {w : Words} {next : ℕ} (u : Words) → getD s i 0 ≡ 126 → Parsed unit s (i + 1) w next → Holds u (λ v. not (has w v)) → Parsed unit s i u next
+pub negated-read : {s : List ℕ} {i : ℕ} {w : Truths} {next : ℕ} (u : Truths) → getD s i 0 ≡ 126 → Parsed unit s (i + 1) w next → Holds u (λ v. not (has w v)) → Parsed unit s i u next
 unfolding text meaning Holds stops
 negated-read {s} {i} u e p h = record {
   sentence = negated (p .sentence);
@@ -93,7 +93,7 @@ negated-read {s} {i} u e p h = record {
 pub negated-broken : (s : List ℕ) (i : ℕ) {x : ℕ} → getD s i 0 ≡ 126 → ((d : ℕ) → verdict (wants d) (i + 1) (drop (i + 1) s) ≡ breaks x) → (d : ℕ) → verdict (wants d) i (drop i s) ≡ breaks x
 negated-broken s i e f d = ap (verdict (wants d) i) (from-byte s i 125 e) ∙ verdict-not d i (drop (i + 1) s) ∙ f d
 
-pub bracketed-read : {s : List ℕ} {i : ℕ} {w : Words} {next : ℕ} → getD s i 0 ≡ 40 → Parsed sum s (i + 1) w next → getD s next 0 ≡ 41 → Parsed unit s i w (next + 1)
+pub bracketed-read : {s : List ℕ} {i : ℕ} {w : Truths} {next : ℕ} → getD s i 0 ≡ 40 → Parsed sum s (i + 1) w next → getD s next 0 ≡ 41 → Parsed unit s i w (next + 1)
 unfolding text meaning stops
 bracketed-read {s} {i} {w} {next} e p c = record {
   sentence = bracketed (p .sentence);
@@ -111,13 +111,13 @@ sum-dies : (d c : ℕ) → T (stops sum c) → eqb c 41 ≡ false → step (A.ha
 unfolding step stops
 sum-dies d c t e = rw (T→false (eqb c 38 || eqb c 124) t, e)
 
-pub unclosed : (s : List ℕ) (i : ℕ) {w : Words} {next : ℕ} → getD s i 0 ≡ 40 → Parsed sum s (i + 1) w next → (getD s next 0 ≡ 41 → ⊥) → (d : ℕ) → verdict (wants d) i (drop i s) ≡ breaks next
+pub unclosed : (s : List ℕ) (i : ℕ) {w : Truths} {next : ℕ} → getD s i 0 ≡ 40 → Parsed sum s (i + 1) w next → (getD s next 0 ≡ 41 → ⊥) → (d : ℕ) → verdict (wants d) i (drop i s) ≡ breaks next
 unclosed s i {w} {next} e p c d =
     ap (verdict (wants d) i) (from-byte s i 39 e) ∙ verdict-open d i (drop (i + 1) s) ∙ past-part p (suc d)
     ∙ breaks-here (A.has (suc d)) s next (λ l. sum-dies (suc d) (getD s next 0) (p .stopped) (ne-eqb (getD s next 0) 41 c)) (λ l. refl)
 
 -- one byte that is a unit by itself
-atom-read : (u : Sentence unit) (w : Words) {s : List ℕ} {i c : ℕ} → getD s i 0 ≡ suc c → text u ≡ suc c ∷ [] → Holds w (meaning u) → Parsed unit s i w (i + 1)
+atom-read : (u : Sentence unit) (w : Truths) {s : List ℕ} {i c : ℕ} → getD s i 0 ≡ suc c → text u ≡ suc c ∷ [] → Holds w (meaning u) → Parsed unit s i w (i + 1)
 unfolding stops
 atom-read u w {s} {i} {c} e t h = record {
   sentence = u;
@@ -127,15 +127,15 @@ atom-read u w {s} {i} {c} e t h = record {
   stopped = tt;
 }
 
-pub nought-read : {s : List ℕ} {i : ℕ} (w : Words) → getD s i 0 ≡ 48 → Holds w (λ v. false) → Parsed unit s i w (i + 1)
+pub nought-read : {s : List ℕ} {i : ℕ} (w : Truths) → getD s i 0 ≡ 48 → Holds w (λ v. false) → Parsed unit s i w (i + 1)
 unfolding text meaning
 nought-read w e h = atom-read nought w e refl h
 
-pub one-read : {s : List ℕ} {i : ℕ} (w : Words) → getD s i 0 ≡ 49 → Holds w (λ v. true) → Parsed unit s i w (i + 1)
+pub one-read : {s : List ℕ} {i : ℕ} (w : Truths) → getD s i 0 ≡ 49 → Holds w (λ v. true) → Parsed unit s i w (i + 1)
 unfolding text meaning
 one-read w e h = atom-read one w e refl h
 
-pub letter-read : {s : List ℕ} {i : ℕ} (w : Words) (c : ℕ) → getD s i 0 ≡ c → 97 ≤ c → c - 97 < 7 → Holds w (λ v. bit v (c - 97)) → Parsed unit s i w (i + 1)
+pub letter-read : {s : List ℕ} {i : ℕ} (w : Truths) (c : ℕ) → getD s i 0 ≡ c → 97 ≤ c → c - 97 < 7 → Holds w (λ v. bit v (c - 97)) → Parsed unit s i w (i + 1)
 unfolding text meaning
 letter-read {s} {i} w c e low high h =
     let number : c ≡ suc (96 + (c - 97)) = omega arith in
@@ -150,12 +150,12 @@ no-atom s i a b e f g d =
 
 -- ---- products and sums
 
-pub product-one : {s : List ℕ} {i : ℕ} {w : Words} {next : ℕ} → Parsed unit s i w next → (getD s next 0 ≡ 38 → ⊥) → Parsed product s i w next
+pub product-one : {s : List ℕ} {i : ℕ} {w : Truths} {next : ℕ} → Parsed unit s i w next → (getD s next 0 ≡ 38 → ⊥) → Parsed product s i w next
 unfolding text meaning stops
 product-one {s} {next = next} p c = record
     { sentence = one-unit (p .sentence); spans = p .spans; until = p .until; holds = p .holds; stopped = rw (ne-eqb (getD s next 0) 38 c) tt }
 
-pub sum-one : {s : List ℕ} {i : ℕ} {w : Words} {next : ℕ} → Parsed product s i w next → (getD s next 0 ≡ 124 → ⊥) → Parsed sum s i w next
+pub sum-one : {s : List ℕ} {i : ℕ} {w : Truths} {next : ℕ} → Parsed product s i w next → (getD s next 0 ≡ 124 → ⊥) → Parsed sum s i w next
 unfolding text meaning stops
 sum-one {s} {next = next} p c = record {
   sentence = one-product (p .sentence);
@@ -169,7 +169,7 @@ sum-one {s} {next = next} p c = record {
 module _ (c : ℕ) (k l : Kind) (join : Sentence k → Sentence l → Sentence l) (g : Bool → Bool → Bool)
     (writes : (a : Sentence k) (b : Sentence l) → text (join a b) ≡ text a ++ suc c ∷ text b)
     (tells : (a : Sentence k) (b : Sentence l) (v : ℕ) → meaning (join a b) v ≡ g (meaning a v) (meaning b v)) where
-  joined : {s : List ℕ} {i : ℕ} {w x : Words} {next end : ℕ} (u : Words) → Parsed k s i w next → getD s next 0 ≡ suc c → Parsed l s (next + 1) x end
+  joined : {s : List ℕ} {i : ℕ} {w x : Truths} {next end : ℕ} (u : Truths) → Parsed k s i w next → getD s next 0 ≡ suc c → Parsed l s (next + 1) x end
       → Holds u (λ v. g (has w v) (has x v)) → Parsed l s i u end
   unfolding Holds
   joined {s} {i} {w} {x} {next} {end} u p e q h = record {
@@ -182,21 +182,21 @@ module _ (c : ℕ) (k l : Kind) (join : Sentence k → Sentence l → Sentence l
     stopped = q .stopped;
   }
 
-pub product-more : {s : List ℕ} {i : ℕ} {w x : Words} {next end : ℕ} (u : Words) → Parsed unit s i w next → getD s next 0 ≡ 38 → Parsed product s (next + 1) x end
+pub product-more : {s : List ℕ} {i : ℕ} {w x : Truths} {next end : ℕ} (u : Truths) → Parsed unit s i w next → getD s next 0 ≡ 38 → Parsed product s (next + 1) x end
     → Holds u (λ v. has w v && has x v) → Parsed product s i u end
 unfolding text meaning
 product-more u p e q h = joined 37 unit product unit-and _&&_ (λ a b. refl) (λ a b v. refl) u p e q h
 
-pub sum-more : {s : List ℕ} {i : ℕ} {w x : Words} {next end : ℕ} (u : Words) → Parsed product s i w next → getD s next 0 ≡ 124 → Parsed sum s (next + 1) x end
+pub sum-more : {s : List ℕ} {i : ℕ} {w x : Truths} {next end : ℕ} (u : Truths) → Parsed product s i w next → getD s next 0 ≡ 124 → Parsed sum s (next + 1) x end
     → Holds u (λ v. has w v || has x v) → Parsed sum s i u end
 unfolding text meaning
 sum-more u p e q h = joined 123 product sum product-or _||_ (λ a b. refl) (λ a b v. refl) u p e q h
 
-pub product-broken : {s : List ℕ} {i : ℕ} {w : Words} {next x : ℕ} → Parsed unit s i w next → getD s next 0 ≡ 38 → ((d : ℕ) → verdict (wants d) (next + 1) (drop (next + 1) s) ≡ breaks x)
+pub product-broken : {s : List ℕ} {i : ℕ} {w : Truths} {next x : ℕ} → Parsed unit s i w next → getD s next 0 ≡ 38 → ((d : ℕ) → verdict (wants d) (next + 1) (drop (next + 1) s) ≡ breaks x)
     → (d : ℕ) → verdict (wants d) i (drop i s) ≡ breaks x
 product-broken {s} {i} {w} {next} p e f d = past-part p d ∙ ap (verdict (A.has d) next) (from-byte s next 37 e) ∙ verdict-and d next (drop (next + 1) s) ∙ f d
 
-pub sum-broken : {s : List ℕ} {i : ℕ} {w : Words} {next x : ℕ} → Parsed product s i w next → getD s next 0 ≡ 124 → ((d : ℕ) → verdict (wants d) (next + 1) (drop (next + 1) s) ≡ breaks x)
+pub sum-broken : {s : List ℕ} {i : ℕ} {w : Truths} {next x : ℕ} → Parsed product s i w next → getD s next 0 ≡ 124 → ((d : ℕ) → verdict (wants d) (next + 1) (drop (next + 1) s) ≡ breaks x)
     → (d : ℕ) → verdict (wants d) i (drop i s) ≡ breaks x
 sum-broken {s} {i} {w} {next} p e f d = past-part p d ∙ ap (verdict (A.has d) next) (from-byte s next 123 e) ∙ verdict-or d next (drop (next + 1) s) ∙ f d
 
@@ -211,9 +211,9 @@ close-dies c t = rw (T→false (eqb c 38 || eqb c 124) t) (either (eqb c 41))
     either false = refl
 
 -- a sum that ends before the text breaks it there: nothing is open that `)` could close
-pub sum-short : {s : List ℕ} {w : Words} {next : ℕ} → Parsed sum s 0 w next → next < length s → verdict (wants 0) 0 s ≡ breaks next
+pub sum-short : {s : List ℕ} {w : Truths} {next : ℕ} → Parsed sum s 0 w next → next < length s → verdict (wants 0) 0 s ≡ breaks next
 sum-short {s} {w} {next} p l =
     past-part p 0 ∙ breaks-here (A.has 0) s next (λ h. close-dies (getD s next 0) (p .stopped)) (λ h. absurd (omega arith))
 
-pub sum-whole : {s : List ℕ} {w : Words} {next : ℕ} (p : Parsed sum s 0 w next) → length s ≤ next → text (p .sentence) ≡ s
+pub sum-whole : {s : List ℕ} {w : Truths} {next : ℕ} (p : Parsed sum s 0 w next) → length s ≤ next → text (p .sentence) ≡ s
 sum-whole {s} {w} {next} p l = sym (p .spans ∙ ap (λ (t : List ℕ). text (p .sentence) ++ t) (drop-of-length-le s l) ∙ append-nil (text (p .sentence)))

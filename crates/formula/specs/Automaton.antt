@@ -9,8 +9,8 @@ use lib.ListN.{length, getD, drop}
 use Rattle.ground.specs.Text.{byte}
 use Rattle.formula.specs.Grammar.{Kind, sum, product, unit, Sentence, text, meaning}
 use Rattle.formula.specs.Read.{isLetter}
-use Rattle.formula.specs.Words.{Holds}
-use Rattle.formula.specs.declared.words.Words.{Words}
+use Rattle.truths.specs.Two.{Holds}
+use Rattle.truths.specs.declared.Truths.{Truths}
 use Rattle.formula.specs.declared.parts.Part.{Part}
 use Rattle.formula.specs.declared.parts.Part.the-variants.{Read, Broken}
 
@@ -54,7 +54,7 @@ stops product c = not (eqb c (byte "&"))
 stops sum c = not (eqb c (byte "&") || eqb c (byte "|"))
 
 -- a part of the given kind was read from place i up to place next
-pub record Parsed (k : Kind) (s : List ℕ) (i : ℕ) (w : Words) (next : ℕ) : Type 0 where
+pub record Parsed (k : Kind) (s : List ℕ) (i : ℕ) (w : Truths) (next : ℕ) : Type 0 where
   pub sentence : Sentence k
   pub spans : drop i s ≡ text sentence ++ drop next s
   pub until : next ≡ i + length (text sentence)

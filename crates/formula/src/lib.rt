@@ -3,7 +3,6 @@
 // behind: the table beside it is all zeros.
 mod parts;
 mod scan;
-mod words;
 
 ghost use mathlib.Core.Path.{_≡_};
 ghost use Prim.Native.Nat.{ℕ};

@@ -6,12 +6,12 @@ ghost use Rattle.ground.specs.Text.{byte};
 ghost use Rattle.formula.specs.Grammar.{sum, product, unit};
 ghost use Rattle.formula.specs.Automaton.{Parses};
 use crate::scan::is_letter;
-use crate::words::Words;
 use ground::peek;
+use truths::Truths;
 
 pub enum Part {
     // A whole part: its table, and the place after it.
-    Read(Words, usize),
+    Read(Truths, usize),
     // The first byte with which no sentence goes on; or the text's length, where it ends too soon.
     Broken(usize),
 }
@@ -85,13 +85,13 @@ fn atom(text: &[u8], at: usize) -> Part
 {
     let c = peek(text, at);
     if c == b'0' {
-        return Part::Read(Words::constant(false), at + 1);
+        return Part::Read(Truths::constant(false), at + 1);
     }
     if c == b'1' {
-        return Part::Read(Words::constant(true), at + 1);
+        return Part::Read(Truths::constant(true), at + 1);
     }
     if is_letter(c) {
-        return Part::Read(Words::letter(c - b'a'), at + 1);
+        return Part::Read(Truths::letter(c - b'a'), at + 1);
     }
     Part::Broken(at)
 }

@@ -21,9 +21,9 @@ use Rattle.formula.proofs.parts.unit.Kinds as unit-kinds
 use Rattle.formula.proofs.parts.+product+sum+unit.Lts-unit as unit-lts
 use Rattle.formula.proofs.parts.atom.Reads as atom-reads
 use Rattle.ground.proofs.peek.Reads as peek-reads
-use Rattle.formula.proofs.words.Words.and.Reads as and-reads
-use Rattle.formula.proofs.words.Words.negated.Reads as negated-reads
-use Rattle.formula.proofs.words.Words.or.Reads as or-reads
+use Rattle.truths.proofs.Truths.and.Reads as and-reads
+use Rattle.truths.proofs.Truths.negated.Reads as negated-reads
+use Rattle.truths.proofs.Truths.or.Reads as or-reads
 use Rattle.formula.proofs.parts.+product+sum+unit.{statement}
 use Rattle.formula.proofs.parts.+product+sum+unit.Tie.{close}
 

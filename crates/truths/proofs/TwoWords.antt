@@ -18,17 +18,17 @@ use Rattle.ground.specs.Table.{truth, Within, TableOf}
 use Rattle.ground.proofs.Bools.{beq→eq, lt-or-ge, and-true}
 use Rattle.ground.proofs.Search.{all-at}
 use Rattle.ground.proofs.Bits.{bit-and, bit-or, bit-xor, bit-shr, bit-mod, bit-of-zero}
-use Rattle.formula.specs.Words.{has, Holds, wordsByte, BytesOf}
-use Rattle.formula.specs.declared.words.Words.{Words}
+use Rattle.truths.specs.Two.{has, Holds, wordsByte, BytesOf}
+use Rattle.truths.specs.declared.Truths.{Truths}
 
-abbrev words : ℕ → ℕ → Words
+abbrev words : ℕ → ℕ → Truths
 words low high = record { low = low; high = high }
 
 abbrev every : ℕ
 every = 0xffff_ffff_ffff_ffff
 
 -- a test over all 128 valuations is what `Holds` says
-by-test : (w : Words) (f : ℕ → Bool) → T (all 128 (λ v. Bool·beq (has w v) (f v))) → Holds w f
+by-test : (w : Truths) (f : ℕ → Bool) → T (all 128 (λ v. Bool·beq (has w v) (f v))) → Holds w f
 unfolding Holds
 by-test w f t v h = beq→eq (has w v) (f v) (all-at 128 (λ v. Bool·beq (has w v) (f v)) t v h)
 
@@ -72,23 +72,23 @@ picked g false x y x′ y′ = refl
 
 -- a law of bits, at every valuation
 module _ (op : ℕ → ℕ → ℕ) (g : Bool → Bool → Bool) (law : (a b i : ℕ) → bit (op a b) i ≡ g (bit a i) (bit b i)) where
-  both-words : (a b : Words) → Holds (words (op (a .low) (b .low)) (op (a .high) (b .high))) (λ v. g (has a v) (has b v))
+  both-words : (a b : Truths) → Holds (words (op (a .low) (b .low)) (op (a .high) (b .high))) (λ v. g (has a v) (has b v))
   unfolding Holds has
   both-words a b v h =
       ap₂ (cond (ltb v 64)) (law (a .low) (b .low) v) (law (a .high) (b .high) (v - 64))
       ∙ picked g (ltb v 64) (bit (a .low) v) (bit (b .low) v) (bit (a .high) (v - 64)) (bit (b .high) (v - 64))
 
-pub and-holds : (a b : Words) → Holds (words (bitAnd (a .low) (b .low)) (bitAnd (a .high) (b .high))) (λ v. has a v && has b v)
+pub and-holds : (a b : Truths) → Holds (words (bitAnd (a .low) (b .low)) (bitAnd (a .high) (b .high))) (λ v. has a v && has b v)
 and-holds a b = both-words bitAnd _&&_ bit-and a b
 
-pub or-holds : (a b : Words) → Holds (words (bitOr (a .low) (b .low)) (bitOr (a .high) (b .high))) (λ v. has a v || has b v)
+pub or-holds : (a b : Truths) → Holds (words (bitOr (a .low) (b .low)) (bitOr (a .high) (b .high))) (λ v. has a v || has b v)
 or-holds a b = both-words bitOr _||_ bit-or a b
 
 unlike : (x y : Bool) → y ≡ true → not (Bool·beq x y) ≡ not x
 unlike true y e = rw e
 unlike false y e = rw e
 
-pub not-holds : (a : Words) → Holds (words (bitXor (a .low) every) (bitXor (a .high) every)) (λ v. not (has a v))
+pub not-holds : (a : Truths) → Holds (words (bitXor (a .low) every) (bitXor (a .high) every)) (λ v. not (has a v))
 unfolding Holds
 not-holds a v h =
     both-words bitXor (λ x y. not (Bool·beq x y)) bit-xor a (words every every) v h ∙ unlike (has a v) (has (words every every) v) (true-holds v h)
@@ -113,27 +113,27 @@ and-false true = refl
 and-false false = refl
 
 -- the low word through a mask, the high one gone
-pub within-low : (a : Words) (n : ℕ) → n < 6 → Holds (words (bitAnd (a .low) (getD masks n 0)) 0) (λ v. has a v && below n v)
+pub within-low : (a : Truths) (n : ℕ) → n < 6 → Holds (words (bitAnd (a .low) (getD masks n 0)) 0) (λ v. has a v && below n v)
 unfolding Holds has
 within-low a n h v l =
     ap₂ (cond (ltb v 64)) (bit-and (a .low) (getD masks n 0) v) (bit-of-zero (v - 64) ∙ sym (and-false (bit (a .high) (v - 64))) ∙ ap (λ (x : Bool). bit (a .high) (v - 64) && x) (sym (bit-of-zero (v - 64))))
     ∙ picked _&&_ (ltb v 64) (bit (a .low) v) (bit (getD masks n 0) v) (bit (a .high) (v - 64)) (bit 0 (v - 64))
     ∙ ap (λ (x : Bool). has a v && x) (mask-holds n h v l)
 
-pub within-six : (a : Words) (n : ℕ) → n ≡ 6 → Holds (words (a .low) 0) (λ v. has a v && below n v)
+pub within-six : (a : Truths) (n : ℕ) → n ≡ 6 → Holds (words (a .low) 0) (λ v. has a v && below n v)
 unfolding Holds has
 within-six a n e v l = elim (lt-or-ge v 64) [
   | inl h ↦ rw (e, lt-ltb v 64 h) (sym (and-true (bit (a .low) v)))
   | inr h ↦ rw (e, le-ltb v 64 h) (bit-of-zero (v - 64) ∙ sym (and-false (bit (a .high) (v - 64))))
 ]
 
-pub within-seven : (a : Words) (n : ℕ) → n ≡ 7 → Holds a (λ v. has a v && below n v)
+pub within-seven : (a : Truths) (n : ℕ) → n ≡ 7 → Holds a (λ v. has a v && below n v)
 unfolding Holds
 within-seven a n e v l = rw (e, lt-ltb v 128 l) (sym (and-true (has a v)))
 
 -- ---- the bytes
 
-byte-bit : (w : Words) (v : ℕ) → v < 128 → bit (wordsByte w (v / 8)) (v % 8) ≡ has w v
+byte-bit : (w : Truths) (v : ℕ) → v < 128 → bit (wordsByte w (v / 8)) (v % 8) ≡ has w v
 unfolding wordsByte has
 byte-bit w v l = elim (lt-or-ge v 64) [
   | inl h ↦ rw (lt-ltb (v / 8) 8 (omega arith), lt-ltb v 64 h) (shifted (w .low) v (omega arith))
@@ -143,11 +143,11 @@ byte-bit w v l = elim (lt-or-ge v 64) [
     shifted : (x u : ℕ) → 8 * (v / 8 % 8) + v % 8 ≡ u → bit (x / 2 ^ (8 * (v / 8 % 8)) % 256) (v % 8) ≡ bit x u
     shifted x u e = bit-mod 8 (x / 2 ^ (8 * (v / 8 % 8))) (v % 8) (omega arith) ∙ bit-shr x (8 * (v / 8 % 8)) (v % 8) ∙ ap (bit x) e
 
-bytes-tell : (w : Words) (t : List ℕ) → BytesOf w t → (v : ℕ) → v < 128 → truth t v ≡ has w v
+bytes-tell : (w : Truths) (t : List ℕ) → BytesOf w t → (v : ℕ) → v < 128 → truth t v ≡ has w v
 unfolding truth
 bytes-tell w t b v l = ap (λ (x : ℕ). bit x (v % 8)) (b .each (v / 8) (omega arith)) ∙ byte-bit w v l
 
-bytes-small : (w : Words) (t : List ℕ) → BytesOf w t → (j : ℕ) → getD t j 0 < 256
+bytes-small : (w : Truths) (t : List ℕ) → BytesOf w t → (j : ℕ) → getD t j 0 < 256
 unfolding wordsByte
 bytes-small w t b j = elim (lt-or-ge j 16) [
   | inl h ↦ subst (λ (x : ℕ). x < 256) (sym (b .each j h)) (mod-lt (cond (ltb j 8) (w .low) (w .high) / 2 ^ (8 * (j % 8))) (lit< tt))
@@ -155,7 +155,7 @@ bytes-small w t b j = elim (lt-or-ge j 16) [
 ]
 
 -- the bytes of the words of f, cut to n settings, are f's table
-pub table-of : {n : ℕ} {f : ℕ → Bool} (w : Words) {u : Words} {t : List ℕ} → n < 8 → Holds w f → Holds u (λ v. has w v && below n v) → BytesOf u t → TableOf n f t
+pub table-of : {n : ℕ} {f : ℕ → Bool} (w : Truths) {u : Truths} {t : List ℕ} → n < 8 → Holds w f → Holds u (λ v. has w v && below n v) → BytesOf u t → TableOf n f t
 unfolding Holds Within
 table-of {n} {f} w {u} {t} h hw hu b = record {
   sixteen = b .sixteen;
@@ -166,7 +166,7 @@ table-of {n} {f} w {u} {t} h hw hu b = record {
 }
 
 -- one more byte stored
-pub stored : (w : Words) (t : List ℕ) (j x : ℕ) → length t ≡ 16 → j < 16 → ((k : ℕ) → k < j → getD t k 0 ≡ wordsByte w k) → x ≡ wordsByte w j → (k : ℕ) → k < j + 1 → getD (set t j x) k 0 ≡ wordsByte w k
+pub stored : (w : Truths) (t : List ℕ) (j x : ℕ) → length t ≡ 16 → j < 16 → ((k : ℕ) → k < j → getD t k 0 ≡ wordsByte w k) → x ≡ wordsByte w j → (k : ℕ) → k < j + 1 → getD (set t j x) k 0 ≡ wordsByte w k
 stored w t j x n h f e k l = elim (lt-or-ge k j) [
   | inl m ↦ getD-set-other t j k x 0 (λ q. omega arith) ∙ f k m
   | inr m ↦ (let same : k ≡ j = omega arith in rw same (getD-set-same t j x 0 (omega arith) ∙ e))

@@ -1,13 +1,13 @@
--- `Words::bytes` meets its contract. The loop has stored the first j bytes.
+-- `Truths::bytes` meets its contract. The loop has stored the first j bytes.
 use borrow.Author.Needs.{needs}
 use Prim.Native.Nat.{ℕ, _-_, _<_}
 use mathlib.Core.Path.{_≡_, refl, _∙_}
 use lib.ListN.{length, getD, length-set}
 use native.Mathlib.Omega.{arith}
-use Rattle.formula.specs.Words.{wordsByte}
-use Rattle.formula.proofs.TwoWords.{stored}
-use Rattle.formula.proofs.words.Words.bytes.Statement.{statement}
-use Rattle.formula.proofs.words.Words.bytes.Tie as tie
+use Rattle.truths.specs.Two.{wordsByte}
+use Rattle.truths.proofs.TwoWords.{stored}
+use Rattle.truths.proofs.Truths.bytes.Statement.{statement}
+use Rattle.truths.proofs.Truths.bytes.Tie as tie
 
 abbrev Inv-loop : tie.InvT-loop
 Inv-loop self table₀ j₀ table j = (length table ≡ 16) × ((k : ℕ) → k < j → getD table k 0 ≡ wordsByte self k)

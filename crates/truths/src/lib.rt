@@ -1,13 +1,14 @@
-// A formula's table while it is worked on: two words, whose bit v is its truth at the valuation v.
+// The truths of a formula at all 128 valuations of seven settings, in two words: its table while it is worked
+// on. A letter, `~`, `&` and `|` are one or two operations. For this repository alone, where it says so.
 ghost use mathlib.Core.Path.{_≡_};
 ghost use mathlib.Core.Bool.{true, false, not, _&&_, _||_, cond};
 ghost use Prim.Native.Nat.{ℕ, _<_, _^_};
 ghost use lib.Dec.{ltb};
 ghost use Rattle.ground.specs.Digits.{bit};
-ghost use Rattle.formula.specs.Words.{has, Holds, wordsByte, BytesOf};
+ghost use Rattle.truths.specs.Two.{has, Holds, wordsByte, BytesOf};
 
 // Bit v of `low` for the valuations below 64, and bit v - 64 of `high` for the others.
-pub struct Words {
+pub struct Truths {
     pub low: u64,
     pub high: u64,
 }
@@ -27,67 +28,67 @@ const LETTERS: [u64; 6] = [
 // Bit v of entry n is set for v below 2^n: the valuations of n settings below 64.
 const WITHIN: [u64; 6] = [0x1, 0x3, 0xf, 0xff, 0xffff, 0xffff_ffff];
 
-impl Words {
-    pub fn constant(value: bool) -> Words
+impl Truths {
+    pub fn constant(value: bool) -> Truths
         ensures { λ r. ⌜ Holds r (λ v. value) ⌝ }
     {
         if value {
-            Words {
+            Truths {
                 low: EVERY,
                 high: EVERY,
             }
         } else {
-            Words { low: 0, high: 0 }
+            Truths { low: 0, high: 0 }
         }
     }
 
-    // The letter with index i, for this crate alone: a is 0, g is 6.
-    pub fn letter(i: u8) -> Words
+    // The letter with index i, for this repository alone: a is 0, g is 6.
+    pub fn letter(i: u8) -> Truths
         requires { ⌜ i < 7 ⌝ }
         ensures { λ r. ⌜ Holds r (λ v. bit v i) ⌝ }
     {
         if i == 6 {
-            return Words {
+            return Truths {
                 low: 0,
                 high: EVERY,
             };
         }
         let word = LETTERS[i as usize];
-        Words {
+        Truths {
             low: word,
             high: word,
         }
     }
 
-    pub fn negated(self) -> Words
+    pub fn negated(self) -> Truths
         ensures { λ r. ⌜ Holds r (λ v. not (has self v)) ⌝ }
     {
-        Words {
+        Truths {
             low: self.low ^ EVERY,
             high: self.high ^ EVERY,
         }
     }
 
-    pub fn and(self, other: Words) -> Words
+    pub fn and(self, other: Truths) -> Truths
         ensures { λ r. ⌜ Holds r (λ v. has self v && has other v) ⌝ }
     {
-        Words {
+        Truths {
             low: self.low & other.low,
             high: self.high & other.high,
         }
     }
 
-    pub fn or(self, other: Words) -> Words
+    pub fn or(self, other: Truths) -> Truths
         ensures { λ r. ⌜ Holds r (λ v. has self v || has other v) ⌝ }
     {
-        Words {
+        Truths {
             low: self.low | other.low,
             high: self.high | other.high,
         }
     }
 
-    // No bit past 2^n, for this crate alone: n is at most 7.
-    pub fn within(self, n: usize) -> Words
+    // No bit past 2^n, for this repository alone: n is at most 7.
+    pub fn within(self, n: usize) -> Truths
         requires { ⌜ n < 8 ⌝ }
         ensures { λ r. ⌜ Holds r (λ v. has self v && ltb v (2 ^ n)) ⌝ }
     {
@@ -95,12 +96,12 @@ impl Words {
             return self;
         }
         if n == 6 {
-            return Words {
+            return Truths {
                 low: self.low,
                 high: 0,
             };
         }
-        Words {
+        Truths {
             low: self.low & WITHIN[n],
             high: 0,
         }

@@ -1,10 +1,10 @@
--- `Words::letter` meets its contract: the table of letters by a computed test over its entries.
+-- `Truths::letter` meets its contract: the table of letters by a computed test over its entries.
 use native.Mathlib.Omega.{arith}
-use Rattle.formula.proofs.TwoWords.{letter-holds, last-letter-holds, letters}
+use Rattle.truths.proofs.TwoWords.{letter-holds, last-letter-holds, letters}
 use lib.Arith.{lt-of-le-ne}
 use borrow.Author.Needs.{needs}
-use Rattle.formula.proofs.words.Words.letter.Statement.{statement}
-use Rattle.formula.proofs.words.Words.letter.Tie as tie
+use Rattle.truths.proofs.Truths.letter.Statement.{statement}
+use Rattle.truths.proofs.Truths.letter.Tie as tie
 
 returns : tie.Need-returns
 returns c = last-letter-holds (c .before .args .i) (c .if1 .taken)

@@ -1,7 +1,7 @@
--- `Words::word` meets its contract: the low word holds bytes 0 to 7.
+-- `Truths::word` meets its contract: the low word holds bytes 0 to 7.
 use borrow.Author.Tests.{lt-ltb, le-ltb}
-use Rattle.formula.proofs.words.Words.word.Statement.{statement}
-use Rattle.formula.proofs.words.Words.word.Tie as tie
+use Rattle.truths.proofs.Truths.word.Statement.{statement}
+use Rattle.truths.proofs.Truths.word.Tie as tie
 
 returns : tie.Need-returns
 returns c = rw (lt-ltb (c .before .args .j) 8 (c .if1 .taken))

@@ -1,10 +1,10 @@
--- `Words::byte` meets its contract: its word, then the shift and the remainder.
+-- `Truths::byte` meets its contract: its word, then the shift and the remainder.
 use mathlib.Core.Path.{ap}
 use Prim.Native.Nat.{ℕ, _*_, _/_, _%_, _^_}
-use Rattle.formula.specs.Words.{wordsByte}
+use Rattle.truths.specs.Two.{wordsByte}
 use borrow.Author.Needs.{needs}
-use Rattle.formula.proofs.words.Words.byte.Statement.{statement}
-use Rattle.formula.proofs.words.Words.byte.Tie as tie
+use Rattle.truths.proofs.Truths.byte.Statement.{statement}
+use Rattle.truths.proofs.Truths.byte.Tie as tie
 
 word-requires : tie.Need-word-requires
 word-requires c κs = search needs

@@ -1,7 +1,7 @@
--- `Words::constant` meets its contract: all bits or none, by a computed test.
-use Rattle.formula.proofs.TwoWords.{constant-true, constant-false}
-use Rattle.formula.proofs.words.Words.constant.Statement.{statement}
-use Rattle.formula.proofs.words.Words.constant.Tie as tie
+-- `Truths::constant` meets its contract: all bits or none, by a computed test.
+use Rattle.truths.proofs.TwoWords.{constant-true, constant-false}
+use Rattle.truths.proofs.Truths.constant.Statement.{statement}
+use Rattle.truths.proofs.Truths.constant.Tie as tie
 
 returns : tie.Need-returns
 returns c = constant-true (c .before .args .value) (c .if1 .taken)

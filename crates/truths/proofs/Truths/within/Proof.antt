@@ -1,9 +1,9 @@
--- `Words::within` meets its contract: the masks by a computed test over their entries.
+-- `Truths::within` meets its contract: the masks by a computed test over their entries.
 use native.Mathlib.Omega.{arith}
-use Rattle.formula.proofs.TwoWords.{within-low, within-six, within-seven, masks}
+use Rattle.truths.proofs.TwoWords.{within-low, within-six, within-seven, masks}
 use borrow.Author.Needs.{needs}
-use Rattle.formula.proofs.words.Words.within.Statement.{statement}
-use Rattle.formula.proofs.words.Words.within.Tie as tie
+use Rattle.truths.proofs.Truths.within.Statement.{statement}
+use Rattle.truths.proofs.Truths.within.Tie as tie
 
 returns : tie.Need-returns
 returns c = within-seven (c .before .args .self) (c .before .args .n) (c .if1 .taken)

@@ -1,0 +1,2 @@
+-- The two words bit by bit.
+pub mod TwoWords
