@@ -8,7 +8,7 @@ use crate::formula::LENGTH_MOST;
 use crate::refusal::Refusal;
 use crate::report::Group;
 use crate::rng::Rng;
-use crate::sheet::{answer, read, SHEET_MOST};
+use crate::sheet::SHEET_MOST;
 
 /// Lines that are wrong somewhere, or everywhere, or in a small sheet twice.
 const ODD_LINES: &[&[u8]] = &[
