@@ -1,4 +1,5 @@
-// How many valuations, sides and knowledge numbers there are of up to seven settings.
+// How many valuations, sides and knowledge numbers there are of up to seven settings; for this repository
+// alone.
 ghost use mathlib.Core.Path.{_≡_};
 ghost use Prim.Native.Nat.{_^_, _≤_};
 
@@ -20,7 +21,6 @@ pub fn sides(n: u8) -> usize
     THREES[n as usize]
 }
 
-// For this repository alone.
 pub fn numbers(n: u8) -> usize
     requires { ⌜ n ≤ 7 ⌝ }
     ensures { λ r. ⌜ r ≡ 7 ^ n ⌝ }

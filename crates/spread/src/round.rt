@@ -37,7 +37,7 @@ fn take_apart(n: usize, k: usize) -> Parts
     Parts { digits, side }
 }
 
-// The present side of the state k, as a number.
+// The present side of the state k, as a number; for this repository alone.
 pub fn side_of(n: usize, k: usize) -> usize
     requires { ⌜ (n ≤ 7) × (k < 7 ^ n) ⌝ }
     ensures { λ r. ⌜ r ≡ nowSideNumber n k ⌝ }

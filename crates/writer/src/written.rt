@@ -16,7 +16,7 @@ ghost use Rattle.plan.specs.Ranks.{Written};
 ghost use Rattle.plan.specs.Bytes.{encode};
 ghost use Rattle.writer.specs.Told.{Told, Ranked, Room};
 
-// How many bytes the plan written from k has. For this crate alone: k has a rank below 255.
+// How many bytes the plan written from k has. For this repository alone: k has a rank below 255.
 pub fn length(
     n: u8,
     set: &[[u8; SIDES]; SETTINGS_MOST],
@@ -44,7 +44,7 @@ pub fn length(
     }
 }
 
-// Writes the plan from k into the room at `at`, and gives the place after it. For this crate alone: k has
+// Writes the plan from k into the room at `at`, and gives the place after it. For this repository alone: k has
 // a rank below 255, and the plan fits.
 pub fn write(
     n: u8,
