@@ -32,6 +32,8 @@ mod sheets;
 mod tables;
 
 use std::process::ExitCode;
+use std::sync::atomic::{AtomicUsize, Ordering::Relaxed};
+use std::thread;
 
 use report::{Group, Report, Subject};
 
@@ -46,6 +48,9 @@ struct Area {
     functions: &'static [&'static str],
     test: fn(&mut Subject),
 }
+
+/// A thread's stack, as large as a program's own often is.
+const STACK: usize = 8 << 20;
 
 const AREAS: &[Area] = &[
     Area { name: "formulas", functions: &["pj_formula_read"], test: formulas::test },
@@ -77,16 +82,32 @@ fn main() -> ExitCode {
         }
     }
     println!("second program: seed {seed}, more {more}");
-    let mut report = Report::new(seed, more);
+    let report = Report::new(seed, more);
     report.subject("library", |subject| subject.group("each of its functions has its cases here", each_has_cases));
-    for area in AREAS.iter().filter(|area| area.name.contains(&only)) {
-        report.subject(area.name, area.test);
-    }
+    let areas: Vec<&Area> = AREAS.iter().filter(|area| area.name.contains(&only)).collect();
+    side_by_side(&areas, &report);
     if report.close() {
         ExitCode::SUCCESS
     } else {
         ExitCode::FAILURE
     }
+}
+
+/// The areas, as many at a time as there are processors. A group draws its random numbers by its own name, so its cases
+/// are the same in any order.
+fn side_by_side(areas: &[&Area], report: &Report) {
+    let next = AtomicUsize::new(0);
+    let turns = || {
+        while let Some(area) = areas.get(next.fetch_add(1, Relaxed)) {
+            report.subject(area.name, area.test);
+        }
+    };
+    let processors = thread::available_parallelism().map_or(1, |count| count.get());
+    thread::scope(|scope| {
+        for _ in 0..processors.min(areas.len()) {
+            thread::Builder::new().stack_size(STACK).spawn_scoped(scope, turns).expect("a thread");
+        }
+    });
 }
 
 /// The library is not asked.

@@ -1,9 +1,10 @@
 //! What was tried and how it went. A subject (formulas, books ..) has groups of cases; a group is one test, passed
 //! if it had cases and each of them came out right. A subject also keeps count of the refusals that its cases gave,
-//! since a refusal that is never provoked is not tested.
+//! since a refusal that is never provoked is not tested. Subjects may be tried side by side, so each line names its own.
 
 use std::collections::BTreeMap;
 use std::ops::RangeInclusive;
+use std::sync::atomic::{AtomicUsize, Ordering::Relaxed};
 
 use crate::refusal::Refusal;
 use crate::rng::Rng;
@@ -14,17 +15,17 @@ const BYTES_SHOWN: usize = 320;
 pub struct Report {
     seed: u64,
     more: usize,
-    passed: usize,
-    failed: usize,
+    passed: AtomicUsize,
+    failed: AtomicUsize,
 }
 
 impl Report {
     /// `more` multiplies the random cases of every group.
     pub fn new(seed: u64, more: usize) -> Report {
-        Report { seed, more, passed: 0, failed: 0 }
+        Report { seed, more, passed: AtomicUsize::new(0), failed: AtomicUsize::new(0) }
     }
 
-    pub fn subject(&mut self, name: &'static str, tests: impl FnOnce(&mut Subject)) {
+    pub fn subject(&self, name: &'static str, tests: impl FnOnce(&mut Subject)) {
         let mut subject = Subject { report: self, name, reached: BTreeMap::new(), accepted: 0 };
         tests(&mut subject);
         if subject.accepted > 0 {
@@ -38,13 +39,14 @@ impl Report {
 
     /// Prints the closing line, and tells whether all went well.
     pub fn close(self) -> bool {
-        println!("{} passed, {} failed", self.passed, self.failed);
-        self.failed == 0 && self.passed > 0
+        let (passed, failed) = (self.passed.into_inner(), self.failed.into_inner());
+        println!("{passed} passed, {failed} failed");
+        failed == 0 && passed > 0
     }
 }
 
 pub struct Subject<'a> {
-    report: &'a mut Report,
+    report: &'a Report,
     name: &'static str,
     reached: BTreeMap<u32, BTreeMap<u32, usize>>,
     accepted: usize,
@@ -54,18 +56,19 @@ impl Subject<'_> {
     pub fn group(&mut self, name: &str, cases: impl FnOnce(&mut Group)) {
         let name = format!("{}: {name}", self.name);
         let rng = Rng::named(self.report.seed, &name);
-        let mut group = Group { rng, more: self.report.more, cases: 0, failures: 0, reached: Vec::new(), accepted: 0 };
+        let more = self.report.more;
+        let mut group = Group { name, rng, more, cases: 0, failures: 0, reached: Vec::new(), accepted: 0 };
         cases(&mut group);
         self.accepted += group.accepted;
         for refusal in group.reached {
             *self.reached.entry(refusal.number).or_default().entry(refusal.place).or_default() += 1;
         }
-        let cases = counted(group.cases);
+        let (name, cases) = (group.name, counted(group.cases));
         if group.failures == 0 && group.cases > 0 {
-            self.report.passed += 1;
+            self.report.passed.fetch_add(1, Relaxed);
             println!("passed  {name}: {cases} cases");
         } else {
-            self.report.failed += 1;
+            self.report.failed.fetch_add(1, Relaxed);
             println!("FAILED  {name}: {} of {cases} cases", counted(group.failures));
         }
     }
@@ -87,6 +90,7 @@ impl Subject<'_> {
 }
 
 pub struct Group {
+    name: String,
     pub rng: Rng,
     more: usize,
     cases: usize,
@@ -106,7 +110,7 @@ impl Group {
         if !right {
             self.failures += 1;
             if self.failures <= FAILURES_SHOWN {
-                println!("wrong:  {}", told());
+                println!("wrong:  {}: {}", self.name, told());
             }
         }
     }

@@ -14,7 +14,8 @@ use crate::room::Room;
 use crate::sheet::{answer, read, SHEET_MOST};
 use by_hand::{by_hand, P6};
 use faulty::{
-    cut_short, every_byte, every_line, formula_lengths, lengths, moved_lines, odd_lines, rubbish, sizes, twice, two_bytes,
+    cut_short, every_byte, every_line, formula_lengths, lengths, moved_lines, odd_lines, rubbish, sizes, twice,
+    two_bytes,
 };
 use made::{any_sheet, climb, joined, longest_sheet, Lines};
 
