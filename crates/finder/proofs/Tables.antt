@@ -27,7 +27,8 @@ use Rattle.plan.proofs.Team.{team-lawful}
 use Rattle.sides.specs.Sides.{nowSideNumber}
 use Rattle.sides.specs.Over.{entry, PostTables, Made, Learnt, Marks, rankIf}
 use Rattle.sides.proofs.Tables.{post-known, goal-marked}
-use Rattle.spread.specs.Spread.{rank, May, HasLower, by-set, by-look, Spread}
+use Rattle.push.specs.Ranks.{rank, May, HasLower, by-set, by-look}
+use Rattle.spread.specs.Spread.{Spread}
 use Rattle.question.specs.Question.{goalSettled, systemOf}
 use Rattle.writer.specs.Told.{Told}
 use Rattle.writer.proofs.StepLaws.{some-bit}

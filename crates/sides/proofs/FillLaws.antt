@@ -5,7 +5,7 @@ use mathlib.Core.Logic.{inl, inr}
 use mathlib.Core.List.{List}
 use mathlib.Core.Bool.{Bool, true, false, _&&_}
 use Prim.Native.Nat.{ℕ, _+_, _*_, _^_, _≤_, _<_}
-use native.Mathlib.Nat.{pow-le-pow-right, lt-of-le-of-lt, lt-of-lt-of-le, one-le-pow}
+use native.Mathlib.Nat.{lt-of-le-of-lt, lt-of-lt-of-le, one-le-pow}
 use native.Mathlib.Decide.{ℕ-discrete}
 use native.Mathlib.Omega.{arith}
 use lib.Bits.{bitAnd, and-le-l}
@@ -21,12 +21,10 @@ use Rattle.knowledge.specs.Seven.{unknown, told}
 use Rattle.knowledge.specs.Fits.{always, is}
 use Rattle.knowledge.proofs.Fits.{always-split, always-one}
 use Rattle.sides.proofs.Shown.{three}
+use Rattle.sides.proofs.CountLaws.{sides-most}
 use Rattle.sides.specs.Inner.{SideTells, FilledAt, FilledFrom, Filled}
 use Rattle.sides.specs.declared.told.Told.{Told}
 use Rattle.sides.specs.declared.told.Told.the-variants.{Unknown, Valuation}
-
-pub sides-most : (n : ℕ) → n ≤ 7 → 3 ^ n ≤ 2187
-sides-most n h = pow-le-pow-right three h
 
 -- two judgements that hang on one test
 and-both : (g a b : Bool) → (g && a) && (g && b) ≡ (g && (a && b))

@@ -18,7 +18,7 @@ use Rattle.ground.proofs.Bools.{T→true, lt-or-ge}
 use Rattle.knowledge.specs.Fits.{always, is, oneValue}
 use Rattle.knowledge.proofs.Fits.{always-intro, always-take}
 use Rattle.sides.specs.Over.{oneOf, SideTable, Made, learnTable, Learnt}
-use Rattle.sides.proofs.FillLaws.{sides-most}
+use Rattle.sides.proofs.CountLaws.{sides-most}
 use Rattle.sides.proofs.Tables.{one-lt, side-some}
 use Rattle.sides.specs.Inner.{Filled, EachColumn, MadeAt, sameOf, SettledAt, Settled, bothOf, Meets}
 

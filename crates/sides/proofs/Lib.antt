@@ -1,10 +1,11 @@
--- Laws that callers cite: the side that a knowledge number shows, what the tables say of it, and what settles the contracts; then what only
--- this crate's own proofs use.
+-- Laws that callers cite: the powers of up to seven settings, the side that a knowledge number shows, a state taken apart, what the tables say of it,
+-- and what settles the contracts; then what only this crate's own proofs use.
+pub mod CountLaws
 pub mod Shown
+pub mod ApartLaws
 pub mod Tables
 pub mod Unique
 mod ListLaws
-mod CountLaws
 mod ToldLaws
 mod FillLaws
 mod PostLaws

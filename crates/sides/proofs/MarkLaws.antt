@@ -14,7 +14,7 @@ use Rattle.sides.specs.Sides.{nowSideNumber, startSideNumber}
 use Rattle.sides.specs.Over.{markOf, Marks}
 use Rattle.sides.specs.Inner.{Stored, markAt}
 use Rattle.sides.proofs.Shown.{now-number-lt, start-number-lt, now-low, start-low}
-use Rattle.sides.proofs.FillLaws.{sides-most}
+use Rattle.sides.proofs.CountLaws.{sides-most}
 
 -- the sides of the lowest i settings
 pub record ShownTo (number i rest power now start : ℕ) : Type 0 where

@@ -5,6 +5,7 @@
 //
 // It refuses nothing: each function is called by this repository alone, with at most seven settings,
 // and says so. The only room that is lent is that of `mark`, which says what it leaves there.
+mod apart;
 mod counts;
 mod fill;
 mod goal;
@@ -12,6 +13,10 @@ mod marks;
 mod posts;
 mod told;
 
+pub use apart::Parts;
+pub use apart::now_of;
+pub use apart::side_of;
+pub use apart::take_apart;
 pub use counts::numbers;
 pub use goal::learnt;
 pub use goal::made;

@@ -10,9 +10,10 @@ use lib.ListN.{length}
 use Rattle.ground.proofs.Bools.{lt-or-ge}
 use Rattle.knowledge.specs.Acts.{setTo, lookAt}
 use Rattle.knowledge.proofs.Outcomes.{set-below, look-below}
-use Rattle.spread.specs.Spread.{rank, HasLower, by-set, by-look, Ready, Spread}
+use Rattle.push.specs.Ranks.{rank, HasLower, by-set, by-look}
+use Rattle.spread.specs.Spread.{Ready, Spread}
 use Rattle.spread.specs.Inner.{Swept}
-use Rattle.spread.proofs.Grown.{kept, lowers-kept, lowers-back}
+use Rattle.push.proofs.Grown.{kept, lowers-kept, lowers-back}
 
 -- before round h
 pub record Stage (n : ℕ) (set look : List (List ℕ)) (h : ℕ) (old t : List ℕ) : Type 0 where

@@ -10,10 +10,19 @@ use lib.Dec.{eqb}
 use lib.ListN.{getD}
 use borrow.Author.Tests.{eq-eqb}
 use Rattle.ground.proofs.Bools.{lt-or-ge}
-use Rattle.spread.specs.Spread.{rank}
-use Rattle.spread.specs.Inner.{Grew, SetsDone, LooksDone, Pushing, PushedAlong, Pushed, Visited, Sweeping, Bare, Swept}
-use Rattle.spread.proofs.Pushes.{pushing-on}
-use Rattle.spread.proofs.Grown.{same, back, further, sets-stay, looks-stay, pushed-stays}
+use Rattle.push.specs.Ranks.{rank}
+use Rattle.push.specs.Push.{Grew, SetsDone, LooksDone, Pushing, PushedAlong}
+use Rattle.spread.specs.Inner.{Pushed, Visited, Sweeping, Bare, Swept}
+use Rattle.push.proofs.Pushes.{pushing-on}
+use Rattle.push.proofs.Grown.{same, back, further, sets-stay, looks-stay}
+
+-- what was pushed stays so as the table grows
+pushed-stays : {n h : ℕ} {set look : List (List ℕ)} {old new : List ℕ} → Grew n set look h old new → h < 255 → (k m : ℕ)
+    → Pushed n set look h k m old → Pushed n set look h k m new
+pushed-stays g l k m f = record {
+  sets = λ i b. sets-stay g l k i (f .sets i b);
+  looks = λ i b. looks-stay g l k i (f .looks i b);
+}
 
 -- a number below m + 1 is below m or is m
 below-one-more : {A : Type 0} (i m : ℕ) → i < m + 1 → (i < m → A) → (i ≡ m → A) → A

@@ -7,7 +7,8 @@ use Prim.Native.Nat.{ℕ, zero, suc, _^_, _≤_, _<_}
 use native.Mathlib.Omega.{arith}
 use lib.Seq.{ext-getD}
 use Rattle.ground.proofs.Bools.{lt-or-ge}
-use Rattle.spread.specs.Spread.{rank, Spread}
+use Rattle.push.specs.Ranks.{rank}
+use Rattle.spread.specs.Spread.{Spread}
 use Rattle.spread.proofs.Stages.{lowers-within}
 
 module _ {n : ℕ} {set look : List (List ℕ)} {before a b : List ℕ} (x : Spread n set look before a) (y : Spread n set look before b) where

@@ -2,21 +2,15 @@
 // tables of what is permitted and the marks, and nothing of books, rules or posts. It refuses nothing:
 // its functions have a `requires`, for this repository alone. Of the lent ranks it changes only
 // entries below 7^n that hold 255.
-mod push;
 mod round;
 mod scan;
 
 use ground::SETTINGS_MOST;
+use push::NONE;
 use round::round;
-pub use round::side_of;
 use sides::SIDES;
 use sides::numbers;
-ghost use mathlib.Core.Path.{_≡_};
-ghost use Prim.Native.Nat.{_^_, _≤_};
 ghost use Rattle.spread.specs.Spread.{Ready, Spread};
-
-// The entry of a state from which no plan works.
-const NONE: u8 = 255;
 
 // Gives every knowledge number of n settings its rank. An entry of `set` and of `look`, by setting and
 // present side, is not 0 where the setting may be set, or looked at. `ranks` comes with 0 where the goal

@@ -1,50 +1,14 @@
 // One round: every state of rank h - 1 is found and pushed from.
-use super::push::now_of;
-use super::push::push;
 use super::scan::BLOCK;
 use super::scan::is_bare;
 use ground::SETTINGS_MOST;
-use knowledge::Knowledge;
+use push::push;
 use sides::SIDES;
+use sides::take_apart;
 ghost use mathlib.Core.Path.{_≡_};
 ghost use Prim.Native.Nat.{_+_, _^_, _≤_, _<_};
-ghost use Rattle.sides.specs.Sides.{nowSideNumber};
-ghost use Rattle.spread.specs.Inner.{Apart, Pushing, Visited, Sweeping, Swept};
-
-// A state taken apart: the digit of each setting, and the present side as a number.
-struct Parts {
-    digits: [u8; SETTINGS_MOST],
-    side: usize,
-}
-
-// Takes the state k apart, once for all settings.
-fn take_apart(n: usize, k: usize) -> Parts
-    requires { ⌜ (n ≤ 7) × (k < 7 ^ n) ⌝ }
-    ensures { λ r. ⌜ Apart n k (r .side) (r .digits) ⌝ }
-{
-    let state = Knowledge::from_number(k as u32);
-    let mut digits = [0u8; SETTINGS_MOST];
-    let mut side = 0;
-    let mut three = 1;
-    let mut i = 0;
-    while i < n {
-        let d = state.digit(i as u8);
-        digits[i] = d;
-        side += now_of(d) * three;
-        three *= 3;
-        i += 1;
-    }
-    Parts { digits, side }
-}
-
-// The present side of the state k, as a number; for this repository alone.
-pub fn side_of(n: usize, k: usize) -> usize
-    requires { ⌜ (n ≤ 7) × (k < 7 ^ n) ⌝ }
-    ensures { λ r. ⌜ r ≡ nowSideNumber n k ⌝ }
-{
-    let parts = take_apart(n, k);
-    parts.side
-}
+ghost use Rattle.push.specs.Push.{Pushing};
+ghost use Rattle.spread.specs.Inner.{Visited, Sweeping, Swept};
 
 // Pushes from the state k along every setting.
 fn visit(

@@ -158,7 +158,7 @@ pub fn choose(
     requires { ⌜ (n ≤ 7) × (k < 7 ^ n) × (7 ^ n ≤ length (now ranks)) ⌝ }
     ensures { λ r. ⌜ ((S : System) → Told n (now (set .entry)) (now (look .entry)) (now (ranks .entry)) S → Chooses S (now (ranks .entry)) k r) ⌝ }
 {
-    let side = spread::side_of(n as usize, k as usize);
+    let side = sides::side_of(n as usize, k as usize);
     let mut pair: u8 = 0;
     while pair < 21 {
         match step_of(n, set, look, ranks, k, side, pair) {

@@ -4,7 +4,8 @@ use Prim.Native.Nat.{ℕ, _≤_, _^_, _-_}
 use native.Mathlib.Omega.{arith}
 use lib.ListN.{length, length-set, getD}
 use Rattle.sides.specs.Inner.{FilledFrom}
-use Rattle.sides.proofs.FillLaws.{sides-most, filled-more, past-more, filled-all, zeros-long, zeros-at}
+use Rattle.sides.proofs.CountLaws.{sides-most}
+use Rattle.sides.proofs.FillLaws.{filled-more, past-more, filled-all, zeros-long, zeros-at}
 use Rattle.sides.proofs.fill.fill.Statement.{statement}
 use Rattle.sides.proofs.fill.fill.Tie as tie
 

@@ -2,7 +2,7 @@
 use Prim.Native.Nat.{_-_, _≤_}
 use native.Mathlib.Omega.{arith}
 use Rattle.spread.specs.Inner.{Swept}
-use Rattle.spread.proofs.Spots.{pow-seven}
+use Rattle.sides.proofs.CountLaws.{states-most}
 use Rattle.spread.proofs.Sweeps.{swept-bare, swept-on, swept-all, sweeping-on}
 use Rattle.spread.proofs.round.round.Statement.{statement}
 use Rattle.spread.proofs.round.round.Tie as tie
@@ -23,7 +23,7 @@ block-requires : tie.Need-block-requires Inv-loop μ-loop
 block-requires c κs = (sweeping-on (c .before .before .before .before .before .pre .0) (c .before .before .before .loop .inv .1 .grew), omega (arith, c .before .end-of .ensures .0), c .before .end-of .ensures .1, omega (arith, c .before .end-of .ensures .2, c .before .before .before .before .before .pre .1))
 
 add-found : tie.Need-add-found Inv-loop μ-loop
-add-found c = omega (arith, c .before .before .before .before .before .before .loop .inv .1 .few, c .before .before .block .ensures .few, c .before .before .before .before .end-of .ensures .2, c .before .before .before .before .before .before .before .before .pre .1, pow-seven (c .before .before .before .before .before .before .before .before .args .n) (c .before .before .before .before .before .before .before .before .pre .0 .few))
+add-found c = omega (arith, c .before .before .before .before .before .before .loop .inv .1 .few, c .before .before .block .ensures .few, c .before .before .before .before .end-of .ensures .2, c .before .before .before .before .before .before .before .before .pre .1, states-most (c .before .before .before .before .before .before .before .before .args .n) (c .before .before .before .before .before .before .before .before .pre .0 .few))
 
 loop-less : tie.Need-loop-less Inv-loop μ-loop
 loop-less c = omega (arith, c .before .before .before .before .end-of .ensures .0, c .before .before .before .before .end-of .ensures .2, c .before .before .before .before .before .loop-test .taken)

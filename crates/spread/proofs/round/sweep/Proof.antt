@@ -2,7 +2,7 @@
 use Prim.Native.Nat.{_-_, _≤_}
 use native.Mathlib.Omega.{arith}
 use Rattle.spread.specs.Inner.{Swept}
-use Rattle.spread.proofs.Spots.{pow-seven}
+use Rattle.sides.proofs.CountLaws.{states-most}
 use Rattle.spread.proofs.Sweeps.{swept-bare, swept-on, swept-all, sweeping-on}
 use Rattle.spread.proofs.round.sweep.Statement.{statement}
 use Rattle.spread.proofs.round.sweep.Tie as tie
@@ -20,10 +20,10 @@ visit-if-requires : tie.Need-visit-if-requires Inv-loop μ-loop
 visit-if-requires c κs = (sweeping-on (c .before .before .before .before .pre .0) (c .before .before .loop .inv .2 .grew), omega (arith, c .before .before .before .before .pre .2, c .before .loop-test .taken))
 
 add-found : tie.Need-add-found Inv-loop μ-loop
-add-found c = omega (arith, c .before .before .before .before .before .loop .inv .2 .few, c .before .before .visit-if .ensures .few, c .before .before .before .before .before .before .before .pre .2, pow-seven (c .before .before .before .before .before .before .before .args .n) (c .before .before .before .before .before .before .before .pre .0 .few), c .before .before .before .before .loop-test .taken)
+add-found c = omega (arith, c .before .before .before .before .before .loop .inv .2 .few, c .before .before .visit-if .ensures .few, c .before .before .before .before .before .before .before .pre .2, states-most (c .before .before .before .before .before .before .before .args .n) (c .before .before .before .before .before .before .before .pre .0 .few), c .before .before .before .before .loop-test .taken)
 
 add-k : tie.Need-add-k Inv-loop μ-loop
-add-k c = omega (arith, c .before .before .before .before .before .before .before .pre .2, pow-seven (c .before .before .before .before .before .before .before .args .n) (c .before .before .before .before .before .before .before .pre .0 .few), c .before .before .before .before .loop-test .taken)
+add-k c = omega (arith, c .before .before .before .before .before .before .before .pre .2, states-most (c .before .before .before .before .before .before .before .args .n) (c .before .before .before .before .before .before .before .pre .0 .few), c .before .before .before .before .loop-test .taken)
 
 loop-less : tie.Need-loop-less Inv-loop μ-loop
 loop-less c = omega (arith, c .before .before .before .before .loop-test .taken)

@@ -3,8 +3,8 @@ use Prim.Native.Nat.{_-_, _^_, _≤_}
 use mathlib.Core.Path.{_≡_}
 use native.Mathlib.Omega.{arith}
 use Rattle.spread.specs.Inner.{Visited}
-use Rattle.spread.proofs.Running.{power-none, power-up}
-use Rattle.spread.proofs.Spots.{pow-seven, pow-three}
+use Rattle.sides.proofs.ApartLaws.{power-none, power-up}
+use Rattle.sides.proofs.CountLaws.{states-most, sides-most}
 use Rattle.spread.proofs.Sweeps.{visit-none, visit-more, visit-all, visiting-on}
 use Rattle.spread.proofs.round.visit.Statement.{statement}
 use Rattle.spread.proofs.round.visit.Tie as tie
@@ -28,10 +28,10 @@ push-requires : tie.Need-push-requires Inv-loop μ-loop
 push-requires c κs = (visiting-on (c .before .before .before .before .before .before .pre .2) (c .before .before .loop .inv .3), c .before .before .before .before .before .before .pre .0, c .before .before .before .before .before .before .pre .1, c .before .before .before .before .take-apart .ensures .side-is, c .before .loop-test .taken, c .before .before .before .before .take-apart .ensures .each (c .before .before .loop .i) (c .before .loop-test .taken), c .before .before .loop .inv .1, c .before .before .loop .inv .2)
 
 mul-seven : tie.Need-mul-seven Inv-loop μ-loop
-mul-seven c = omega (arith, c .before .before .before .before .before .loop .inv .1, pow-seven (c .before .before .before .before .before .loop .i) (omega (arith, c .before .before .before .before .before .before .before .before .before .pre .0, c .before .before .before .before .loop-test .taken)))
+mul-seven c = omega (arith, c .before .before .before .before .before .loop .inv .1, states-most (c .before .before .before .before .before .loop .i) (omega (arith, c .before .before .before .before .before .before .before .before .before .pre .0, c .before .before .before .before .loop-test .taken)))
 
 mul-three : tie.Need-mul-three Inv-loop μ-loop
-mul-three c = omega (arith, c .before .before .before .before .before .loop .inv .2, pow-three (c .before .before .before .before .before .loop .i) (omega (arith, c .before .before .before .before .before .before .before .before .before .pre .0, c .before .before .before .before .loop-test .taken)))
+mul-three c = omega (arith, c .before .before .before .before .before .loop .inv .2, sides-most (c .before .before .before .before .before .loop .i) (omega (arith, c .before .before .before .before .before .before .before .before .before .pre .0, c .before .before .before .before .loop-test .taken)))
 
 add-i : tie.Need-add-i Inv-loop μ-loop
 add-i c = omega (arith, c .before .before .before .before .before .before .before .before .before .pre .0, c .before .before .before .before .loop-test .taken)
