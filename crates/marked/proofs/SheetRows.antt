@@ -23,7 +23,7 @@ use Rattle.book.specs.Rule.{table, tablePlace}
 use Rattle.book.specs.Sound.{tablesOf}
 use Rattle.book.specs.declared.rule.Right.{Right}
 use Rattle.book.specs.declared.rule.Right.the-variants.{Look, Set}
-use Rattle.printing.specs.Decimal.{decimal}
+use Rattle.text.specs.Decimal.{decimal}
 use Rattle.printing.specs.Printed.{reachText, cannotText, fitted}
 use Rattle.line.specs.Sheet.{Rule, Sheet, sameRight, concerns, isStated, ruleText, knownSettings, knownTrue}
 use Rattle.words.specs.Words.{member, onto, split, begins, among, isFalse, bare, isName, allNames, indexOf, indexes, twice}

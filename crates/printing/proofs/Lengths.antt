@@ -11,7 +11,7 @@ use Rattle.plan.specs.Plans.{Plan, stop, set-then, look-then, height}
 use Rattle.plan.specs.Bytes.{encode}
 use Rattle.printing.specs.Printed.{actText, numbered, planText, Lettered}
 use Rattle.printing.specs.Inner.{Shows, Readable}
-use Rattle.printing.proofs.Decimals.{decimal-length}
+use Rattle.text.proofs.Decimals.{decimal-length}
 use Rattle.printing.proofs.Lined.{numbered-length}
 
 -- depths of at most k + 1 digits: a line has those and at most 11 bytes more

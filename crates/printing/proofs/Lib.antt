@@ -1,8 +1,6 @@
--- What others cite: `decimal` is decimal, and what settles the contracts. Then the laws that this crate's own proofs use.
-pub mod Numerals
+-- What others cite: what settles the contracts. Then the laws that this crate's own proofs use.
 pub mod Theorems
-mod Decimals
-mod Writing
+mod Fitted
 mod Shown
 mod Lined
 mod Lengths

@@ -12,12 +12,13 @@ use Rattle.knowledge.specs.declared.act.Act.the-variants.{Set, Look}
 use Rattle.knowledge.specs.declared.act.Named.the-variants.{One, Nothing}
 use Rattle.plan.specs.Plans.{Plan, stop}
 use Rattle.plan.specs.Bytes.{encode}
-use Rattle.printing.specs.Decimal.{decimal}
+use Rattle.text.specs.Decimal.{decimal}
 use Rattle.printing.specs.Printed.{actText, numbered, planText}
-use Rattle.printing.specs.Inner.{Ends, Wrote, Shows, Readable, Lined, Lines}
+use Rattle.text.specs.Wrote.{Ends, Wrote}
+use Rattle.printing.specs.Inner.{Shows, Readable, Lined, Lines}
 use Rattle.printing.specs.declared.lines.Next.{Next}
 use Rattle.printing.proofs.Shown.{parts}
-use Rattle.printing.proofs.Writing.{ends-left, ends-right, wrote-then}
+use Rattle.text.proofs.Writing.{ends-left, ends-right, wrote-then}
 
 pub numbered-length : (depth : ℕ) (text : List ℕ) → length (numbered depth text) ≡ length (decimal depth) + length text + 2
 numbered-length depth text = simp length-append (omega arith)

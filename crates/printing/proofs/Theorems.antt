@@ -12,10 +12,10 @@ use Rattle.knowledge.specs.Acts.{byteOf, setTo, lookAt}
 use Rattle.knowledge.specs.declared.act.Act.the-variants.{Set, Look}
 use Rattle.plan.specs.Plans.{System, Lawful, Plan, stop, set-then, look-then, Permitted, height}
 use Rattle.plan.specs.Bytes.{encode}
-use Rattle.printing.specs.Decimal.{decimal}
+use Rattle.text.specs.Decimal.{decimal}
 use Rattle.printing.specs.Printed.{refusedText, planText, reachText, Lettered, fitted, Prints}
 use Rattle.printing.specs.Inner.{Shows}
-use Rattle.printing.proofs.Decimals.{decimal-length}
+use Rattle.text.proofs.Decimals.{decimal-length}
 use Rattle.printing.proofs.Shown.{set-after, false-after, true-after, shown-first, parts}
 use Rattle.printing.proofs.Lengths.{plan-length, whole-shown}
 

@@ -3,20 +3,11 @@ use mathlib.Core.Path.{_≡_}
 use mathlib.Core.List.{List, _++_}
 use Prim.Native.Nat.{ℕ, _+_, _^_, _<_}
 use lib.ListN.{length, drop}
-use lib.Seq.{sets}
 use Rattle.plan.specs.Plans.{Plan}
 use Rattle.plan.specs.Bytes.{encode}
+use Rattle.text.specs.Wrote.{Ends, Wrote}
 use Rattle.printing.specs.Printed.{planText, Lettered}
 use Rattle.printing.specs.declared.lines.Next.{Next}
-
--- the place after the text is a number of the machine
-pub record Ends (to : ℕ) (text : List ℕ) : Type 0 where
-  pub below : to + length text < 2 ^ 64
-
--- the text was written from a place on, as far as the room goes, and next is the place after it
-pub record Wrote (old : List ℕ) (to : ℕ) (text new : List ℕ) (next : ℕ) : Type 0 where
-  pub room : new ≡ sets old to text
-  pub next-place : next ≡ to + length text
 
 -- the bytes of a plan that can be printed begin at this place
 pub record Shows (plan : List ℕ) (at : ℕ) (p : Plan) : Type 0 where

@@ -9,7 +9,7 @@ use Rattle.ground.specs.Text.{bytes}
 use Rattle.knowledge.specs.declared.act.Act.{Act}
 use Rattle.knowledge.specs.declared.act.Act.the-variants.{Set, Look}
 use Rattle.plan.specs.Plans.{Plan, stop, set-then, look-then}
-use Rattle.printing.specs.Decimal.{decimal}
+use Rattle.text.specs.Decimal.{decimal}
 
 -- every line ends in byte 10, as a sheet's lines do
 abbrev pub line : List ℕ → List ℕ

@@ -2,7 +2,6 @@
 // that the caller lends. It refuses nothing: a room shorter than the answer holds as much of it as fits,
 // and the length given is the whole answer's. Nothing past the answer is touched.
 mod lines;
-mod room;
 
 ghost use mathlib.Core.Path.{_≡_};
 ghost use Prim.Native.Nat.{_≤_};
@@ -15,18 +14,18 @@ ghost use Rattle.printing.specs.Printed.{refusedText, cannotText, reachT
 pub fn refused(number: u64, place: usize, out: &mut [u8]) -> usize
     ensures { λ r. ⌜ Prints (now (out .entry)) (refusedText number place) r (now (out .exit)) ⌝ }
 {
-    let to = room::word(b"refused ", out, 0);
-    let to = room::number(number, out, to);
-    let to = room::put(b' ', out, to);
-    let to = room::number(place as u64, out, to);
-    room::put(b'\n', out, to)
+    let to = text::word(b"refused ", out, 0);
+    let to = text::number(number, out, to);
+    let to = text::put(b' ', out, to);
+    let to = text::number(place as u64, out, to);
+    text::put(b'\n', out, to)
 }
 
 // The answer `cannot`, and its length.
 pub fn cannot(out: &mut [u8]) -> usize
     ensures { λ r. ⌜ Prints (now (out .entry)) cannotText r (now (out .exit)) ⌝ }
 {
-    room::word(b"cannot\n", out, 0)
+    text::word(b"cannot\n", out, 0)
 }
 
 // The answer `reach H` with a line for each byte of the plan, and its length. For this repository alone:
@@ -35,9 +34,9 @@ pub fn reach(height: u8, plan: &[u8], out: &mut [u8]) -> usize
     requires { ⌜ ((p : Plan) × (now plan ≡ encode p) × Lettered p) × (length (now plan) ≤ 32640) ⌝ }
     ensures { λ r. ⌜ ((p : Plan) → now (plan .entry) ≡ encode p → Lettered p → Prints (now (out .entry)) (reachText height p) r (now (out .exit))) ⌝ }
 {
-    let to = room::word(b"reach ", out, 0);
-    let to = room::number(height as u64, out, to);
-    let to = room::put(b'\n', out, to);
+    let to = text::word(b"reach ", out, 0);
+    let to = text::number(height as u64, out, to);
+    let to = text::put(b'\n', out, to);
     let end = lines::lines(plan, 0, 0, out, to);
     end.to
 }

@@ -1,12 +1,12 @@
 // A line for each byte of a plan: the depth, then the act by its setting's letter and its post's digit.
-use crate::room;
 use knowledge::Act;
 use knowledge::Named;
 ghost use mathlib.Core.Path.{_≡_};
 ghost use Prim.Native.Nat.{_<_};
 ghost use Rattle.knowledge.specs.Acts.{settingOf, postOf};
 ghost use Rattle.printing.specs.Printed.{valueDigit, actText, numbered};
-ghost use Rattle.printing.specs.Inner.{Ends, Wrote, Readable, Lines};
+ghost use Rattle.text.specs.Wrote.{Ends, Wrote};
+ghost use Rattle.printing.specs.Inner.{Readable, Lines};
 
 // The places after a plan's bytes and after its lines.
 pub struct Next {
@@ -29,10 +29,10 @@ fn line(depth: u64, text: &[u8], out: &mut [u8], to: usize) -> usize
     requires { ⌜ Ends to (numbered depth (now text)) ⌝ }
     ensures { λ r. ⌜ Wrote (now (out .entry)) to (numbered depth (now (text .entry))) (now (out .exit)) r ⌝ }
 {
-    let to = room::number(depth, out, to);
-    let to = room::put(b' ', out, to);
-    let to = room::word(text, out, to);
-    room::put(b'\n', out, to)
+    let to = text::number(depth, out, to);
+    let to = text::put(b' ', out, to);
+    let to = text::word(text, out, to);
+    text::put(b'\n', out, to)
 }
 
 // The line of an act; its setting has a letter and its post a digit.

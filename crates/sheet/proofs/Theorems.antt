@@ -18,7 +18,7 @@ use Rattle.plan.specs.Secret.{Twins}
 use Rattle.plan.proofs.Ranks.{rank-least}
 use Rattle.plan.proofs.Written.{written-works, written-height}
 use Rattle.plan.proofs.Secret.{secret}
-use Rattle.printing.specs.Decimal.{decimal}
+use Rattle.text.specs.Decimal.{decimal}
 use Rattle.printing.specs.Printed.{line, numbered, actText, planText, cannotText, reachText, Prints}
 use Rattle.printing.proofs.Theorems.{prints-unique, refused-length, reach-length}
 use Rattle.sides.specs.Over.{learnTable}

@@ -1,6 +1,6 @@
 -- `cannot` meets its contract: one word from the room's front.
 use borrow.Author.Needs.{needs}
-use Rattle.printing.proofs.Writing.{prints}
+use Rattle.printing.proofs.Fitted.{prints}
 use Rattle.printing.proofs.cannot.Statement.{statement}
 use Rattle.printing.proofs.cannot.Tie as tie
 

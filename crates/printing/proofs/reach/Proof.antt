@@ -1,8 +1,9 @@
 -- `reach` meets its contract: its first line, and the lines of the plan that its bytes are.
 use borrow.Author.Needs.{needs}
 use native.Mathlib.Omega.{arith}
-use Rattle.printing.proofs.Decimals.{decimal-length}
-use Rattle.printing.proofs.Writing.{wrote-then, prints}
+use Rattle.text.proofs.Decimals.{decimal-length}
+use Rattle.text.proofs.Writing.{wrote-then}
+use Rattle.printing.proofs.Fitted.{prints}
 use Rattle.printing.proofs.Lengths.{whole-shown, whole-readable}
 use Rattle.printing.proofs.reach.Statement.{statement}
 use Rattle.printing.proofs.reach.Tie as tie

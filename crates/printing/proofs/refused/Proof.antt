@@ -1,8 +1,9 @@
 -- `refused` meets its contract: its five pieces one after the other; a number of 64 bits has at most 20 digits, so places stay small.
 use borrow.Author.Needs.{needs}
 use native.Mathlib.Omega.{arith}
-use Rattle.printing.proofs.Decimals.{decimal-length}
-use Rattle.printing.proofs.Writing.{wrote-then, prints}
+use Rattle.text.proofs.Decimals.{decimal-length}
+use Rattle.text.proofs.Writing.{wrote-then}
+use Rattle.printing.proofs.Fitted.{prints}
 use Rattle.printing.proofs.refused.Statement.{statement}
 use Rattle.printing.proofs.refused.Tie as tie
 

@@ -7,7 +7,7 @@ use native.Mathlib.Omega.{arith}
 use lib.ListN.{length}
 use Rattle.knowledge.specs.declared.act.Named.the-variants.{One}
 use Rattle.knowledge.proofs.Acts.{byte-of-act}
-use Rattle.printing.proofs.Writing.{wrote-length}
+use Rattle.text.proofs.Writing.{wrote-length}
 use Rattle.printing.proofs.Shown.{shown-here}
 use Rattle.printing.proofs.Lined.{wrote-act, stop-ends, stop-lined, act-ends, set-next, set-lined, false-next, true-next, look-lined}
 use borrow.Fn.Kinds.{In}

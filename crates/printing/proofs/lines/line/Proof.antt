@@ -1,7 +1,7 @@
 -- `line` meets its contract: its four pieces one after the other.
 use borrow.Author.Needs.{needs}
 use native.Mathlib.Omega.{arith}
-use Rattle.printing.proofs.Writing.{wrote-then}
+use Rattle.text.proofs.Writing.{wrote-then}
 use Rattle.printing.proofs.Lined.{numbered-length}
 use Rattle.printing.proofs.lines.line.Statement.{statement}
 use Rattle.printing.proofs.lines.line.Tie as tie

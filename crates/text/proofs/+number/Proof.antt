@@ -3,14 +3,14 @@ use Prim.Native.Nat.{ℕ, _<_}
 use native.Mathlib.Omega.{arith}
 use borrow.Fn.Kinds.{In}
 use borrow.Fn.PlainCycle.{Measures, is, falls, and}
-use Rattle.printing.proofs.Decimals.{decimal-small, decimal-more}
-use Rattle.printing.proofs.Writing.{ends-left, ends-right, wrote-length, wrote-then}
-use Rattle.printing.proofs.room.number.Reads as number
-use Rattle.printing.proofs.room.number.Kinds as number-kinds
-use Rattle.printing.proofs.room.+number.Lts-number as number-lts
-use Rattle.printing.proofs.room.put.Reads as put-reads
-use Rattle.printing.proofs.room.+number.{statement}
-use Rattle.printing.proofs.room.+number.Tie.{close}
+use Rattle.text.proofs.Decimals.{decimal-small, decimal-more}
+use Rattle.text.proofs.Writing.{ends-left, ends-right, wrote-length, wrote-then}
+use Rattle.text.proofs.number.Reads as number
+use Rattle.text.proofs.number.Kinds as number-kinds
+use Rattle.text.proofs.+number.Lts-number as number-lts
+use Rattle.text.proofs.put.Reads as put-reads
+use Rattle.text.proofs.+number.{statement}
+use Rattle.text.proofs.+number.Tie.{close}
 
 abbrev μ-number : Measures 1 number-kinds.ps ℕ
 μ-number κs a = a .0

@@ -4,10 +4,10 @@ use Prim.Native.Nat.{_≤_, _-_}
 use native.Mathlib.Omega.{arith}
 use lib.ListN.{length, take}
 use lib.Seq.{length-take-le}
-use Rattle.printing.specs.Inner.{Wrote}
-use Rattle.printing.proofs.Writing.{wrote-length, wrote-more, wrote-all}
-use Rattle.printing.proofs.room.word.Statement.{statement}
-use Rattle.printing.proofs.room.word.Tie as tie
+use Rattle.text.specs.Wrote.{Wrote}
+use Rattle.text.proofs.Writing.{wrote-length, wrote-more, wrote-all}
+use Rattle.text.proofs.word.Statement.{statement}
+use Rattle.text.proofs.word.Tie as tie
 
 abbrev Inv-loop : tie.InvT-loop
 Inv-loop text out₀ to i₀ at₀ out i at = (i ≤ length text) × Wrote out₀ to (take i text) out at

@@ -8,7 +8,7 @@ use native.Mathlib.Omega.{arith}
 use lib.ListN.{length, length-append}
 use borrow.Author.Tests.{lt-ltb, le-ltb}
 use Rattle.ground.proofs.Bools.{lt-or-ge}
-use Rattle.printing.specs.Decimal.{glyph, digits, decimal}
+use Rattle.text.specs.Decimal.{glyph, digits, decimal}
 
 digits-small : (steps n : ℕ) → n < 10 → digits steps n ≡ glyph n ∷ []
 digits-small zero n h = refl

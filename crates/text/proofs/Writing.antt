@@ -1,15 +1,13 @@
--- Text written piece by piece is written whole, and from the front of a room it is what `fitted` says: by induction on the text.
-use mathlib.Core.Path.{_≡_, refl, sym, ap, ap₂, _∙_}
+-- Text written piece by piece is written whole.
+use mathlib.Core.Path.{_≡_, sym, ap, ap₂, _∙_}
 use mathlib.Core.List.{List, [], _∷_, _++_}
-use Prim.Native.Nat.{ℕ, suc, _+_, _≤_, _<_}
-use native.Mathlib.Nat.{zero-add}
+use Prim.Native.Nat.{ℕ, _+_, _≤_, _<_}
 use native.Mathlib.Numerals.{add-one}
 use native.Mathlib.Omega.{arith}
-use lib.ListN.{length, getD, take, set, length-append}
-use lib.Seq.{sets, length-sets, take-nil, take-all, take-suc}
+use lib.ListN.{length, getD, take, length-append}
+use lib.Seq.{sets, length-sets, take-all, take-suc}
 use Rattle.ground.proofs.Lists.{sets-append}
-use Rattle.printing.specs.Printed.{fitted, Prints}
-use Rattle.printing.specs.Inner.{Ends, Wrote}
+use Rattle.text.specs.Wrote.{Ends, Wrote}
 
 -- one text and then another
 pub wrote-then : {a b c s t : List ℕ} {i j k : ℕ} → Wrote a i s b j → Wrote b j t c k → Wrote a i (s ++ t) c k
@@ -36,21 +34,3 @@ module _ {old new : List ℕ} {to at : ℕ} (text : List ℕ) (i : ℕ) (so-far 
 
   pub wrote-all : length text ≤ i → Wrote old to text new at
   wrote-all h = rw (take-all i text h) at so-far
-
--- ---- a room from its front
-
-sets-nil : (i : ℕ) (vs : List ℕ) → sets [] i vs ≡ []
-sets-nil i [] = refl
-sets-nil i (v ∷ vs) = sets-nil (suc i) vs
-
-sets-behind : (x : ℕ) (l : List ℕ) (i : ℕ) (vs : List ℕ) → sets (x ∷ l) (suc i) vs ≡ x ∷ sets l i vs
-sets-behind x l i [] = refl
-sets-behind x l i (v ∷ vs) = sets-behind x (set l i v) (suc i) vs
-
-sets-fitted : (old text : List ℕ) → sets old 0 text ≡ fitted old text
-sets-fitted old [] = rw (take-nil (length old))
-sets-fitted [] (v ∷ vs) = sets-nil 1 vs
-sets-fitted (x ∷ old) (v ∷ vs) = sets-behind v old 0 vs ∙ ap (λ (l : List ℕ). v ∷ l) (sets-fitted old vs)
-
-pub prints : {old text new : List ℕ} {r : ℕ} → Wrote old 0 text new r → Prints old text r new
-prints {old} {text} w = record { count = w .next-place ∙ zero-add (length text); room = w .room ∙ sets-fitted old text }

@@ -1,10 +1,11 @@
-// Text into the lent room from a place on. A place past the room is counted and not written, so each
-// function here gives the place after its text, whatever the room's length.
+// Text into a lent room from a place on: bytes, words and numbers in decimal. A place past the room is
+// counted and not written, so each function gives the place after its text, whatever the room's length.
+// It refuses nothing: its functions have a `requires`, for this repository alone: places stay below 2^64.
 ghost use mathlib.Core.List.{[], _∷_};
-ghost use Rattle.printing.specs.Decimal.{decimal};
-ghost use Rattle.printing.specs.Inner.{Ends, Wrote};
+ghost use Rattle.text.specs.Decimal.{decimal};
+ghost use Rattle.text.specs.Wrote.{Ends, Wrote};
 
-// One byte. For this crate alone: places stay below 2^64.
+// One byte.
 pub fn put(byte: u8, out: &mut [u8], to: usize) -> usize
     requires { ⌜ Ends to (byte ∷ []) ⌝ }
     ensures { λ r. ⌜ Wrote (now (out .entry)) to (byte ∷ []) (now (out .exit)) r ⌝ }
@@ -16,7 +17,7 @@ pub fn put(byte: u8, out: &mut [u8], to: usize) -> usize
     to + 1
 }
 
-// A run of bytes. For this crate alone: places stay below 2^64.
+// A run of bytes.
 pub fn word(text: &[u8], out: &mut [u8], to: usize) -> usize
     requires { ⌜ Ends to (now text) ⌝ }
     ensures { λ r. ⌜ Wrote (now (out .entry)) to (now (text .entry)) (now (out .exit)) r ⌝ }
@@ -30,8 +31,7 @@ pub fn word(text: &[u8], out: &mut [u8], to: usize) -> usize
     at
 }
 
-// A number's decimal digits: those of a tenth of it first, so at most 20 deep. For this crate alone:
-// places stay below 2^64.
+// A number's decimal digits: those of a tenth of it first, so at most 20 deep.
 pub fn number(n: u64, out: &mut [u8], to: usize) -> usize
     requires { ⌜ Ends to (decimal n) ⌝ }
     ensures { λ r. ⌜ Wrote (now (out .entry)) to (decimal n) (now (out .exit)) r ⌝ }

@@ -6,8 +6,8 @@ use Prim.Native.Nat.{ℕ, zero, suc, _+_, _*_, _-_, _/_, _%_, _≤_, _<_}
 use native.Mathlib.Omega.{arith}
 use lib.ListN.{length, getD, List·getD-append}
 use Rattle.ground.proofs.Bools.{lt-or-ge}
-use Rattle.printing.specs.Decimal.{glyph, decimal, AllDigits, valueFrom, IsDecimal}
-use Rattle.printing.proofs.Decimals.{decimal-small, decimal-more}
+use Rattle.text.specs.Decimal.{glyph, decimal, AllDigits, valueFrom, IsDecimal}
+use Rattle.text.proofs.Decimals.{decimal-small, decimal-more}
 
 -- ---- one digit more
 
