@@ -25,8 +25,9 @@ use Rattle.plan.proofs.Acts.{after-a-set, after-a-look}
 use Rattle.plan.proofs.Certificate.{certified, numbers-closed}
 use Rattle.plan.proofs.Team.{team-lawful}
 use Rattle.sides.specs.Sides.{nowSideNumber}
-use Rattle.sides.specs.Over.{entry, PostTables, Made, Learnt, Marks, rankIf}
-use Rattle.sides.proofs.Tables.{post-known, goal-marked}
+use Rattle.sides.specs.Over.{entry, Marks, rankIf}
+use Rattle.tables.specs.Tables.{PostTables, Made, Learnt}
+use Rattle.tables.proofs.Tables.{post-known, goal-marked}
 use Rattle.push.specs.Ranks.{rank, May, HasLower, by-set, by-look}
 use Rattle.spread.specs.Spread.{Spread}
 use Rattle.question.specs.Question.{goalSettled, systemOf}

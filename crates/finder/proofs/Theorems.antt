@@ -24,7 +24,7 @@ use Rattle.plan.proofs.Ranks.{rank-least, rank-most, has-rank, rank-reach}
 use Rattle.plan.proofs.Written.{written-works, written-height}
 use Rattle.plan.proofs.Accepted.{written-most}
 use Rattle.plan.proofs.Secret.{secret}
-use Rattle.sides.specs.Over.{learnCount, learnTable, allSettled}
+use Rattle.knowledge.specs.Learn.{learnCount, learnTable, allSettled}
 use Rattle.question.specs.Question.{goalSettled, systemOf, startNumber, NoMaking}
 use Rattle.question.specs.Rows.{number, place}
 use Rattle.question.specs.Asks.{ValidQuestion}

@@ -69,11 +69,11 @@ fn search(
     requires { ⌜ (0 < n) × (n ≤ 7) × KnownFits n known values × (7 ^ n ≤ size (now ranks)) ⌝ }
     ensures { λ r. ⌜ RanksFilled n (systemOf n (now (book .entry)) team (now (make .entry)) (now (learn .entry))) (now (ranks .entry)) (now (ranks .exit)) × Answers (systemOf n (now (book .entry)) team (now (make .entry)) (now (learn .entry))) (startNumber known values) (now (plan .entry)) r (now (plan .exit)) ⌝ }
 {
-    let made = sides::made(make, n);
-    let learnt = sides::learnt(learn, n);
+    let made = tables::made(make, n);
+    let learnt = tables::learnt(learn, n);
     sides::mark(n, &made, &learnt, ranks);
-    let set = sides::posts_allowed(book, n, team, Right::Set);
-    let look = sides::posts_allowed(book, n, team, Right::Look);
+    let set = tables::posts_allowed(book, n, team, Right::Set);
+    let look = tables::posts_allowed(book, n, team, Right::Look);
     spread::spread(n, &set, &look, ranks);
     let start = Knowledge::at_start(known, values).number();
     from_start(n, &set, &look, ranks, start, plan)

@@ -3,3 +3,4 @@ pub mod Seven
 pub mod Number
 pub mod Fits
 pub mod Acts
+pub mod Learn

@@ -20,7 +20,7 @@ use Rattle.knowledge.specs.Acts.{actOf, offered, permitted, setTo}
 use Rattle.plan.specs.Plans.{may}
 use Rattle.plan.proofs.Check.{judge-on, judge-fails, read-act, read-unsettled}
 use Rattle.plan.specs.Check.{not-settled, faulty, check}
-use Rattle.sides.specs.Over.{learnTable, allSettled}
+use Rattle.knowledge.specs.Learn.{learnTable, allSettled}
 use Rattle.question.specs.Question.{goalSettled, systemOf, startNumber}
 use Rattle.question.specs.Asks.{ValidQuestion}
 use Rattle.question.specs.declared.Question.{Question}

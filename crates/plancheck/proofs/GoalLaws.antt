@@ -15,7 +15,7 @@ use Rattle.knowledge.specs.Number.{digitIn, digitsOf}
 use Rattle.knowledge.specs.Fits.{startSide, known, learnSettled}
 use Rattle.knowledge.proofs.Fits.{always-take}
 use Rattle.knowledge.proofs.Number.{digits-are}
-use Rattle.sides.specs.Over.{learnTable, allSettled}
+use Rattle.knowledge.specs.Learn.{learnTable, allSettled}
 use Rattle.question.specs.Question.{goalSettled}
 
 -- a judgement that is guarded by at most seven settings

@@ -4,7 +4,7 @@ use knowledge::Knowledge;
 ghost use mathlib.Core.Path.{_≡_};
 ghost use Prim.Native.Nat.{_^_, _≤_, _<_};
 ghost use Rattle.knowledge.specs.Number.{digitIn};
-ghost use Rattle.sides.specs.Over.{allSettled};
+ghost use Rattle.knowledge.specs.Learn.{allSettled};
 ghost use Rattle.question.specs.Question.{goalSettled};
 
 // Whether each learn formula has one same value at all start valuations that fit.

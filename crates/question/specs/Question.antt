@@ -10,7 +10,7 @@ use Rattle.knowledge.specs.Number.{numberOf, firstAt}
 use Rattle.knowledge.specs.Fits.{known}
 use Rattle.plan.specs.Plans.{System}
 use Rattle.plan.specs.Team.{ofTeam}
-use Rattle.sides.specs.Over.{allSettled}
+use Rattle.knowledge.specs.Learn.{allSettled}
 
 -- "The goal is settled when the make formula is true at every fitting present valuation, and each learn formula has one same value at all fitting
 -- start valuations."

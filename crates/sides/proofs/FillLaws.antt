@@ -22,7 +22,8 @@ use Rattle.knowledge.specs.Fits.{always, is}
 use Rattle.knowledge.proofs.Fits.{always-split, always-one}
 use Rattle.sides.proofs.Shown.{three}
 use Rattle.sides.proofs.CountLaws.{sides-most}
-use Rattle.sides.specs.Inner.{SideTells, FilledAt, FilledFrom, Filled}
+use Rattle.sides.specs.Fill.{FilledAt, Filled}
+use Rattle.sides.specs.Inner.{SideTells, FilledFrom}
 use Rattle.sides.specs.declared.told.Told.{Told}
 use Rattle.sides.specs.declared.told.Told.the-variants.{Unknown, Valuation}
 

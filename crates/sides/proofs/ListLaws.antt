@@ -1,4 +1,4 @@
--- A list after one store: what a loop has stored below a place, or between two places, goes on by one.
+-- A list after one store: what a loop has stored between two places goes on by one.
 use mathlib.Core.Path.{_≡_, refl, _∙_}
 use mathlib.Core.Logic.{inl, inr}
 use mathlib.Core.List.{List}
@@ -9,14 +9,6 @@ use lib.ListN.{length, getD, set, length-set}
 use lib.Seq.{getD-set-same, getD-set-other}
 use Rattle.ground.proofs.Bools.{lt-or-ge}
 use Rattle.sides.specs.Inner.{Stored}
-
--- what holds of each entry below v
-pub each-more : {A : Type 0} (z : A) (P : ℕ → A → Type 0) (t : List A) (v : ℕ) (x : A) → v < length t
-    → ((k : ℕ) → k < v → P k (getD t k z)) → P v x → (k : ℕ) → k < v + 1 → P k (getD (set t v x) k z)
-each-more z P t v x fits below here k h = elim (ℕ-discrete k v) [
-  | yes e ↦ rw (e, getD-set-same t v x z fits) here
-  | no e ↦ rw (getD-set-other t v k x z e) (below k (omega arith))
-]
 
 module _ {f : ℕ → ℕ} where
   pub stored-none : (a : ℕ) (old : List ℕ) → Stored f a a old old

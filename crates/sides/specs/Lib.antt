@@ -1,6 +1,7 @@
--- What is known at each side: a side as a number, what a knowledge state shows of the present and of the start, and tables over all sides. `Inner` is
--- for the private functions.
+-- A side as a number, a state taken apart, and tables over all sides: how one is filled, and the marks that two of them give. `Inner` is for the
+-- private functions.
 pub mod Sides
 pub mod Apart
 pub mod Over
+pub mod Fill
 pub mod Inner

@@ -1,34 +1,15 @@
--- Tables over all 3^n sides: what a rule or a formula comes to at each, which posts of a team may act there, and the marks of a goal.
+-- Tables over all 3^n sides, and the marks of a goal from the tables of its two halves.
 use mathlib.Core.Path.{_≡_}
 use mathlib.Core.List.{List, []}
 use mathlib.Core.Bool.{Bool, true, false, not, _&&_}
-use Prim.Native.Nat.{ℕ, _*_, _/_, _^_, _≤_, _<_}
+use Prim.Native.Nat.{ℕ, _^_, _≤_, _<_}
 use lib.Dec.{eqb}
-use lib.ListN.{length, getD, take, drop}
-use Rattle.ground.specs.Digits.{digit, bit}
-use Rattle.ground.specs.Search.{all}
-use Rattle.knowledge.specs.Fits.{always, oneValue, learnSettled}
-use Rattle.book.specs.Rule.{rule}
-use Rattle.book.specs.declared.rule.Right.{Right}
+use lib.ListN.{length, getD}
 use Rattle.sides.specs.Sides.{nowSideNumber, startSideNumber}
 
 -- the entry of setting i and side s
 unfoldable pub entry : List (List ℕ) → ℕ → ℕ → ℕ
 entry t i s = getD (getD t i []) s 0
-
--- bit q of the entry of setting i and side s: the post q is of the team, and its rule on the setting is known to hold at the side
-abbrev pub Posts : ℕ → List ℕ → ℕ → Right → List (List ℕ) → Type 0
-Posts n book team right t =
-    (i s q : ℕ) → i < n → s < 3 ^ n → q < 8 → bit (entry t i s) q ≡ (bit team q && always true n (digit 3 s) (rule book i q right))
-
--- the tables of `posts_allowed`: seven settings of 2187 sides, bytes, and 0 at every setting past n and every side past 3^n
-pub record PostTables (n : ℕ) (book : List ℕ) (team : ℕ) (right : Right) (t : List (List ℕ)) : Type 0 where
-  pub posts : Posts n book team right t
-  pub bytes : (i s : ℕ) → entry t i s < 256
-  pub settings : length t ≡ 7
-  pub sides : (i : ℕ) → i < 7 → length (getD t i []) ≡ 2187
-  pub no-setting : (i s : ℕ) → n ≤ i → entry t i s ≡ 0
-  pub no-side : (i s : ℕ) → 3 ^ n ≤ s → entry t i s ≡ 0
 
 abbrev pub oneOf : Bool → ℕ
 oneOf true = 1
@@ -39,25 +20,6 @@ pub record SideTable (n : ℕ) (f : ℕ → Bool) (t : List ℕ) : Type 0 where
   pub long : length t ≡ 2187
   pub each : (s : ℕ) → s < 3 ^ n → getD t s 0 ≡ oneOf (f s)
   pub past : (s : ℕ) → 3 ^ n ≤ s → getD t s 0 ≡ 0
-
--- "the make formula is true at every fitting present valuation", at each side
-abbrev pub Made : ℕ → List ℕ → List ℕ → Type 0
-Made n make t = SideTable n (λ s. always true n (digit 3 s) make) t
-
--- "learn tables not 0 to 4 times 16 bytes" are refused: how many there are, and the one with index j
-abbrev pub learnCount : List ℕ → ℕ
-learnCount learn = length learn / 16
-
-unfoldable pub learnTable : List ℕ → ℕ → List ℕ
-learnTable learn j = take 16 (drop (16 * j) learn)
-
--- "each learn formula has one same value at all fitting start valuations", where the team knows the digits d
-unfoldable pub allSettled : ℕ → (ℕ → ℕ) → List ℕ → Bool
-allSettled n d learn = all (learnCount learn) (λ j. learnSettled n d (learnTable learn j))
-
--- the same, at each side
-abbrev pub Learnt : ℕ → List ℕ → List ℕ → Type 0
-Learnt n learn t = SideTable n (λ s. all (learnCount learn) (λ j. oneValue n (digit 3 s) (learnTable learn j))) t
 
 -- the mark of a state: 0 where its entries in both tables are not 0, else 255
 abbrev pub rankIf : Bool → ℕ

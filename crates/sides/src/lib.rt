@@ -1,16 +1,14 @@
-// What is known at each side. A side tells of each setting whether its value is unknown, false or
-// true, so n settings have 3^n of them, and what a team may do depends on the present side alone.
-// It fills a table over all sides: which posts may act, whether the make formula is known, whether
-// the learn formulas are settled; and from these it marks the states in which a goal is settled.
+// Sides. A side tells of each setting whether its value is unknown, false or true, so n settings have
+// 3^n of them, and what a team may do depends on the present side alone. The crate knows a side as a
+// number, how a table over all sides is filled, and how the states in which a goal is settled are
+// marked from two such tables.
 //
 // It refuses nothing: each function is called by this repository alone, with at most seven settings,
 // and says so. The only room that is lent is that of `mark`, which says what it leaves there.
 mod apart;
 mod counts;
-mod fill;
-mod goal;
+mod filled;
 mod marks;
-mod posts;
 mod told;
 
 pub use apart::Parts;
@@ -18,13 +16,12 @@ pub use apart::now_of;
 pub use apart::side_of;
 pub use apart::take_apart;
 pub use counts::numbers;
-pub use goal::learnt;
-pub use goal::made;
+pub use counts::valuations;
+pub use filled::fill;
 pub use marks::mark;
-pub use posts::posts_allowed;
 
 // The sides of seven settings, 3^7: a table over the sides of fewer settings has the rest unused.
 pub const SIDES: usize = 2187;
 
 // The valuations of seven settings, 2^7.
-const VALUATIONS: usize = 128;
+pub const VALUATIONS: usize = 128;

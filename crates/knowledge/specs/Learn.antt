@@ -1,0 +1,18 @@
+-- The learn formulas of a goal: which they are, and when all are settled.
+use mathlib.Core.List.{List}
+use mathlib.Core.Bool.{Bool}
+use Prim.Native.Nat.{ℕ, _*_, _/_}
+use lib.ListN.{length, take, drop}
+use Rattle.ground.specs.Search.{all}
+use Rattle.knowledge.specs.Fits.{learnSettled}
+
+-- "learn tables not 0 to 4 times 16 bytes" are refused: how many there are, and the one with index j
+abbrev pub learnCount : List ℕ → ℕ
+learnCount learn = length learn / 16
+
+unfoldable pub learnTable : List ℕ → ℕ → List ℕ
+learnTable learn j = take 16 (drop (16 * j) learn)
+
+-- "each learn formula has one same value at all fitting start valuations", where the team knows the digits d
+unfoldable pub allSettled : ℕ → (ℕ → ℕ) → List ℕ → Bool
+allSettled n d learn = all (learnCount learn) (λ j. learnSettled n d (learnTable learn j))

@@ -1,0 +1,31 @@
+-- Two results that `posts_allowed` may give are equal: every entry is given, and every length. Those of `made` and `learnt` are, by
+-- `side-table-unique` of the crate below.
+use mathlib.Core.Path.{_≡_, sym, _∙_}
+use mathlib.Core.Logic.{inl, inr}
+use mathlib.Core.List.{List, []}
+use Prim.Native.Nat.{ℕ, _^_, _<_}
+use native.Mathlib.Omega.{arith}
+use lib.ListN.{getD}
+use lib.Seq.{ext-getD}
+use Rattle.ground.proofs.Bits.{same-bits}
+use Rattle.ground.proofs.Bools.{lt-or-ge}
+use Rattle.book.specs.declared.rule.Right.{Right}
+use Rattle.sides.specs.Over.{entry}
+use Rattle.tables.specs.Tables.{PostTables}
+
+module _ {n team : ℕ} {book : List ℕ} {right : Right} {t u : List (List ℕ)} (a : PostTables n book team right t) (b : PostTables n book team right u) where
+  same-entry : (i s : ℕ) → entry t i s ≡ entry u i s
+  same-entry i s = elim (lt-or-ge i n) [
+    | inr h ↦ a .no-setting i s h ∙ sym (b .no-setting i s h)
+    | inl h ↦ elim (lt-or-ge s (3 ^ n)) [
+      | inr l ↦ a .no-side i s l ∙ sym (b .no-side i s l)
+      | inl l ↦ same-bits 8 (entry t i s) (entry u i s) (a .bytes i s) (b .bytes i s) (λ q m. a .posts i s q h l m ∙ sym (b .posts i s q h l m))
+    ]
+  ]
+
+  same-row : (i : ℕ) → i < 7 → getD t i [] ≡ getD u i []
+  unfolding entry
+  same-row i h = ext-getD 0 (getD t i []) (getD u i []) (a .sides i h ∙ sym (b .sides i h)) (λ s l. same-entry i s)
+
+  pub posts-unique : t ≡ u
+  posts-unique = ext-getD [] t u (a .settings ∙ sym (b .settings)) (λ i l. same-row i (omega (arith, a .settings)))

@@ -1,0 +1,50 @@
+-- What this crate's own functions promise one another; no other crate cites it.
+use mathlib.Core.Path.{_≡_}
+use mathlib.Core.List.{List}
+use mathlib.Core.Bool.{Bool, true, false, not, _&&_}
+use Prim.Native.Nat.{ℕ, _+_, _*_, _^_, _≤_, _<_}
+use lib.Dec.{eqb}
+use lib.ListN.{length, getD, drop}
+use Rattle.ground.specs.Digits.{digit, bit}
+use Rattle.ground.specs.Table.{truth}
+use Rattle.book.specs.Rule.{rulePlace}
+use Rattle.book.specs.declared.rule.Right.{Right}
+use Rattle.knowledge.specs.Fits.{oneValue}
+use Rattle.sides.specs.Over.{oneOf}
+
+-- what holds of each of the first m columns
+abbrev pub EachColumn : (ℕ → ℕ → Type 0) → ℕ → List ℕ → Type 0
+EachColumn P m columns = (v : ℕ) → v < m → P v (getD columns v 0)
+
+-- bits one place up, with one more below them
+abbrev pub doubled : ℕ → Bool → ℕ
+doubled x b = x * 2 + oneOf b
+
+-- the column of the posts at a valuation
+pub record PostsAt (book : List ℕ) (team i : ℕ) (right : Right) (v x : ℕ) : Type 0 where
+  pub byte : x < 256
+  pub posts : (q : ℕ) → q < 8 → bit x q ≡ (bit team q && truth (drop (rulePlace i q right) book) v)
+
+-- the column of the make formula, and of a learn formula: true is 1 and false is 2
+abbrev pub MadeAt : List ℕ → ℕ → ℕ → Type 0
+MadeAt make v x = x ≡ oneOf (truth make v)
+
+abbrev pub sameOf : Bool → ℕ
+sameOf true = 1
+sameOf false = 2
+
+abbrev pub SettledAt : List ℕ → ℕ → ℕ → Type 0
+SettledAt t v x = x ≡ sameOf (truth t v)
+
+-- not 0 exactly where the formula is settled
+pub record Settled (n : ℕ) (table t : List ℕ) : Type 0 where
+  pub long : length t ≡ 2187
+  pub each : (s : ℕ) → s < 3 ^ n → not (eqb (getD t s 0) 0) ≡ oneValue n (digit 3 s) table
+  pub past : (s : ℕ) → 3 ^ n ≤ s → getD t s 0 ≡ 0
+
+unfoldable pub bothOf : ℕ → ℕ → ℕ
+bothOf a b = oneOf (not (eqb a 0) && not (eqb b 0))
+
+pub record Meets (a b t : List ℕ) : Type 0 where
+  pub long : length t ≡ 2187
+  pub each : (s : ℕ) → s < 2187 → getD t s 0 ≡ bothOf (getD a s 0) (getD b s 0)
