@@ -1,10 +1,7 @@
 -- Laws that belong to no one function, and the theorems that others cite.
 pub mod InOrder
-pub mod CheckLaws
-pub mod StrayLaws
 pub mod BookLaws
 pub mod WriteLaws
-pub mod BlockLaws
 pub mod RefusalLaws
 pub mod SoundLaws
 pub mod RoundTrip

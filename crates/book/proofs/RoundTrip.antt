@@ -5,13 +5,16 @@ use Prim.Native.Nat.{ℕ, zero, suc, _+_, _*_, _<_}
 use native.Mathlib.Omega.{arith}
 use lib.ListN.{length, getD, take, drop, take-append-drop, length-drop}
 use lib.Seq.{take-all, take-at, drop-drop, drop-append-add, getD-take}
-use Rattle.book.specs.Block.{block, RightCheck}
-use Rattle.book.specs.Sound.{Head, Tables, SettingBlock, Sound, rightsOf, tablesOf}
-use Rattle.book.specs.Written.{headBlock, settingBlock, settingBlocks, bookOf, Writable}
+use Rattle.block.specs.Block.{block, RightCheck}
+use Rattle.block.specs.Kinds.{Head, Tables, SettingBlock}
+use Rattle.book.specs.Sound.{Sound, rightsOf, tablesOf}
+use Rattle.block.specs.Sealed.{headBlock, settingBlock}
+use Rattle.book.specs.Written.{settingBlocks, bookOf, Writable}
 use Rattle.ground.proofs.Lists.{getD-part, length-part}
 use Rattle.book.proofs.InOrder.{part-inOrder, inOrder-same, inOrder-parts}
-use Rattle.book.proofs.WriteLaws.{length-head, length-setting, length-tables, length-rights, tables-block}
-use Rattle.book.proofs.BlockLaws.{head-sealed, setting-sealed, tables-same, head-right, head-head, setting-right, setting-setting, setting-tables}
+use Rattle.block.proofs.SealLaws.{length-head, length-setting}
+use Rattle.book.proofs.WriteLaws.{length-tables, length-rights, tables-block}
+use Rattle.block.proofs.BlockLaws.{head-sealed, setting-sealed, tables-same, head-right, head-head, setting-right, setting-setting, setting-tables}
 use Rattle.book.proofs.SoundLaws.{length-book}
 
 -- ---- a book, its rights, and the book again

@@ -11,17 +11,20 @@ use Rattle.book.specs.declared.reading.ReadAnswer.the-variants.{Book, Re
 use Rattle.book.specs.declared.writing.WriteAnswer.{WriteAnswer}
 use Rattle.book.specs.declared.writing.WriteAnswer.the-variants.{Written, Refused as NotWritten}
 use Rattle.book.specs.declared.refusal.Refusal.{Refusal}
-use Rattle.book.specs.Block.{blocks, block}
-use Rattle.book.specs.Sound.{Sound, Tables, SettingBlock, rightsOf, tablesOf}
-use Rattle.book.specs.Written.{headBlock, settingBlocks, bookOf, Writable}
+use Rattle.book.specs.Refusals.{blocks, number, place, Whole, settingsOf, postsOf, RightHead, bookRows, readRows, writeRows}
+use Rattle.block.specs.Block.{block}
+use Rattle.book.specs.Sound.{Sound, rightsOf, tablesOf}
+use Rattle.block.specs.Kinds.{Tables, SettingBlock}
+use Rattle.block.specs.Sealed.{headBlock}
+use Rattle.book.specs.Written.{settingBlocks, bookOf, Writable}
 use Rattle.ground.specs.Order.{First, Clear}
-use Rattle.book.specs.Refusals.{number, place, Whole, settingsOf, postsOf, RightHead, bookRows, readRows, writeRows}
 use Rattle.book.specs.Promise.{Judges}
 use Rattle.book.specs.Inner.{MayWrite}
 use Rattle.ground.proofs.Lists.{sets-front}
 use Rattle.ground.proofs.OrderLaws.{least-only, none-only, first-left, first-right, clear-append}
 use Rattle.book.proofs.RefusalLaws.{none-block, down}
-use Rattle.book.proofs.WriteLaws.{run-on, length-head, length-settings, length-rights}
+use Rattle.block.proofs.SealLaws.{run-on, length-head}
+use Rattle.book.proofs.WriteLaws.{length-settings, length-rights}
 
 module _ {book : List ℕ} {n m : ℕ} (sound : Sound book n m) where
   pub sound-blocks : blocks book ≡ 1 + n

@@ -7,24 +7,20 @@ use mathlib.Core.Logic.{inl, inr, ⊎-elim}
 use Prim.Native.Nat.{ℕ, _+_, _*_, _≤_, _<_}
 use native.Mathlib.Omega.{arith}
 use lib.Dec.{eqb}
-use lib.ListN.{length, getD, take, drop, replicate}
+use lib.ListN.{length, getD, take, drop}
 use lib.Seq.{take-at}
 use Rattle.ground.proofs.Bools.{lt-or-ge}
-use Rattle.book.specs.declared.sums.Sums.{Sums}
-use Rattle.book.specs.declared.rule.Right.{Right}
 use Rattle.book.specs.declared.refusal.Refusal.{Refusal}
 use Rattle.book.specs.declared.refusal.Refusal.the-variants.{Settings, Length, Check, Head, StrayBit, Room}
 use Rattle.book.specs.declared.reading.ReadAnswer.{ReadAnswer}
 use Rattle.book.specs.declared.reading.ReadAnswer.the-variants.{Book, Refused}
 use Rattle.book.specs.declared.writing.WriteAnswer.{WriteAnswer}
 use Rattle.book.specs.declared.writing.WriteAnswer.the-variants.{Written, Refused as NotWritten}
-use Rattle.book.specs.Block.{check, sumsAfter, added, blocks}
-use Rattle.book.specs.Rule.{rulePlace}
 use Rattle.ground.specs.Bounds.{SettingsFit}
 use Rattle.book.specs.Sound.{Sound, rightsOf}
 use Rattle.book.specs.Written.{bookOf, Writable}
 use Rattle.ground.specs.Order.{only, First}
-use Rattle.book.specs.Refusals.{number, place, Whole, settingsOf, bookRows, readRows, writeRows}
+use Rattle.book.specs.Refusals.{number, place, blocks, Whole, settingsOf, bookRows, readRows, writeRows}
 use Rattle.book.specs.Promise.{Judges, Reads, Writes}
 use Rattle.ground.proofs.OrderLaws.{first-unique, first-clear}
 use Rattle.book.proofs.WriteLaws.{length-rights}
@@ -49,14 +45,6 @@ named-back Room = refl
 
 pub refusal-one : (r s : Refusal) → number r ≡ number s → place r ≡ place s → r ≡ s
 refusal-one r s x p = sym (named-back r) ∙ ap₂ named x p ∙ named-back s
-
--- `check_of`
-pub check-one : (bytes : List ℕ) (from : ℕ) (a b : Sums) → a ≡ check (drop from bytes) → b ≡ check (drop from bytes) → a ≡ b
-check-one bytes from a b p q = p ∙ sym q
-
--- `rule_at`
-pub rule-at-one : (setting post : ℕ) (right : Right) (a b : ℕ) → a ≡ rulePlace setting post right → b ≡ rulePlace setting post right → a ≡ b
-rule-at-one setting post right a b p q = p ∙ sym q
 
 -- a book's two numbers
 pub sound-one : {book : List ℕ} {n m k l : ℕ} → Sound book n m → Sound book k l → (n ≡ k) × (m ≡ l)
@@ -148,14 +136,3 @@ write-then-read n m rights room after out answer out′ write read h =
   where
     same : take (512 * (1 + n)) after ≡ bookOf n m rights
     same = ap (take (512 * (1 + n))) (write .2) ∙ take-at (bookOf n m rights) _ (512 * (1 + n)) (length-book n m rights (write .0 .size))
-
--- ---- P13
-
--- "check of 508 zero bytes: 1 and 508; of 508 bytes 255: 64005 and 3830"
-pub p13-zeros : check (replicate 508 0) ≡ record { s = 1; t = 508 }
-unfolding check sumsAfter added
-p13-zeros = refl
-
-pub p13-ones : check (replicate 508 255) ≡ record { s = 64005; t = 3830 }
-unfolding check sumsAfter added
-p13-ones = refl

@@ -1,53 +1,20 @@
 -- What the stores of the writer and the copies of the reader add up to: each is a run of bytes that goes on where the last one ended.
-use mathlib.Core.Path.{_≡_, sym, ap, ap₂, _∙_}
-use mathlib.Core.List.{List, _++_}
-use Prim.Native.Nat.{ℕ, suc, _+_, _*_, _≤_}
+use mathlib.Core.Path.{_≡_, sym, ap, _∙_}
+use mathlib.Core.List.{List}
+use Prim.Native.Nat.{ℕ, _+_, _*_, _≤_}
 use native.Mathlib.Nat.{zero-add}
 use native.Mathlib.Numerals.{add-one}
 use native.Mathlib.Omega.{arith}
 use lib.Dec.{lit≤}
-use lib.ListN.{length, take, drop, length-append, length-replicate}
-use lib.Seq.{sets, take-take, getD-drop}
-use Rattle.book.specs.declared.sums.Sums.{Sums}
-use Rattle.book.specs.Block.{check, block, inOrder}
-use Rattle.book.specs.Sound.{rightsOf, tablesOf}
-use Rattle.book.specs.Written.{bytes16, sealed, headBlock, settingBlock, settingBlocks}
-use Rattle.ground.proofs.Lists.{sets-append, getD-sets, length-part}
+use lib.ListN.{length, take, drop}
+use lib.Seq.{sets, take-take}
+use Rattle.block.specs.Block.{block}
+use Rattle.block.specs.Sealed.{settingBlock}
+use Rattle.book.specs.Sound.{inOrder, rightsOf, tablesOf}
+use Rattle.book.specs.Written.{settingBlocks}
+use Rattle.ground.proofs.Lists.{length-part}
+use Rattle.block.proofs.SealLaws.{run-on, length-setting}
 use Rattle.book.proofs.InOrder.{length-inOrder}
-use Rattle.book.proofs.CheckLaws.{check-same}
-
--- one run after another
-pub run-on : (l r₁ r₂ a b : List ℕ) (i k : ℕ) → i + length a ≡ k → r₁ ≡ sets l i a → r₂ ≡ sets r₁ k b → r₂ ≡ sets l i (a ++ b)
-run-on l r₁ r₂ a b i k e p q =
-    q ∙ ap₂ (λ (s : List ℕ) (n : ℕ). sets s n b) p (sym e) ∙ sym (sets-append l i a b)
-
--- ---- a block
-
--- the check of what stands in the room, once the first 508 bytes of the block do
-written-check : (l body : List ℕ) (at : ℕ) → length body ≡ 508 → at + 512 ≤ length l → check (drop at (sets l at body)) ≡ check body
-written-check l body at e h =
-    check-same _ _
-    (λ j k. getD-drop at (sets l at body) j 0 ∙ getD-sets l at body j (omega arith) (omega arith))
-
-pub seal-on : (l r₁ r₂ body : List ℕ) (at : ℕ) → length body ≡ 508 → at + 512 ≤ length l → r₁ ≡ sets l at body
-    → r₂ ≡ sets r₁ (at + 508) (bytes16 (check (drop at r₁) .s) ++ bytes16 (check (drop at r₁) .t)) → r₂ ≡ sets l at (sealed body)
-unfolding sealed
-seal-on l r₁ r₂ body at e h p q =
-    let k : check (drop at r₁) ≡ check body = ap (λ (r : List ℕ). check (drop at r)) p ∙ written-check l body at e h in
-    run-on l r₁ r₂ body (bytes16 (check body .s) ++ bytes16 (check body .t)) at (at + 508) (ap (λ (n : ℕ). at + n) e) p
-    (q ∙ ap (λ (c : Sums). sets r₁ (at + 508) (bytes16 (c .s) ++ bytes16 (c .t))) k)
-
-pub length-sealed : (body : List ℕ) → length body ≡ 508 → length (sealed body) ≡ 512
-unfolding sealed bytes16
-length-sealed body e = simp length-append (omega arith)
-
-pub length-head : (n m : ℕ) → length (headBlock n m) ≡ 512
-unfolding headBlock
-length-head n m = length-sealed _ (ap (λ k. suc (suc k)) (length-replicate {A = ℕ} 506 0))
-
-pub length-setting : (tables : List ℕ) → length tables ≡ 256 → length (settingBlock tables) ≡ 512
-unfolding settingBlock
-length-setting tables e = length-sealed _ (simp (length-append, length-replicate) (omega arith))
 
 -- ---- the settings, one after the other
 

@@ -1,13 +1,14 @@
 -- The rows of the table of numbered refusals that a book and its rights can meet, and their order.
 use mathlib.Core.Path.{_≡_}
 use mathlib.Core.List.{List, [], _∷_, _++_}
-use Prim.Native.Nat.{ℕ, _+_, _-_, _*_, _%_, _≤_, _<_}
+use Prim.Native.Nat.{ℕ, _+_, _-_, _*_, _/_, _%_, _≤_, _<_}
 use lib.ListN.{length, getD}
 use Rattle.book.specs.declared.refusal.Refusal.{Refusal}
 use Rattle.book.specs.declared.refusal.Refusal.the-variants.{Settings, Length, Check, Head as WrongHead, StrayBit, Room}
-use Rattle.book.specs.Block.{blocks, block, RightCheck}
+use Rattle.block.specs.Block.{block, RightCheck}
 use Rattle.ground.specs.Bounds.{SettingsFit, PostsFit}
-use Rattle.book.specs.Sound.{Head, Tables, SettingBlock, tablesOf}
+use Rattle.block.specs.Kinds.{Head, Tables, SettingBlock}
+use Rattle.book.specs.Sound.{tablesOf}
 use Rattle.ground.specs.Order.{Row, only}
 
 -- "A refusal gives a number and a place. [..] Place is 0 unless named."
@@ -26,6 +27,10 @@ place (Check k) = k
 place WrongHead = 0
 place (StrayBit k) = k
 place Room = 0
+
+-- "Blocks of 512 bytes": how many whole ones
+unfoldable pub blocks : List ℕ → ℕ
+blocks book = length book / 512
 
 -- the negation of 6: "2 to 8 whole blocks"
 pub record Whole (book : List ℕ) : Type 0 where

@@ -1,29 +1,11 @@
 -- What a sound book is, and its rights.
 use mathlib.Core.Path.{_≡_}
-use mathlib.Core.List.{List}
-use Prim.Native.Nat.{ℕ, _+_, _*_, _≤_, _<_}
-use lib.ListN.{length, getD, take, drop}
+use mathlib.Core.List.{List, [], _++_}
+use Prim.Native.Nat.{ℕ, zero, suc, _+_, _*_, _<_}
+use lib.ListN.{length, take, drop}
 use Rattle.ground.specs.Bounds.{SettingsFit, PostsFit}
-use Rattle.ground.specs.Table.{Within}
-use Rattle.book.specs.declared.rule.Right.{Right}
-use Rattle.book.specs.Block.{block, Zeros, RightCheck, inOrder}
-use Rattle.book.specs.Rule.{table}
-
--- "Head: byte 0 is n, byte 1 is m, bytes 2 to 507 zero."
-pub record Head (n m : ℕ) (bytes : List ℕ) : Type 0 where
-  pub settings : getD bytes 0 0 ≡ n
-  pub posts : getD bytes 1 0 ≡ m
-  pub rest : Zeros 2 508 bytes
-
--- "Tables of posts that don't exist, bits past 2^n [..] are zero": of a setting's 256 table bytes
-pub record Tables (n m : ℕ) (bytes : List ℕ) : Type 0 where
-  pub nobody : (q : ℕ) (right : Right) → m ≤ q → q < 8 → Zeros 0 16 (table bytes q right)
-  pub within : (q : ℕ) (right : Right) → q < 8 → Within n (table bytes q right)
-
--- "Setting block: [..] and bytes 256 to 507 are zero."
-pub record SettingBlock (n m : ℕ) (bytes : List ℕ) : Type 0 where
-  pub tables : Tables n m bytes
-  pub rest : Zeros 256 508 bytes
+use Rattle.block.specs.Block.{block, RightCheck}
+use Rattle.block.specs.Kinds.{Head, SettingBlock}
 
 -- "Blocks of 512 bytes: one head, then one per setting in order, so 512 × (1 + n)", each with its check
 pub record Sound (book : List ℕ) (n m : ℕ) : Type 0 where
@@ -33,6 +15,11 @@ pub record Sound (book : List ℕ) (n m : ℕ) : Type 0 where
   pub checks : (k : ℕ) → k < 1 + n → RightCheck (block book k)
   pub head : Head n m (block book 0)
   pub setting : (i : ℕ) → i < n → SettingBlock n m (block book (1 + i))
+
+-- n lists of bytes "in order", one after the other
+unfoldable pub inOrder : (ℕ → List ℕ) → ℕ → List ℕ
+inOrder f zero = []
+inOrder f (suc i) = inOrder f i ++ f i
 
 -- "Rights in memory are the n × 256 table bytes": those of the first n settings of a book
 unfoldable pub rightsOf : List ℕ → ℕ → List ℕ

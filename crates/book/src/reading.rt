@@ -1,19 +1,19 @@
 // From a book's bytes to rights in memory.
-use super::BLOCK;
 use super::BLOCKS_LEAST;
 use super::BLOCKS_MOST;
-use super::CHECKED;
 use super::TABLES;
 use super::refusal::Refusal;
-use super::stray::first_stray;
-use super::sums::first_wrong;
+use block::BLOCK;
+use block::CHECKED;
+use block::first_stray;
+use block::first_wrong;
 use ground::POSTS_MOST;
 use ground::copy;
 ghost use mathlib.Core.Path.{_≡_};
 ghost use Prim.Native.Nat.{_+_, _*_, _≤_};
 ghost use lib.ListN.{length};
 ghost use lib.Seq.{sets};
-ghost use Rattle.book.specs.Block.{Zeros};
+ghost use Rattle.block.specs.Block.{Zeros};
 ghost use Rattle.book.specs.Sound.{rightsOf};
 ghost use Rattle.book.specs.Refusals.{Whole, RightHead};
 ghost use Rattle.book.specs.Promise.{Judges, Reads};

@@ -1,27 +1,23 @@
 // From rights in memory to a book's bytes. The functions that write are called once `judge` has seen
 // that all of it fits.
-use super::BLOCK;
 use super::HEAD_ZEROS;
-use super::S_AT;
 use super::SETTING_ZEROS;
-use super::T_AT;
 use super::TABLES;
-use super::bytes::put16;
 use super::refusal::Refusal;
-use super::stray::first_stray;
-use super::sums::check_of;
+use block::BLOCK;
+use block::first_stray;
+use block::seal;
 use ground::POSTS_MOST;
 use ground::SETTINGS_MOST;
 use ground::copy;
 use ground::zeros;
 ghost use mathlib.Core.Path.{_≡_};
-ghost use mathlib.Core.List.{_++_};
 ghost use Prim.Native.Nat.{_+_, _*_, _≤_};
-ghost use lib.ListN.{length, drop};
+ghost use lib.ListN.{length};
 ghost use lib.Seq.{sets};
-ghost use Rattle.book.specs.Block.{check};
+ghost use Rattle.block.specs.Sealed.{headBlock, settingBlock};
 ghost use Rattle.book.specs.Sound.{tablesOf};
-ghost use Rattle.book.specs.Written.{bytes16, headBlock, settingBlock, settingBlocks};
+ghost use Rattle.book.specs.Written.{settingBlocks};
 ghost use Rattle.book.specs.Promise.{Writes};
 ghost use Rattle.book.specs.Inner.{MayWrite};
 
@@ -31,16 +27,6 @@ pub enum WriteAnswer {
     Written,
     // nothing was written
     Refused(Refusal),
-}
-
-// Writes the check of the block that begins at `at`.
-fn seal(room: &mut [u8], at: usize)
-    requires { ⌜ at + 512 ≤ length (now room) ⌝ }
-    ensures { λ _. ⌜ now (room .exit) ≡ sets (now (room .entry)) (at + 508) (bytes16 (check (drop at (now (room .entry))) .s) ++ bytes16 (check (drop at (now (room .entry))) .t)) ⌝ }
-{
-    let sums = check_of(room, at);
-    put16(sums.s, room, at + S_AT);
-    put16(sums.t, room, at + T_AT);
 }
 
 // Writes the head block.

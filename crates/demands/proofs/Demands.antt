@@ -47,7 +47,7 @@ use Rattle.plancheck.specs.declared.answer.CheckAnswer.the-variants.{Yes, Refus
 use Rattle.plancheck.proofs.OneAnswer.{checks-one}
 use Rattle.plancheck.proofs.Theorems.{yes-exact}
 use Rattle.printing.specs.Printed.{refusedText, cannotText, reachText, Prints}
-use Rattle.line.specs.Sheet.{Sheet}
+use Rattle.desk.specs.Sheet.{Sheet}
 use Rattle.lines.specs.Reading.{Meaning, meaning, refused, stated}
 use Rattle.lines.specs.Place.{MalformedAt}
 use Rattle.sheet.specs.Answer.{Prints-outcome, Answers}

@@ -10,10 +10,10 @@ use lib.Seq.{sets}
 use Rattle.ground.specs.Digits.{bit}
 use Rattle.ground.specs.Search.{Least}
 use Rattle.ground.proofs.Bools.{T→false, decide}
+use Rattle.acts.specs.Seven.{firstDigit}
+use Rattle.acts.proofs.Seven.{first-lt}
 use Rattle.knowledge.specs.Number.{numberOf, digitIn, firstAt, firstDigits}
-use Rattle.knowledge.specs.Seven.{firstDigit}
 use Rattle.knowledge.proofs.Number.{sum-lt, sum-short, sum-ext}
-use Rattle.knowledge.proofs.Seven.{first-lt}
 use Rattle.knowledge.proofs.States.{first-in}
 use Rattle.ground.specs.Order.{First}
 use Rattle.ground.proofs.Lists.{sets-front}

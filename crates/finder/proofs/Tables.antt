@@ -13,12 +13,13 @@ use Rattle.ground.specs.Digits.{digit, bit}
 use Rattle.ground.proofs.Bools.{T→false, false→T, both, and-true}
 use Rattle.ground.proofs.Search.{all-or, all-at}
 use Rattle.ground.proofs.Bits.{bit-of-zero}
+use Rattle.acts.specs.Acts.{offered}
+use Rattle.acts.specs.declared.act.Act.{Act}
+use Rattle.acts.specs.declared.act.Act.the-variants.{Set, Look}
 use Rattle.knowledge.specs.Fits.{known}
-use Rattle.knowledge.specs.Acts.{offered, permitted}
-use Rattle.knowledge.specs.declared.act.Act.{Act}
-use Rattle.knowledge.specs.declared.act.Act.the-variants.{Set, Look}
-use Rattle.book.specs.Rule.{rule}
-use Rattle.book.specs.declared.rule.Right.the-variants.{Look as look-rule, Set as set-rule}
+use Rattle.knowledge.specs.Allowed.{permitted}
+use Rattle.block.specs.Rule.{rule}
+use Rattle.block.specs.declared.rule.Right.the-variants.{Look as look-rule, Set as set-rule}
 use Rattle.plan.specs.Plans.{may, Lawful, after-set, after-look}
 use Rattle.plan.specs.Certificate.{Leads, Certified}
 use Rattle.plan.proofs.Acts.{after-a-set, after-a-look}

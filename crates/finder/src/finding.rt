@@ -1,5 +1,5 @@
 // The finder: refusals 6 to 13, the ranks of all knowledge numbers, then the answer and its plan.
-use book::Right;
+use block::Right;
 use ground::SETTINGS_MOST;
 use knowledge::Knowledge;
 use question::Asked;

@@ -5,20 +5,21 @@ use mathlib.Core.Bool.{_&&_}
 use Prim.Native.Nat.{ℕ, _≤_}
 use native.Mathlib.Omega.{arith}
 use lib.ListN.{length, replicate}
-use Rattle.formula.specs.Grammar.{sum}
+use Rattle.grammar.specs.Grammar.{sum}
 use Rattle.ground.specs.Bounds.{SettingsFit}
-use Rattle.formula.specs.Read.{number, place, LengthFits, Foreign, Refuses, two, three, four, Reads}
+use Rattle.grammar.specs.Signs.{Foreign}
+use Rattle.formula.specs.Read.{number, place, LengthFits, Refuses, two, three, four, Reads}
 use Rattle.truths.specs.Two.{Holds, BytesOf, has}
-use Rattle.formula.specs.Automaton.{wants, breaks, verdict, Parsed}
-use Rattle.formula.specs.Scans.{Scans}
+use Rattle.grammar.specs.Automaton.{wants, breaks, verdict, Parsed}
+use Rattle.grammar.specs.Scans.{Scans}
+use Rattle.grammar.specs.declared.signs.Scanned.{Scanned}
+use Rattle.grammar.specs.declared.signs.Scanned.the-variants.{Clean, Stray, Past}
 use Rattle.formula.specs.declared.Refusal.{Refusal}
 use Rattle.formula.specs.declared.Answer.{Answer}
 use Rattle.formula.specs.declared.Answer.the-variants.{Accepted, Refused}
-use Rattle.formula.specs.declared.scan.Scanned.{Scanned}
-use Rattle.formula.specs.declared.scan.Scanned.the-variants.{Clean, Stray, Past}
 use Rattle.truths.specs.declared.Truths.{Truths}
+use Rattle.grammar.proofs.PartLaws.{sum-whole}
 use Rattle.formula.proofs.Broken.{broken-place, broken-no-sentence}
-use Rattle.formula.proofs.PartLaws.{sum-whole}
 use Rattle.truths.proofs.TwoWords.{below, table-of}
 
 abbrev CleanText : ℕ → List ℕ → Type 0

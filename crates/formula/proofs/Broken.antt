@@ -6,11 +6,11 @@ use Prim.Native.Nat.{ℕ, suc, _≤_}
 use native.Mathlib.Omega.{arith}
 use lib.ListN.{take, drop, take-append-drop}
 use lib.Seq.{take-take}
-use Rattle.formula.specs.Grammar.{text, Begins, IsSentence}
+use Rattle.grammar.specs.Grammar.{text, Begins, IsSentence}
+use Rattle.grammar.specs.Automaton.{wants, whole, breaks, verdict}
+use Rattle.grammar.proofs.Automaton.{verdict-text, stopped}
+use Rattle.grammar.proofs.Begins.{begins-less, alive-begins, dead-begins}
 use Rattle.formula.specs.Read.{BreaksAt, at-byte, at-end}
-use Rattle.formula.specs.Automaton.{wants, whole, breaks, verdict}
-use Rattle.formula.proofs.Automaton.{verdict-text, stopped}
-use Rattle.formula.proofs.Begins.{begins-less, alive-begins, dead-begins}
 
 -- the beginnings of a beginning
 begins-take : (s : List ℕ) (i j : ℕ) → i ≤ j → Begins (take j s) → Begins (take i s)

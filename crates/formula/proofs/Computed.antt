@@ -13,10 +13,11 @@ use Rattle.ground.specs.Search.{all}
 use Rattle.ground.specs.Table.{truth, Within, TableOf}
 use Rattle.ground.proofs.Bools.{and-left, and-right, or-right, beq→eq, both, lt-or-ge}
 use Rattle.ground.proofs.Search.{all-at}
-use Rattle.formula.specs.Grammar.{Sentence, sum, text, meaning}
+use Rattle.grammar.specs.Grammar.{Sentence, sum, text, meaning}
 use Rattle.ground.specs.Bounds.{SettingsFit}
-use Rattle.formula.specs.Read.{isStray, isPast, LengthFits, Foreign, Refuses, three, four, Accepts}
-use Rattle.formula.specs.Automaton.{wants, breaks, verdict}
+use Rattle.grammar.specs.Signs.{isStray, isPast, Foreign}
+use Rattle.grammar.specs.Automaton.{wants, breaks, verdict}
+use Rattle.formula.specs.Read.{LengthFits, Refuses, three, four, Accepts}
 use Rattle.formula.proofs.Broken.{broken-place, broken-no-sentence}
 
 -- the byte c is of no use over n settings

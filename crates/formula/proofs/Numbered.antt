@@ -9,15 +9,16 @@ use lib.Dec.{T, leb, leb→le, le→leb}
 use lib.ListN.{length, getD}
 use Rattle.ground.specs.Search.{Least}
 use Rattle.ground.proofs.Bools.{decide, T→true, T→false, and-in, and-left, and-right, or-left, or-right}
-use Rattle.formula.specs.Grammar.{text, IsSentence}
+use Rattle.grammar.specs.Grammar.{text, IsSentence}
 use Rattle.ground.specs.Bounds.{SettingsFit}
-use Rattle.formula.specs.Read.{isStray, isPast, LengthFits, Foreign, Refuses, five, one, two, three, four, Reads}
-use Rattle.formula.specs.Automaton.{wants, Verdict, whole, breaks, verdict}
+use Rattle.grammar.specs.Signs.{isStray, isPast, Foreign}
+use Rattle.grammar.specs.Automaton.{wants, Verdict, whole, breaks, verdict}
+use Rattle.grammar.proofs.Automaton.{verdict-text}
+use Rattle.grammar.proofs.Begins.{whole-sentence}
+use Rattle.formula.specs.Read.{LengthFits, Refuses, five, one, two, three, four, Reads}
 use Rattle.formula.specs.Numbered.{numberIn, sentenceNumber, foreignNumber, formulaNumber}
 use Rattle.formula.specs.declared.Answer.{Answer}
 use Rattle.formula.specs.declared.Answer.the-variants.{Accepted, Refused}
-use Rattle.formula.proofs.Automaton.{verdict-text}
-use Rattle.formula.proofs.Begins.{whole-sentence}
 use Rattle.formula.proofs.Unique.{not-both}
 
 -- ---- 4

@@ -9,12 +9,13 @@ use Rattle.ground.specs.Search.{Least}
 use Rattle.ground.proofs.Bools.{both, and-left, or-left}
 use Rattle.ground.proofs.Search.{least-unique}
 use Rattle.ground.proofs.Table.{table-unique}
-use Rattle.formula.specs.Read.{number, place, isLetter, isSign, isStray, isPast, Foreign, BreaksAt, at-byte, at-end, Refuses, five, one, two, three, four, Accepts, Reads}
+use Rattle.grammar.specs.Signs.{isLetter, isSign, isStray, isPast, Foreign}
+use Rattle.grammar.proofs.Meaning.{unambiguous}
+use Rattle.formula.specs.Read.{number, place, BreaksAt, at-byte, at-end, Refuses, five, one, two, three, four, Accepts, Reads}
 use Rattle.formula.specs.declared.Refusal.{Refusal}
 use Rattle.formula.specs.declared.Refusal.the-variants.{Length, StrayByte, LetterPast, NotSentence, Settings}
 use Rattle.formula.specs.declared.Answer.{Answer}
 use Rattle.formula.specs.declared.Answer.the-variants.{Accepted, Refused}
-use Rattle.formula.proofs.Meaning.{unambiguous}
 
 breaks-unique : {s : List ℕ} {i j : ℕ} → BreaksAt s i → BreaksAt s j → i ≡ j
 breaks-unique (at-byte l) (at-byte m) = least-unique l m

@@ -1,7 +1,4 @@
--- What a reader must believe of formulas: the grammar and its meaning, and what `read` answers. `Scans` is inside: no
--- public contract cites it. `Numbered` is the number that `read` answers, computed by `Automaton`; proofs/Numbered shows that it is that.
-pub mod Grammar
+-- What a reader must believe of formulas, above the grammar: what `read` answers. `Numbered` is the number that `read` answers, computed by
+-- grammar's `Automaton`; proofs/Numbered shows that it is that.
 pub mod Read
-pub mod Scans
-pub mod Automaton
 pub mod Numbered

@@ -1,15 +1,14 @@
 -- What `read` answers, for n settings and the text s; `declared` are the enums of src/lib.rt. Order: "5, 1, then the lowest place of 2 or 3, then 4".
 use mathlib.Core.Path.{_≡_}
 use mathlib.Core.List.{List}
-use mathlib.Core.Bool.{Bool, not, _&&_, _||_}
-use Prim.Native.Nat.{ℕ, suc, _+_, _≤_, _<_}
-use lib.Dec.{T, leb, eqb}
+use Prim.Native.Nat.{ℕ, suc, _≤_, _<_}
+use lib.Dec.{T}
 use lib.ListN.{length, getD, take, replicate}
 use Rattle.ground.specs.Bounds.{SettingsFit}
 use Rattle.ground.specs.Search.{Least}
 use Rattle.ground.specs.Table.{TableOf}
-use Rattle.ground.specs.Text.{byte}
-use Rattle.formula.specs.Grammar.{meaning, IsSentence, Begins}
+use Rattle.grammar.specs.Grammar.{meaning, IsSentence, Begins}
+use Rattle.grammar.specs.Signs.{isStray, isPast, Foreign}
 use Rattle.formula.specs.declared.Refusal.{Refusal}
 use Rattle.formula.specs.declared.Refusal.the-variants.{Length, StrayByte, LetterPast, NotSentence, Settings}
 use Rattle.formula.specs.declared.Answer.{Answer}
@@ -31,29 +30,9 @@ place (LetterPast i) = i
 place (NotSentence i) = i
 place Settings = 0
 
--- `a`–`g`
-unfoldable pub isLetter : ℕ → Bool
-isLetter c = leb (byte "a") c && leb c (byte "g")
-
--- `0` `1` `~` `&` `|` `(` `)`
-unfoldable pub isSign : ℕ → Bool
-isSign c = eqb c (byte "0") || eqb c (byte "1") || eqb c (byte "~") || eqb c (byte "&") || eqb c (byte "|") || eqb c (byte "(") || eqb c (byte ")")
-
--- 2: "byte outside `a`–`g` `0` `1` `~` `&` `|` `(` `)`"
-unfoldable pub isStray : ℕ → Bool
-isStray c = not (isLetter c || isSign c)
-
--- 3: "letter at or past n"
-unfoldable pub isPast : ℕ → ℕ → Bool
-isPast n c = isLetter c && leb (byte "a" + n) c
-
 -- "Formula: 1 to 255 bytes"
 abbrev pub LengthFits : List ℕ → Type 0
 LengthFits s = (1 ≤ length s) × (length s ≤ 255)
-
--- i is a place of 2 or 3
-abbrev pub Foreign : ℕ → List ℕ → ℕ → Type 0
-Foreign n s i = (i < length s) × T (isStray (getD s i 0) || isPast n (getD s i 0))
 
 -- "the first i + 1 bytes begin no sentence of any length"
 abbrev pub Breaks : List ℕ → ℕ → Type 0

@@ -1,16 +1,14 @@
 // The formula reader: the bytes of a formula, as `a|b&~c`, to its 16-byte table, or a numbered
 // refusal with its place. It takes any number of settings and any text. A refusal leaves nothing
 // behind: the table beside it is all zeros.
-mod parts;
-mod scan;
-
 ghost use mathlib.Core.Path.{_≡_};
 ghost use Prim.Native.Nat.{ℕ};
 ghost use lib.ListN.{replicate};
 ghost use Rattle.ground.specs.Bounds.{SettingsFit};
-ghost use Rattle.formula.specs.Read.{number, place, Reads, LengthFits, Foreign};
-use parts::Part;
-use scan::Scanned;
+ghost use Rattle.grammar.specs.Signs.{Foreign};
+ghost use Rattle.formula.specs.Read.{number, place, Reads, LengthFits};
+use grammar::Part;
+use grammar::Scanned;
 
 // Why a text is no formula of n settings.
 pub enum Refusal {
@@ -98,7 +96,7 @@ pub fn read(n: usize, text: &[u8]) -> Reading
     if LENGTH_MOST < text.len() {
         return refused(Refusal::Length);
     }
-    match scan::scan(n, text) {
+    match grammar::scan(n, text) {
         Scanned::Stray(i) => refused(Refusal::StrayByte(i)),
         Scanned::Past(i) => refused(Refusal::LetterPast(i)),
         Scanned::Clean => sentence(n, text),
@@ -110,7 +108,7 @@ fn sentence(n: usize, text: &[u8]) -> Reading
     requires { ⌜ SettingsFit n × LengthFits (now text) × ((j : ℕ) → Foreign n (now text) j → ⊥) ⌝ }
     ensures { λ r. ⌜ Reads n (now (text .entry)) (r .answer) (r .table) ⌝ }
 {
-    match parts::sum(text, 0) {
+    match grammar::sum(text, 0) {
         Part::Broken(i) => refused(Refusal::NotSentence(i)),
         Part::Read(w, end) => {
             if end < text.len() {

@@ -9,12 +9,13 @@ use lib.ListN.{drop}
 use borrow.Author.Tests.{eq-eqb, ne-eqb}
 use Rattle.ground.specs.Digits.{bit}
 use Rattle.ground.proofs.Bools.{and-left, and-right, and-true}
-use Rattle.book.specs.Rule.{rule, rulePlace}
-use Rattle.book.specs.declared.rule.Right.the-variants.{Look as look-rule, Set as set-rule}
+use Rattle.block.specs.Rule.{rule, rulePlace}
+use Rattle.block.specs.declared.rule.Right.the-variants.{Look as look-rule, Set as set-rule}
+use Rattle.acts.specs.Acts.{settingOf, postOf, offered}
+use Rattle.acts.specs.declared.act.Act.{Act}
+use Rattle.acts.specs.declared.act.Act.the-variants.{Set, Look}
 use Rattle.knowledge.specs.Fits.{known}
-use Rattle.knowledge.specs.Acts.{settingOf, postOf, offered, permitted, allowed}
-use Rattle.knowledge.specs.declared.act.Act.{Act}
-use Rattle.knowledge.specs.declared.act.Act.the-variants.{Set, Look}
+use Rattle.knowledge.specs.Allowed.{permitted, allowed}
 use Rattle.knowledge.proofs.Fits.{guarded}
 use Rattle.knowledge.proofs.Known.{known-take}
 

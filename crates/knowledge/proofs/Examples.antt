@@ -6,9 +6,9 @@ use mathlib.Core.List.{[], _∷_}
 use Rattle.ground.specs.Digits.{digit, put, bit}
 use Rattle.ground.specs.Search.{all}
 use Rattle.ground.specs.Table.{truth}
-use Rattle.knowledge.specs.Seven.{startOf, nowOf, afterSet, afterLook}
+use Rattle.acts.specs.Seven.{startOf, nowOf, afterSet, afterLook}
+use Rattle.acts.specs.Acts.{setTo, lookAt}
 use Rattle.knowledge.specs.Fits.{agrees, fits, always, known, learnSettled}
-use Rattle.knowledge.specs.Acts.{setTo, lookAt}
 
 -- "judging a rule with unknowns part by part, so that `b|~b` is open (P11)": with nothing known `b|~b` is known, and `b` is not
 pub b-or-not-b : known 2 (digit 7 0) (15 ∷ []) ≡ true

@@ -1,13 +1,9 @@
 -- Laws that callers cite, one file for each definition of specs/ or idea; then what settles the contracts, and what only this
 -- crate's own proofs use.
-pub mod Seven
 pub mod Number
 pub mod States
 pub mod Fits
 pub mod Known
-pub mod Unknowns
-pub mod Outcomes
-pub mod Acts
 pub mod Allowed
 pub mod Unique
 pub mod Examples

@@ -13,9 +13,6 @@ use Rattle.knowledge.proofs.state.Knowledge.fits_present.Reads as fits-
 use Rattle.knowledge.proofs.state.Knowledge.fits_start.Reads as fits-start
 use Rattle.knowledge.proofs.state.Knowledge.known_to_hold.Reads as known-to-hold
 use Rattle.knowledge.proofs.state.Knowledge.learn_settled.Reads as learn-settled
-use Rattle.knowledge.proofs.act.Act.of_byte.Reads as of-byte
-use Rattle.knowledge.proofs.act.Act.byte.Reads as byte
-use Rattle.knowledge.proofs.act.Act.offered.Reads as offered
 use Rattle.knowledge.proofs.state.Knowledge.permits.Reads as permits
 use Rattle.knowledge.proofs.state.Knowledge.allows.Reads as allows
 
@@ -52,15 +49,6 @@ known-to-hold-unique κs a x y s p q = p ∙ sym q
 
 pub learn-settled-unique : (κs : _) (a : _) (x y : _) (s : _) → learn-settled.Post κs a x s → learn-settled.Post κs a y s → x ≡ y
 learn-settled-unique κs a x y s p q = p ∙ sym q
-
-pub of-byte-unique : (κs : _) (a : _) (x y : _) (s : _) → of-byte.Post κs a x s → of-byte.Post κs a y s → x ≡ y
-of-byte-unique κs a x y s p q = p ∙ sym q
-
-pub byte-unique : (κs : _) (a : _) (x y : _) (s : _) → byte.Post κs a x s → byte.Post κs a y s → x ≡ y
-byte-unique κs a x y s p q = p ∙ sym q
-
-pub offered-unique : (κs : _) (a : _) (x y : _) (s : _) → offered.Post κs a x s → offered.Post κs a y s → x ≡ y
-offered-unique κs a x y s p q = p ∙ sym q
 
 pub permits-unique : (κs : _) (a : _) (x y : _) (s : _) → permits.Post κs a x s → permits.Post κs a y s → x ≡ y
 permits-unique κs a x y s p q = p ∙ sym q

@@ -8,7 +8,7 @@ use lib.Dec.{eqb}
 use Rattle.ground.specs.Digits.{bit}
 use Rattle.ground.specs.Search.{all}
 use Rattle.ground.specs.Table.{truth}
-use Rattle.knowledge.specs.Seven.{unknown, told, startOf, nowOf}
+use Rattle.acts.specs.Seven.{unknown, told, startOf, nowOf}
 
 -- a value agrees with a side: nothing is known of it, or this is
 unfoldable pub agrees : ℕ → Bool → Bool

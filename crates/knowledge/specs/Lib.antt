@@ -1,6 +1,5 @@
--- What a reader must believe of knowledge: the seven digits, the knowledge number, what fits and what is known, acts.
-pub mod Seven
+-- What a reader must believe of knowledge: the knowledge number, what fits and what is known, the learn formulas, and which acts that allows.
 pub mod Number
 pub mod Fits
-pub mod Acts
 pub mod Learn
+pub mod Allowed

@@ -1,14 +1,9 @@
-// What a team knows: one of seven digits for each setting, the acts that change one of them, which
-// valuations fit, and when a rule is known to hold. A rule over more settings than seven is not known
-// to hold. Nothing is written to what a caller lends.
-mod act;
-mod digit;
+// What a team knows: a state of one digit for each setting, which valuations fit it, when a rule is
+// known to hold, and which acts that allows. A rule over more settings than seven is not known to hold.
+// Nothing is written to what a caller lends.
 mod judge;
+mod permit;
 mod state;
 mod valuation;
 
-pub use act::Act;
-pub use act::Named;
-pub use digit::now_side;
-pub use digit::start_side;
 pub use state::Knowledge;

@@ -1,6 +1,5 @@
 // Which valuations fit a knowledge state. Start and present valuations have types of their own, so
 // that neither stands in for the other.
-use crate::digit;
 use crate::state::Knowledge;
 use ground::Present;
 use ground::Start;
@@ -27,14 +26,14 @@ fn agrees_with(side: u8, value: bool) -> bool
 fn agrees_now(state: Knowledge, i: u8, v: Present) -> bool
     ensures { λ r. ⌜ r ≡ agrees (nowSide (digitIn (state .digits)) i) (bit (v .0) i) ⌝ }
 {
-    agrees_with(digit::now_side(state.digit(i)), bit_of(v.0, i))
+    agrees_with(acts::now_side(state.digit(i)), bit_of(v.0, i))
 }
 
 // Whether the start value of setting i agrees with what the state tells of it.
 fn agrees_at_start(state: Knowledge, i: u8, v: Start) -> bool
     ensures { λ r. ⌜ r ≡ agrees (startSide (digitIn (state .digits)) i) (bit (v .0) i) ⌝ }
 {
-    agrees_with(digit::start_side(state.digit(i)), bit_of(v.0, i))
+    agrees_with(acts::start_side(state.digit(i)), bit_of(v.0, i))
 }
 
 impl Knowledge {

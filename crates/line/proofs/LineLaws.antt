@@ -10,13 +10,15 @@ use lib.Seq.{sets, sets-eq, length-sets, length-take-le, take-at}
 use Rattle.ground.specs.Digits.{bit}
 use Rattle.formula.specs.Read.{Accepts}
 use Rattle.words.specs.Words.{member, isFalse, indexOf, indexes, trueIndexes}
-use Rattle.line.specs.Sheet.{Known, Sheet, knownSettings, knownTrue}
+use Rattle.desk.specs.Sheet.{Known, Sheet, knownSettings, knownTrue}
+use Rattle.desk.specs.Steps.{stating}
+use Rattle.desk.specs.Desk.{TablesOf, Holds}
+use Rattle.desk.specs.Places.{laid, makeDesk, askedDesk}
+use Rattle.desk.specs.declared.desk.Desk.{Desk}
+use Rattle.desk.proofs.DeskLaws.{getD-sets-other}
 use Rattle.line.specs.Forms.{teamOf, knownBy, knownOf}
-use Rattle.line.specs.Steps.{stating, withTeam, withKnown, withMake, withAsk}
-use Rattle.line.specs.Desk.{TablesOf, Holds}
-use Rattle.line.specs.Inner.{laid, teamDesk, knownDesk, makeDesk, askedDesk}
-use Rattle.line.specs.declared.desk.Desk.{Desk}
-use Rattle.line.proofs.DeskLaws.{getD-sets-other}
+use Rattle.line.specs.Steps.{withTeam, withKnown, withMake, withAsk}
+use Rattle.line.specs.Inner.{teamDesk, knownDesk}
 
 -- the words of `known` as they are marked, and as they are read
 pub known-settings : (ws : List (List ℕ)) → knownSettings (knownBy ws) ≡ indexes 97 ws

@@ -8,12 +8,8 @@ use lib.Dec.{eqb}
 use lib.ListN.{length, getD, take, drop}
 use borrow.Author.Tests.{eq-eqb, ne-eqb, lt-ltb, le-ltb}
 use Rattle.ground.specs.Text.{bytes}
-use Rattle.formula.specs.Read.{number as formula-number, Reads, Accepts}
-use Rattle.formula.specs.declared.Refusal.{Refusal}
-use Rattle.formula.specs.declared.Refusal.the-variants.{Length, StrayByte, LetterPast, NotSentence, Settings}
-use Rattle.formula.specs.declared.Answer.{Answer}
-use Rattle.formula.specs.declared.Answer.the-variants.{Accepted, Refused}
-use Rattle.book.specs.declared.rule.Right.the-variants.{Look, Set}
+use Rattle.formula.specs.Read.{Accepts}
+use Rattle.block.specs.declared.rule.Right.the-variants.{Look, Set}
 use Rattle.words.specs.Words.{member, split, space, begins, allNames, indexes, twice}
 use Rattle.words.specs.Marks.{Marked, Names, areNames}
 use Rattle.words.specs.declared.names.Marks.{Marks}
@@ -21,51 +17,21 @@ use Rattle.words.specs.declared.names.Naming.{Naming}
 use Rattle.words.specs.declared.names.Naming.the-variants.{Stray, Of}
 use Rattle.words.proofs.Pieces.{tail}
 use Rattle.words.proofs.NameLaws.{few-enough, names-stray, names-of, stray-names, of-names, marked-none}
-use Rattle.line.specs.Sheet.{Sheet, knownSettings}
-use Rattle.line.specs.Forms.{isRule, ruleOf, postWords, isTeam, teamOf, settingWords, isKnown, knownOf}
-use Rattle.line.specs.Steps.{Step, fault, next, unless, unlessRefused, withTeam, withKnown, withMake, withAsk, ruleStep, teamStep, knownStep, makeStep, askStep, rightOrTeam, rightsStep}
-use Rattle.line.specs.Desk.{number, Proper, Holds, Steps}
-use Rattle.line.specs.Inner.{teamDesk, knownDesk, makeDesk, askedDesk, placedDesk, dueAfter}
-use Rattle.line.specs.declared.desk.Due.{Due}
-use Rattle.line.specs.declared.desk.Due.the-variants.{Known, Make, Asks}
-use Rattle.line.specs.declared.desk.Desk.{Desk}
-use Rattle.line.specs.declared.desk.Fault.{Fault}
-use Rattle.line.specs.declared.formulas.Place.{Place}
-use Rattle.line.specs.declared.desk.Taken.{Taken}
-use Rattle.line.specs.declared.desk.Taken.the-variants.{Next, No}
-use Rattle.line.proofs.StepLaws.{refused-step, accepted-step, team-by, known-by, make-by, ask-by, rights-by}
+use Rattle.desk.specs.Sheet.{Sheet, knownSettings}
+use Rattle.desk.specs.Rules.{isRule, ruleOf, ruleStep}
+use Rattle.desk.specs.Steps.{Step, fault, next, unless, unlessRefused}
+use Rattle.desk.specs.Desk.{Holds, Steps}
+use Rattle.desk.specs.Places.{makeDesk, askedDesk}
+use Rattle.desk.specs.declared.desk.Due.the-variants.{Known, Make, Asks}
+use Rattle.desk.specs.declared.desk.Desk.{Desk}
+use Rattle.desk.specs.declared.desk.Taken.{Taken}
+use Rattle.desk.specs.declared.desk.Taken.the-variants.{Next}
+use Rattle.desk.proofs.Turns.{taken}
+use Rattle.line.specs.Forms.{postWords, isTeam, teamOf, settingWords, isKnown, knownOf}
+use Rattle.line.specs.Steps.{withTeam, withKnown, withMake, withAsk, teamStep, knownStep, makeStep, askStep, rightOrTeam, rightsStep}
+use Rattle.line.specs.Inner.{teamDesk, knownDesk}
+use Rattle.line.proofs.StepLaws.{team-by, known-by, make-by, ask-by, rights-by}
 use Rattle.line.proofs.LineLaws.{known-settings, known-true, holds-team, holds-known, holds-make, holds-ask}
-
--- a line at fault
-pub faulty : {st : Step} {t : Taken} (why : Fault) (d : Desk) → Proper why → st ≡ fault (number why) → t ≡ No why → Steps st t d
-faulty {st} {t} why d p e f = subst (λ (s : Step). Steps s t d) (sym e) (subst (λ (x : Taken). Steps (fault (number why)) x d) (sym f) (refl, p))
-
--- a line that is taken
-pub taken : {st : Step} {due : Due} {sheet : Sheet} {d : Desk} → st ≡ next due sheet → Holds sheet d → Steps st (Next due) d
-taken {st} {due} {sheet} {d} e h = subst (λ (s : Step). Steps s (Next due) d) (sym e) (refl, h)
-
--- ---- a formula
-
--- its number is one of five
-pub formula-most : (why : Refusal) {x : ℕ} → x ≡ formula-number why → x ≤ 5
-formula-most Length e = omega arith
-formula-most (StrayByte i) e = omega arith
-formula-most (LetterPast i) e = omega arith
-formula-most (NotSentence i) e = omega arith
-formula-most Settings e = omega arith
-
-module _ (n : ℕ) (F t : List ℕ) (answer : Answer) (r : Reads n F answer t) where
-  pub formula-refused : (later : Step) (why : Refusal) (x : ℕ) → answer ≡ Refused why → x ≡ formula-number why → unlessRefused n F later ≡ fault x
-  formula-refused later why x e f = refused-step n F t later why (subst (λ (a : Answer). Reads n F a t) e r) ∙ ap fault (sym f)
-
-  pub formula-accepted : answer ≡ Accepted → Accepts n F t
-  formula-accepted e = subst (λ (a : Answer). Reads n F a t) e r
-
-  pub formula-taken : (d : Desk) (place : Place) (v : Sheet) {x : Taken} {y : Desk} → answer ≡ Accepted → (x ≡ Next (dueAfter place)) × (y ≡ placedDesk place d t)
-      → ((t : List ℕ) → Accepts n F t → Holds v (placedDesk place d t)) → Steps (unlessRefused n F (next (dueAfter place) v)) x y
-  formula-taken d place v {x} {y} e (f, g) holds =
-      subst (λ (x : Taken). Steps (unlessRefused n F (next (dueAfter place) v)) x y) (sym f)
-      (taken (accepted-step n F t (next (dueAfter place) v) (formula-accepted e)) (subst (Holds v) (sym g) (holds t (formula-accepted e))))
 
 -- ---- `team`
 

@@ -1,21 +1,13 @@
--- The form of each line of a sheet, and what a line of that form states. "F is all that follows the space before it"; "Sheet numbers are one
+-- The form of each line of a sheet, but for those that state a right (desk's Rules), and what a line of that form states. "Sheet numbers are one
 -- digit".
 use mathlib.Core.Bool.{Bool, false, true, not, _&&_, _||_, cond}
 use mathlib.Core.List.{List, [], _∷_}
-use Prim.Native.Nat.{ℕ, _+_, _-_}
+use Prim.Native.Nat.{ℕ, _-_}
 use lib.Dec.{eqb}
 use lib.ListN.{length, getD, drop}
 use Rattle.ground.specs.Text.{byte, bytes}
-use Rattle.book.specs.declared.rule.Right.{Right}
 use Rattle.words.specs.Words.{split, space, begins, among, isFalse, allNames, indexOf, indexes}
-use Rattle.line.specs.Sheet.{Rule, Known}
-
--- "P a setting letter, G a post digit", of n settings and m posts: "a letter or digit past the size outside F [is] 22"
-unfoldable pub isSetting : ℕ → ℕ → Bool
-isSetting n c = among (byte "a") n c
-
-unfoldable pub isPost : ℕ → ℕ → Bool
-isPost m c = among (byte "1") m c
+use Rattle.desk.specs.Sheet.{Known}
 
 -- `size N M`: "N outside 1 to 7, M outside 1 to 8 [..] are 22"
 unfoldable pub isSize : List ℕ → Bool
@@ -24,19 +16,6 @@ isSize line = begins (bytes "size ") line && eqb (length line) 8 && among (byte 
 -- the number that a digit stands for
 unfoldable pub digitAt : List ℕ → ℕ → ℕ
 digitAt line i = getD line i 0 - byte "0"
-
--- `read P G F` and `write P G F`, where w is the first word and the space after it
-unfoldable pub isRule : List ℕ → ℕ → ℕ → List ℕ → Bool
-isRule w n m line =
-    begins w line && isSetting n (getD line (length w) 0) && eqb (getD line (length w + 1) 0) space && isPost m (getD line (length w + 2) 0) && eqb (getD line (length w + 3) 0) space
-
-unfoldable pub ruleOf : List ℕ → Right → List ℕ → Rule
-ruleOf w right line = record {
-  right = right;
-  setting = getD line (length w) 0 - byte "a";
-  post = getD line (length w + 2) 0 - byte "1";
-  text = drop (length w + 4) line;
-}
 
 -- `team G ..` (one or more): the words after the first
 unfoldable pub postWords : List ℕ → List (List ℕ)

@@ -1,7 +1,4 @@
--- What a reader must believe of one line of a sheet: what a sheet states, the form of each line, what it does, and what the desk holds. `Inner` is
--- for the private functions.
-pub mod Sheet
+-- What a reader must believe of one line of a sheet, above the desk: the form of each line, and what it does. `Inner` is for the private functions.
 pub mod Forms
 pub mod Steps
-pub mod Desk
 pub mod Inner

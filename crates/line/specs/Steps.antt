@@ -1,48 +1,20 @@
 -- What each line of a sheet does: it is at fault, or it states something more. "22, 23, the formula's number", in this order; "25 directly after line 1".
 use mathlib.Core.Bool.{Bool, true, false, not, _&&_}
 use mathlib.Core.List.{List, [], _∷_, _++_}
-use Prim.Native.Nat.{ℕ, zero, suc}
+use Prim.Native.Nat.{ℕ}
 use lib.Dec.{leb, ltb}
 use lib.ListN.{length, drop}
 use Rattle.ground.specs.Text.{bytes}
-use Rattle.formula.specs.Numbered.{formulaNumber}
-use Rattle.book.specs.declared.rule.Right.the-variants.{Look, Set}
+use Rattle.block.specs.declared.rule.Right.the-variants.{Look, Set}
 use Rattle.words.specs.Words.{begins, twice}
-use Rattle.line.specs.Sheet.{Rule, Known as KnownSetting, Sheet, isStated, knownSettings}
-use Rattle.line.specs.Forms.{isSize, digitAt, isRule, ruleOf, isTeam, teamOf, isKnown, knownOf}
-use Rattle.line.specs.declared.desk.Due.{Due}
-use Rattle.line.specs.declared.desk.Due.the-variants.{Rights, Known, Make, Asks}
+use Rattle.desk.specs.Sheet.{Sheet, knownSettings}
+use Rattle.desk.specs.Steps.{Step, next, unless, unlessRefused, sized, stating}
+use Rattle.desk.specs.Rules.{isRule, ruleOf, ruleStep}
+use Rattle.desk.specs.declared.desk.Due.{Due}
+use Rattle.desk.specs.declared.desk.Due.the-variants.{Rights, Known, Make, Asks}
+use Rattle.line.specs.Forms.{isSize, digitAt, isTeam, teamOf, isKnown, knownOf}
 
--- what a line does: it is at fault, with this number; or the sheet goes on, with what is due next and what is stated so far
-pub data Step : Type 0 where
-  fault : ℕ → Step
-  next : Due → Sheet → Step
-
--- a fault unless the test holds
-abbrev pub unless : Bool → ℕ → Step → Step
-unless true number later = later
-unless false number later = fault number
-
--- the formula's number unless F is a formula of n settings
-abbrev pub unlessNumbered : ℕ → Step → Step
-unlessNumbered zero later = later
-unlessNumbered (suc number) later = fault (suc number)
-
-unfoldable pub unlessRefused : ℕ → List ℕ → Step → Step
-unlessRefused n F later = unlessNumbered (formulaNumber n F) later
-
--- a sheet of which only the size is stated; the text `0` stands for the make formula until its line comes
-unfoldable pub sized : ℕ → ℕ → Sheet
-sized n m = record { settings = n; posts = m; rules = []; team = []; known = []; make = bytes "0"; asks = [] }
-
--- the sheet with these lists for its own
-abbrev pub stating : Sheet → List Rule → List ℕ → List KnownSetting → List ℕ → List (List ℕ) → Sheet
-stating sheet rules team known make asks = record { settings = sheet .settings; posts = sheet .posts; rules = rules; team = team; known = known; make = make; asks = asks }
-
--- and the sheet with one line more
-unfoldable pub withRule : Sheet → Rule → Sheet
-withRule sheet r = stating sheet (sheet .rules ++ (r ∷ [])) (sheet .team) (sheet .known) (sheet .make) (sheet .asks)
-
+-- the sheet with one line more
 unfoldable pub withTeam : Sheet → List ℕ → Sheet
 withTeam sheet line = stating sheet (sheet .rules) (teamOf line) (sheet .known) (sheet .make) (sheet .asks)
 
@@ -58,11 +30,6 @@ withAsk sheet F = stating sheet (sheet .rules) (sheet .team) (sheet .known) (she
 -- `size N M`; "25 n above 5 in the program"
 unfoldable pub sizeStep : List ℕ → Step
 sizeStep line = unless (isSize line) 22 (unless (leb (digitAt line 5) 5) 25 (next Rights (sized (digitAt line 5) (digitAt line 7))))
-
--- a right: "23 right [..] named twice"
-unfoldable pub ruleStep : Sheet → Rule → Step
-ruleStep sheet r =
-    unless (not (isStated (sheet .rules) (r .right) (r .setting) (r .post))) 23 (unlessRefused (sheet .settings) (r .text) (next Rights (withRule sheet r)))
 
 -- `team`: "23 [..] post [..] named twice"
 unfoldable pub teamStep : Sheet → List ℕ → Step

@@ -1,17 +1,16 @@
 // Each line of a sheet, by what is due: the desk after it, or what is wrong with it.
-use crate::desk::Desk;
-use crate::desk::Due;
-use crate::desk::Fault;
-use crate::desk::SETTINGS_MOST;
-use crate::desk::Taken;
-use crate::desk::Turn;
-use crate::desk::at_fault;
-use crate::desk::sized;
-use crate::formulas::Place;
-use crate::formulas::formula_line;
-use crate::rules::is_rule;
-use crate::rules::rule_line;
-use book::Right;
+use block::Right;
+use desk::Desk;
+use desk::Due;
+use desk::Fault;
+use desk::Place;
+use desk::Taken;
+use desk::Turn;
+use desk::at_fault;
+use desk::formula_line;
+use desk::is_rule;
+use desk::rule_line;
+use desk::sized;
 use ground::peek;
 use words::Marks;
 use words::Naming;
@@ -22,10 +21,13 @@ ghost use mathlib.Core.Path.{_≡_};
 ghost use Prim.Native.Nat.{_≤_};
 ghost use Rattle.ground.specs.Text.{byte};
 ghost use Rattle.words.specs.Marks.{Names};
-ghost use Rattle.line.specs.Sheet.{Sheet};
+ghost use Rattle.desk.specs.Sheet.{Sheet};
+ghost use Rattle.desk.specs.Desk.{Holds, Steps};
 ghost use Rattle.line.specs.Forms.{isSize, postWords, isTeam, settingWords, isKnown};
 ghost use Rattle.line.specs.Steps.{sizeStep, rightsStep, teamStep, knownStep, makeStep, askStep, step};
-ghost use Rattle.line.specs.Desk.{Holds, Steps};
+
+// "The program takes n up to 5."
+const SETTINGS_MOST: u8 = 5;
 
 // Whether the line is `size N M`.
 fn is_size(line: &[u8]) -> bool

@@ -11,14 +11,16 @@ use lib.ListN.{length, drop}
 use Rattle.ground.specs.Text.{bytes}
 use Rattle.ground.proofs.Bools.{decide, T→true, T→false}
 use Rattle.formula.specs.Numbered.{formulaNumber}
-use Rattle.book.specs.declared.rule.Right.the-variants.{Look, Set}
+use Rattle.block.specs.declared.rule.Right.the-variants.{Look, Set}
 use Rattle.words.specs.Words.{split, newline, begins, twice}
 use Rattle.words.proofs.Split.{split-length}
-use Rattle.line.specs.Sheet.{Rule, Sheet, isStated, knownSettings}
-use Rattle.line.specs.Forms.{isSize, digitAt, isRule, ruleOf, isTeam, teamOf, isKnown, knownOf}
-use Rattle.line.specs.Steps.{Step, fault, next, unless, unlessNumbered, unlessRefused, sized, withRule, withTeam, withKnown, withMake, withAsk, sizeStep, ruleStep, teamStep, knownStep, makeStep, askStep, rightOrTeam, rightsStep, step}
-use Rattle.line.specs.declared.desk.Due.{Due}
-use Rattle.line.specs.declared.desk.Due.the-variants.{Rights, Known, Make, Asks}
+use Rattle.desk.specs.Sheet.{Rule, Sheet, isStated, knownSettings}
+use Rattle.desk.specs.Rules.{isRule, ruleOf, withRule, ruleStep}
+use Rattle.desk.specs.Steps.{Step, fault, next, unless, unlessNumbered, unlessRefused, sized}
+use Rattle.desk.specs.declared.desk.Due.{Due}
+use Rattle.desk.specs.declared.desk.Due.the-variants.{Rights, Known, Make, Asks}
+use Rattle.line.specs.Forms.{isSize, digitAt, isTeam, teamOf, isKnown, knownOf}
+use Rattle.line.specs.Steps.{withTeam, withKnown, withMake, withAsk, sizeStep, teamStep, knownStep, makeStep, askStep, rightOrTeam, rightsStep, step}
 use Rattle.lines.specs.Reading.{Meaning, refused, stated, ending, lines, firstLine, meaning}
 use Rattle.lines.proofs.LineByLine.{after, lines-after, first-after}
 use Rattle.lines.proofs.Grammar.{number-small}

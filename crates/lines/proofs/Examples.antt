@@ -3,14 +3,16 @@ use mathlib.Core.Path.{_≡_, refl}
 use mathlib.Core.List.{[], _∷_}
 use mathlib.Core.Bool.{false}
 use Rattle.ground.specs.Text.{bytes}
-use Rattle.formula.specs.Read.{isLetter, isSign, isStray, isPast}
-use Rattle.formula.specs.Automaton.{isAtom, step, verdict}
+use Rattle.grammar.specs.Signs.{isLetter, isSign, isStray, isPast}
+use Rattle.grammar.specs.Automaton.{isAtom, step, verdict}
 use Rattle.formula.specs.Numbered.{sentenceNumber, foreignNumber, formulaNumber}
-use Rattle.book.specs.declared.rule.Right.the-variants.{Look, Set}
+use Rattle.block.specs.declared.rule.Right.the-variants.{Look, Set}
 use Rattle.words.specs.Words.{onto, split, begins, among, isFalse, bare, isName, allNames, indexOf, indexes, twice}
-use Rattle.line.specs.Sheet.{sameRight, concerns, isStated, knownSettings}
-use Rattle.line.specs.Forms.{isSetting, isPost, isSize, digitAt, isRule, ruleOf, postWords, isTeam, teamOf, settingWords, isKnown, knownBy, knownOf}
-use Rattle.line.specs.Steps.{unlessRefused, sized, withRule, withTeam, withKnown, withMake, withAsk, sizeStep, ruleStep, teamStep, knownStep, makeStep, askStep, rightsStep}
+use Rattle.desk.specs.Sheet.{sameRight, concerns, isStated, knownSettings}
+use Rattle.desk.specs.Rules.{isSetting, isPost, isRule, ruleOf, withRule, ruleStep}
+use Rattle.desk.specs.Steps.{unlessRefused, sized}
+use Rattle.line.specs.Forms.{isSize, digitAt, postWords, isTeam, teamOf, settingWords, isKnown, knownBy, knownOf}
+use Rattle.line.specs.Steps.{withTeam, withKnown, withMake, withAsk, sizeStep, teamStep, knownStep, makeStep, askStep, rightsStep}
 use Rattle.lines.specs.Reading.{refused, stated, lines, firstLine, meaning}
 
 pub sheets-computed :

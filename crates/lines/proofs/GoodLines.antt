@@ -8,14 +8,16 @@ use lib.Dec.{T, leb, ltb, ltb→lt}
 use lib.ListN.{length, drop, length-append}
 use Rattle.ground.specs.Text.{bytes}
 use Rattle.ground.proofs.Bools.{and-left, and-right}
-use Rattle.book.specs.declared.rule.Right.{Right}
-use Rattle.book.specs.declared.rule.Right.the-variants.{Look, Set}
+use Rattle.block.specs.declared.rule.Right.{Right}
+use Rattle.block.specs.declared.rule.Right.the-variants.{Look, Set}
 use Rattle.words.specs.Words.{begins, twice}
-use Rattle.line.specs.Sheet.{Rule, Sheet, isStated, knownSettings}
-use Rattle.line.specs.Forms.{isSize, digitAt, isRule, ruleOf, isTeam, teamOf, isKnown, knownOf}
-use Rattle.line.specs.Steps.{Step, next, unless, unlessRefused, sized, withRule, withTeam, withKnown, withMake, withAsk, sizeStep, ruleStep, teamStep, knownStep, makeStep, askStep, rightOrTeam, rightsStep, step}
-use Rattle.line.specs.declared.desk.Due.{Due}
-use Rattle.line.specs.declared.desk.Due.the-variants.{Rights, Known, Make, Asks}
+use Rattle.desk.specs.Sheet.{Rule, Sheet, isStated, knownSettings}
+use Rattle.desk.specs.Rules.{isRule, ruleOf, withRule, ruleStep}
+use Rattle.desk.specs.Steps.{Step, next, unless, unlessRefused, sized}
+use Rattle.desk.specs.declared.desk.Due.{Due}
+use Rattle.desk.specs.declared.desk.Due.the-variants.{Rights, Known, Make, Asks}
+use Rattle.line.specs.Forms.{isSize, digitAt, isTeam, teamOf, isKnown, knownOf}
+use Rattle.line.specs.Steps.{withTeam, withKnown, withMake, withAsk, sizeStep, teamStep, knownStep, makeStep, askStep, rightOrTeam, rightsStep, step}
 use Rattle.lines.specs.Grammar.{ended, sizeText, word, ruleLine, ruleLines, makeLine, askLines, text, InLine, RulesFit, AsksFit, WellFormed}
 use Rattle.lines.proofs.LineForms.{begins-written, size-written, rule-written, team-written, known-written}
 use Rattle.lines.proofs.SoFar.{toRights, toTeam, toKnown, soFar, Begun, Teamed, WellSoFar, made, Good, good-begins, good-form, good-unless, good-refused}

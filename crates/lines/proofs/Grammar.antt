@@ -10,16 +10,18 @@ use lib.Dec.{T, leb, ltb, lt→ltb}
 use lib.ListN.{length, length-append}
 use Rattle.ground.specs.Text.{bytes}
 use Rattle.ground.proofs.Bools.{T→true}
-use Rattle.formula.specs.Read.{isStray, isPast}
-use Rattle.formula.specs.Automaton.{Verdict, whole, breaks, wants, verdict}
+use Rattle.grammar.specs.Signs.{isStray, isPast}
+use Rattle.grammar.specs.Automaton.{Verdict, whole, breaks, wants, verdict}
 use Rattle.formula.specs.Numbered.{sentenceNumber, foreignNumber, formulaNumber}
-use Rattle.book.specs.declared.rule.Right.{Right}
-use Rattle.book.specs.declared.rule.Right.the-variants.{Look, Set}
+use Rattle.block.specs.declared.rule.Right.{Right}
+use Rattle.block.specs.declared.rule.Right.the-variants.{Look, Set}
 use Rattle.words.specs.Words.{split, newline, begins, twice}
-use Rattle.line.specs.Sheet.{Rule, Sheet, isStated, knownSettings}
-use Rattle.line.specs.Forms.{isSize, isRule, ruleOf, isTeam, isKnown}
-use Rattle.line.specs.Steps.{Step, next, unless, unlessNumbered, unlessRefused, sized, withRule, withTeam, withKnown, withMake, withAsk, sizeStep, ruleStep, teamStep, knownStep, makeStep, askStep, rightsStep}
-use Rattle.line.specs.declared.desk.Due.the-variants.{Rights, Known, Make, Asks}
+use Rattle.desk.specs.Sheet.{Rule, Sheet, isStated, knownSettings}
+use Rattle.desk.specs.Rules.{isRule, ruleOf, withRule, ruleStep}
+use Rattle.desk.specs.Steps.{Step, next, unless, unlessNumbered, unlessRefused, sized}
+use Rattle.desk.specs.declared.desk.Due.the-variants.{Rights, Known, Make, Asks}
+use Rattle.line.specs.Forms.{isSize, isTeam, isKnown}
+use Rattle.line.specs.Steps.{withTeam, withKnown, withMake, withAsk, sizeStep, teamStep, knownStep, makeStep, askStep, rightsStep}
 use Rattle.lines.specs.Reading.{Meaning, refused, stated, lines, firstLine, meaning}
 use Rattle.lines.specs.Grammar.{ended, sizeText, word, ruleLine, ruleLines, teamLine, knownLine, makeLine, askLines, text, RulesFit, AsksFit, WellFormed}
 use Rattle.lines.proofs.LineForms.{clear-append, size-read, size-clear, rule-read, rule-clear, team-read, team-clear, known-read, known-clear}

@@ -5,9 +5,10 @@ use mathlib.Core.List.{List, [], _∷_, _++_, append-assoc}
 use Prim.Native.Nat.{ℕ, suc}
 use Rattle.words.specs.Words.{split, newline}
 use Rattle.words.proofs.Split.{Clear, some-piece, split-marked}
-use Rattle.line.specs.Sheet.{Sheet}
-use Rattle.line.specs.Steps.{Step, fault, next, sizeStep, step}
-use Rattle.line.specs.declared.desk.Due.{Due}
+use Rattle.desk.specs.Sheet.{Sheet}
+use Rattle.desk.specs.Steps.{Step, fault, next}
+use Rattle.desk.specs.declared.desk.Due.{Due}
+use Rattle.line.specs.Steps.{sizeStep, step}
 use Rattle.lines.specs.Reading.{Meaning, refused, lines, firstLine}
 use Rattle.lines.specs.Grammar.{ended, InLine}
 

@@ -12,13 +12,14 @@ use lib.ListN.{length, getD, drop, drop-of-length-le, List·getD-eq-default}
 use lib.Seq.{drop-cons}
 use Rattle.ground.specs.Text.{bytes}
 use Rattle.ground.proofs.Bools.{T→true, T→false, and-left, and-right, decide, lt-or-ge}
-use Rattle.book.specs.declared.rule.Right.{Right}
-use Rattle.book.specs.declared.rule.Right.the-variants.{Look, Set}
+use Rattle.block.specs.declared.rule.Right.{Right}
+use Rattle.block.specs.declared.rule.Right.the-variants.{Look, Set}
 use Rattle.words.specs.Words.{space, split, begins, among, allNames, indexes}
 use Rattle.words.proofs.Split.{marked, Clear, some-piece, marked-some, joined-split, split-joined}
 use Rattle.words.proofs.NameForms.{three, five, among-in, among-out}
-use Rattle.line.specs.Sheet.{Rule, Known}
-use Rattle.line.specs.Forms.{isSetting, isPost, isSize, digitAt, isRule, ruleOf, postWords, isTeam, teamOf, settingWords, isKnown, knownBy, knownOf}
+use Rattle.desk.specs.Sheet.{Rule, Known}
+use Rattle.desk.specs.Rules.{isSetting, isPost, isRule, ruleOf}
+use Rattle.line.specs.Forms.{isSize, digitAt, postWords, isTeam, teamOf, settingWords, isKnown, knownBy, knownOf}
 use Rattle.lines.specs.Grammar.{sizeText, word, ruleLine, postsText, teamLine, knownWord, knownsText, knownLine, PostsFit, KnownFit}
 use Rattle.lines.proofs.WordForms.{postWord, posts-text, posts-clear, posts-written, posts-read, knowns-text, word-clear, knowns-clear, knowns-written, knowns-read}
 

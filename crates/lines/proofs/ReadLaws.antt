@@ -8,15 +8,16 @@ use lib.ListN.{length, take, drop}
 use borrow.Author.Tests.{lt-ltb, le-ltb}
 use Rattle.words.specs.Words.{newline, split}
 use Rattle.words.proofs.Pieces.{part, PieceEnd}
-use Rattle.line.specs.Sheet.{Sheet}
-use Rattle.line.specs.Steps.{Step, fault, next, sized, sizeStep, step}
-use Rattle.line.specs.Desk.{number, Proper, Holds, Steps}
-use Rattle.line.specs.declared.desk.Due.{Due}
-use Rattle.line.specs.declared.desk.Due.the-variants.{Rights, Known, Make, Asks}
-use Rattle.line.specs.declared.desk.Desk.{Desk}
-use Rattle.line.specs.declared.desk.Fault.{Fault}
-use Rattle.line.specs.declared.desk.Taken.{Taken}
-use Rattle.line.specs.declared.desk.Taken.the-variants.{Next, No}
+use Rattle.desk.specs.Sheet.{Sheet}
+use Rattle.desk.specs.Steps.{Step, fault, next, sized}
+use Rattle.desk.specs.Desk.{number, Proper, Holds, Steps}
+use Rattle.desk.specs.declared.desk.Due.{Due}
+use Rattle.desk.specs.declared.desk.Due.the-variants.{Rights, Known, Make, Asks}
+use Rattle.desk.specs.declared.desk.Desk.{Desk}
+use Rattle.desk.specs.declared.desk.Fault.{Fault}
+use Rattle.desk.specs.declared.desk.Taken.{Taken}
+use Rattle.desk.specs.declared.desk.Taken.the-variants.{Next, No}
+use Rattle.line.specs.Steps.{sizeStep, step}
 use Rattle.lines.specs.Reading.{Meaning, refused, stated, ending, lines, firstLine, meaning}
 use Rattle.lines.specs.Reads.{Reads}
 use Rattle.lines.specs.declared.Told.{Told}

@@ -7,10 +7,11 @@ use native.Mathlib.Omega.{arith}
 use lib.ListN.{length, take}
 use Rattle.words.specs.Words.{split, newline}
 use Rattle.words.proofs.Split.{AllClear, some-piece, split-clear}
-use Rattle.line.specs.Sheet.{Sheet}
-use Rattle.line.specs.Steps.{Step, fault, next, sized, sizeStep, step}
-use Rattle.line.specs.declared.desk.Due.{Due}
-use Rattle.line.specs.declared.desk.Due.the-variants.{Rights, Known, Make, Asks}
+use Rattle.desk.specs.Sheet.{Sheet}
+use Rattle.desk.specs.Steps.{Step, fault, next, sized}
+use Rattle.desk.specs.declared.desk.Due.{Due}
+use Rattle.desk.specs.declared.desk.Due.the-variants.{Rights, Known, Make, Asks}
+use Rattle.line.specs.Steps.{sizeStep, step}
 use Rattle.lines.specs.Reading.{Meaning, refused, stated, ending, lines, firstLine}
 use Rattle.lines.specs.Grammar.{ended}
 use Rattle.lines.specs.Place.{BeginsSheet, allEnded}

@@ -9,10 +9,11 @@ use lib.Dec.{T}
 use lib.ListN.{length}
 use Rattle.ground.specs.Text.{bytes}
 use Rattle.formula.specs.Numbered.{formulaNumber}
-use Rattle.line.specs.Sheet.{Rule, Sheet}
-use Rattle.line.specs.Steps.{Step, fault, next, unless, unlessNumbered, unlessRefused, withMake}
-use Rattle.line.specs.declared.desk.Due.{Due}
-use Rattle.line.specs.declared.desk.Due.the-variants.{Rights, Known, Make, Asks}
+use Rattle.desk.specs.Sheet.{Rule, Sheet}
+use Rattle.desk.specs.Steps.{Step, fault, next, unless, unlessNumbered, unlessRefused}
+use Rattle.desk.specs.declared.desk.Due.{Due}
+use Rattle.desk.specs.declared.desk.Due.the-variants.{Rights, Known, Make, Asks}
+use Rattle.line.specs.Steps.{withMake}
 use Rattle.lines.specs.Grammar.{ended, sizeText, ruleLines, teamLine, knownLine, makeLine, askLines, text, InLine, RulesFit, PostsFit, KnownFit, AsksFit, WellFormed}
 use Rattle.lines.specs.Place.{BeginsSheet}
 

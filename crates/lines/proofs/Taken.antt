@@ -8,10 +8,11 @@ use lib.Dec.{ltb}
 use lib.ListN.{length}
 use Rattle.words.specs.Words.{split, newline}
 use Rattle.words.proofs.Split.{joined, AllClear, joined-split, split-clear}
-use Rattle.line.specs.Sheet.{Sheet}
-use Rattle.line.specs.Steps.{Step, fault, next, sizeStep, step}
-use Rattle.line.specs.declared.desk.Due.{Due}
-use Rattle.line.specs.declared.desk.Due.the-variants.{Rights, Known, Make, Asks}
+use Rattle.desk.specs.Sheet.{Sheet}
+use Rattle.desk.specs.Steps.{Step, fault, next}
+use Rattle.desk.specs.declared.desk.Due.{Due}
+use Rattle.desk.specs.declared.desk.Due.the-variants.{Rights, Known, Make, Asks}
+use Rattle.line.specs.Steps.{sizeStep, step}
 use Rattle.lines.specs.Reading.{Meaning, refused, stated, ending, lines, firstLine, meaning}
 use Rattle.lines.specs.Grammar.{ended, text, WellFormed}
 use Rattle.lines.specs.Place.{IsSheet}

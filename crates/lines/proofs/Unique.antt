@@ -1,8 +1,8 @@
--- The contract of `read` settles what it gives: each fault has a number of its own, and one desk alone holds what a sheet states (line/proofs/Unique).
+-- The contract of `read` settles what it gives: each fault has a number of its own, and one desk alone holds what a sheet states (desk/proofs/Unique).
 use mathlib.Core.Path.{_≡_, refl, sym, ap₂, _∙_}
-use Rattle.line.specs.Steps.{sized}
-use Rattle.line.specs.declared.desk.Desk.{Desk}
-use Rattle.line.proofs.Unique.{fault-one, desk-one}
+use Rattle.desk.specs.Steps.{sized}
+use Rattle.desk.specs.declared.desk.Desk.{Desk}
+use Rattle.desk.proofs.Unique.{fault-one, desk-one}
 use Rattle.lines.specs.Reading.{Meaning, refused, stated}
 use Rattle.lines.specs.Reads.{Reads}
 use Rattle.lines.specs.declared.Told.{Told}

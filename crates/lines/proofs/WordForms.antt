@@ -12,7 +12,7 @@ use Rattle.ground.proofs.Bools.{T→true, T→false, and-in, and-left, and-righ
 use Rattle.words.specs.Words.{space, among, isFalse, bare, isName, allNames, indexOf, indexes}
 use Rattle.words.proofs.Split.{marked, Clear, AllClear}
 use Rattle.words.proofs.NameForms.{three, among-in, bare-word, unsigned, signed, plain}
-use Rattle.line.specs.Sheet.{Known}
+use Rattle.desk.specs.Sheet.{Known}
 use Rattle.line.specs.Forms.{knownBy}
 use Rattle.lines.specs.Grammar.{postsText, knownWord, knownsText, PostsFit, KnownFit}
 

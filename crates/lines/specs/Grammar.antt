@@ -6,10 +6,10 @@ use mathlib.Core.List.{List, [], _∷_, _++_}
 use Prim.Native.Nat.{ℕ, _+_, _≤_, _<_}
 use lib.ListN.{length}
 use Rattle.ground.specs.Text.{byte, bytes}
-use Rattle.book.specs.declared.rule.Right.{Right}
-use Rattle.book.specs.declared.rule.Right.the-variants.{Look, Set}
+use Rattle.block.specs.declared.rule.Right.{Right}
+use Rattle.block.specs.declared.rule.Right.the-variants.{Look, Set}
 use Rattle.words.specs.Words.{newline, space}
-use Rattle.line.specs.Sheet.{Rule, Known, Sheet}
+use Rattle.desk.specs.Sheet.{Rule, Known, Sheet}
 
 -- "Lines [..] end in byte 10"
 unfoldable pub ended : List ℕ → List ℕ

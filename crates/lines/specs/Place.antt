@@ -6,7 +6,7 @@ use Prim.Native.Nat.{ℕ, _<_}
 use lib.ListN.{length, take}
 use Rattle.ground.specs.Search.{Least}
 use Rattle.words.specs.Words.{split, newline}
-use Rattle.line.specs.Sheet.{Sheet}
+use Rattle.desk.specs.Sheet.{Sheet}
 use Rattle.lines.specs.Grammar.{ended, text, WellFormed}
 
 -- some well-formed sheet begins with the text p

@@ -5,10 +5,11 @@ use Prim.Native.Nat.{ℕ, suc}
 use lib.Dec.{ltb}
 use lib.ListN.{length}
 use Rattle.words.specs.Words.{split, newline}
-use Rattle.line.specs.Sheet.{Sheet}
-use Rattle.line.specs.Steps.{fault, next, sizeStep, step}
-use Rattle.line.specs.declared.desk.Due.{Due}
-use Rattle.line.specs.declared.desk.Due.the-variants.{Rights, Known, Make, Asks}
+use Rattle.desk.specs.Sheet.{Sheet}
+use Rattle.desk.specs.Steps.{fault, next}
+use Rattle.desk.specs.declared.desk.Due.{Due}
+use Rattle.desk.specs.declared.desk.Due.the-variants.{Rights, Known, Make, Asks}
+use Rattle.line.specs.Steps.{sizeStep, step}
 
 -- a refusal's number and line, or all that the sheet states
 pub data Meaning : Type 0 where

@@ -1,8 +1,8 @@
 -- What is read of a sheet, with the desk beside it.
 use mathlib.Core.Path.{_≡_}
-use Rattle.line.specs.Steps.{sized}
-use Rattle.line.specs.Desk.{number, Proper, Holds}
-use Rattle.line.specs.declared.desk.Desk.{Desk}
+use Rattle.desk.specs.Steps.{sized}
+use Rattle.desk.specs.Desk.{number, Proper, Holds}
+use Rattle.desk.specs.declared.desk.Desk.{Desk}
 use Rattle.lines.specs.Reading.{Meaning, refused, stated}
 use Rattle.lines.specs.declared.Told.{Told}
 use Rattle.lines.specs.declared.Told.the-variants.{Stated, Refused}

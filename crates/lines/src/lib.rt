@@ -1,20 +1,20 @@
 // A whole sheet, line by line: what it states, or the first line at fault. A sheet of any length and
 // content is taken; nothing is written to what a caller lends.
-use line::Desk;
-use line::Due;
-use line::Fault;
-use line::Taken;
+use desk::Desk;
+use desk::Due;
+use desk::Fault;
+use desk::Taken;
+use desk::sized;
 use line::later_line;
 use line::size_line;
-use line::sized;
 use words::piece_end;
 ghost use mathlib.Core.Path.{_≡_};
 ghost use Prim.Native.Nat.{_≤_};
 ghost use lib.ListN.{length, drop};
 ghost use Rattle.words.specs.Words.{split, newline};
-ghost use Rattle.line.specs.Sheet.{Sheet};
-ghost use Rattle.line.specs.Steps.{sized};
-ghost use Rattle.line.specs.Desk.{Holds};
+ghost use Rattle.desk.specs.Sheet.{Sheet};
+ghost use Rattle.desk.specs.Steps.{sized};
+ghost use Rattle.desk.specs.Desk.{Holds};
 ghost use Rattle.lines.specs.Reading.{meaning, ending, lines};
 ghost use Rattle.lines.specs.Reads.{Reads};
 

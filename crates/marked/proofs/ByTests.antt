@@ -9,14 +9,15 @@ use Rattle.ground.specs.Digits.{digit, put, bit}
 use Rattle.ground.specs.Search.{Least, all}
 use Rattle.ground.specs.Table.{truth}
 use Rattle.ground.proofs.Bools.{and-left, and-right}
-use Rattle.book.specs.Block.{inOrder}
-use Rattle.book.specs.Sound.{tablesOf}
-use Rattle.book.specs.Rule.{tablePlace, rule, rulePlace}
-use Rattle.book.specs.Written.{bookOf, headBlock, settingBlocks, settingBlock, sealed, bytes16}
-use Rattle.knowledge.specs.Seven.{startOf, nowOf, afterSet, afterLook, firstDigit}
+use Rattle.book.specs.Sound.{inOrder, tablesOf}
+use Rattle.block.specs.Rule.{tablePlace, rule, rulePlace}
+use Rattle.book.specs.Written.{bookOf, settingBlocks}
+use Rattle.block.specs.Sealed.{headBlock, settingBlock, sealed, bytes16}
+use Rattle.acts.specs.Seven.{startOf, nowOf, afterSet, afterLook, firstDigit}
+use Rattle.acts.specs.Acts.{byteOf, offered, setTo, lookAt}
 use Rattle.knowledge.specs.Number.{sumOf, firstAt}
 use Rattle.knowledge.specs.Fits.{agrees, fits, always, known, learnSettled}
-use Rattle.knowledge.specs.Acts.{byteOf, offered, permitted, setTo, lookAt}
+use Rattle.knowledge.specs.Allowed.{permitted}
 use Rattle.plan.specs.Plans.{System, Plan}
 use Rattle.plan.specs.Ranks.{Reach as ReachIn, Cannot as CannotFrom, IsRank, Written}
 use Rattle.plan.specs.Bytes.{encode}

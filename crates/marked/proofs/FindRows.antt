@@ -4,11 +4,11 @@ use mathlib.Core.List.{List, [], _∷_}
 use mathlib.Core.Bool.{true, false}
 use Prim.Native.Nat.{ℕ}
 use lib.Dec.{T}
-use Rattle.book.specs.Block.{inOrder}
-use Rattle.book.specs.Sound.{tablesOf}
-use Rattle.book.specs.Rule.{tablePlace, rule, rulePlace}
-use Rattle.book.specs.Written.{bookOf, headBlock, settingBlocks, settingBlock, sealed, bytes16}
-use Rattle.knowledge.specs.Acts.{byteOf}
+use Rattle.book.specs.Sound.{inOrder, tablesOf}
+use Rattle.block.specs.Rule.{tablePlace, rule, rulePlace}
+use Rattle.book.specs.Written.{bookOf, settingBlocks}
+use Rattle.block.specs.Sealed.{headBlock, settingBlock, sealed, bytes16}
+use Rattle.acts.specs.Acts.{byteOf}
 use Rattle.plan.specs.Plans.{stop, set-then, look-then}
 use Rattle.plancheck.specs.declared.answer.Refusal.the-variants.{NotSettled}
 use Rattle.plancheck.specs.declared.answer.CheckAnswer.the-variants.{Refused as No}

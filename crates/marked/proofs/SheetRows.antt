@@ -14,25 +14,28 @@ use Rattle.ground.specs.Search.{all}
 use Rattle.ground.specs.Table.{truth}
 use Rattle.ground.specs.Text.{bytes}
 use Rattle.ground.proofs.Bits.{bit-suc, bit-of-zero, below-2}
-use Rattle.formula.specs.Grammar.{letter, one, negated, one-unit, one-product, text, meaning as truthOf}
-use Rattle.formula.specs.Read.{Accepts, isLetter, isSign, isStray, isPast}
-use Rattle.formula.specs.Automaton.{isAtom, step, verdict}
+use Rattle.grammar.specs.Grammar.{letter, one, negated, one-unit, one-product, text, meaning as truthOf}
+use Rattle.grammar.specs.Signs.{isLetter, isSign, isStray, isPast}
+use Rattle.grammar.specs.Automaton.{isAtom, step, verdict}
+use Rattle.formula.specs.Read.{Accepts}
 use Rattle.formula.specs.Numbered.{sentenceNumber, foreignNumber, formulaNumber}
 use Rattle.formula.proofs.Computed.{foreign, bounds, clean, tabled, accepted}
-use Rattle.book.specs.Rule.{table, tablePlace}
+use Rattle.block.specs.Rule.{table, tablePlace}
 use Rattle.book.specs.Sound.{tablesOf}
-use Rattle.book.specs.declared.rule.Right.{Right}
-use Rattle.book.specs.declared.rule.Right.the-variants.{Look, Set}
+use Rattle.block.specs.declared.rule.Right.{Right}
+use Rattle.block.specs.declared.rule.Right.the-variants.{Look, Set}
 use Rattle.text.specs.Decimal.{decimal}
 use Rattle.printing.specs.Printed.{reachText, cannotText, fitted}
-use Rattle.line.specs.Sheet.{Rule, Sheet, sameRight, concerns, isStated, ruleText, knownSettings, knownTrue}
+use Rattle.desk.specs.Sheet.{Rule, Sheet, sameRight, concerns, isStated, ruleText, knownSettings, knownTrue}
 use Rattle.words.specs.Words.{member, onto, split, begins, among, isFalse, bare, isName, allNames, indexOf, indexes, twice}
-use Rattle.line.specs.Forms.{isSetting, isPost, isSize, digitAt, isRule, ruleOf, postWords, isTeam, teamOf, settingWords, isKnown, knownBy, knownOf}
-use Rattle.line.specs.Steps.{unlessRefused, sized, withRule, withTeam, withKnown, withMake, withAsk, sizeStep, ruleStep, teamStep, knownStep, makeStep, askStep, rightsStep}
-use Rattle.line.specs.Desk.{TablesOf}
+use Rattle.desk.specs.Rules.{isSetting, isPost, isRule, ruleOf, withRule, ruleStep}
+use Rattle.desk.specs.Steps.{unlessRefused, sized}
+use Rattle.desk.specs.Desk.{TablesOf}
+use Rattle.line.specs.Forms.{isSize, digitAt, postWords, isTeam, teamOf, settingWords, isKnown, knownBy, knownOf}
+use Rattle.line.specs.Steps.{withTeam, withKnown, withMake, withAsk, sizeStep, teamStep, knownStep, makeStep, askStep, rightsStep}
 use Rattle.lines.specs.Reading.{Meaning, refused, stated, lines, firstLine, meaning}
 use Rattle.sheet.specs.Answer.{Question, PrintsFound, Prints-outcome}
-use Rattle.line.proofs.HoldLaws.{nought-accepts}
+use Rattle.desk.proofs.HoldLaws.{nought-accepts}
 use Rattle.lines.proofs.Examples.{sheets-computed}
 use Rattle.sheet.proofs.Theorems.{answer-unique}
 use Rattle.marked.specs.Row.{Case, first, tables, Holds, prints}

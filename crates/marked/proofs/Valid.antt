@@ -13,13 +13,14 @@ use Rattle.ground.specs.Search.{all}
 use Rattle.ground.specs.Table.{truth, Within}
 use Rattle.ground.proofs.Bools.{and-left, and-right, or-out, T→false}
 use Rattle.ground.proofs.Search.{all-at}
-use Rattle.book.specs.Block.{Zeros}
-use Rattle.book.specs.Sound.{Tables, tablesOf}
-use Rattle.book.specs.Rule.{table, tablePlace}
-use Rattle.book.specs.declared.rule.Right.{Right}
-use Rattle.book.specs.declared.rule.Right.the-variants.{Look as look-rule, Set as set-rule}
+use Rattle.block.specs.Block.{Zeros}
+use Rattle.block.specs.Kinds.{Tables}
+use Rattle.book.specs.Sound.{tablesOf}
+use Rattle.block.specs.Rule.{table, tablePlace}
+use Rattle.block.specs.declared.rule.Right.{Right}
+use Rattle.block.specs.declared.rule.Right.the-variants.{Look as look-rule, Set as set-rule}
 use Rattle.ground.proofs.Lists.{length-part}
-use Rattle.book.proofs.RuleLaws.{place-most}
+use Rattle.block.proofs.RuleLaws.{place-most}
 use Rattle.book.proofs.WriteLaws.{length-tables}
 use Rattle.book.proofs.RoundTrip.{written-sound}
 use Rattle.knowledge.specs.Learn.{learnTable}

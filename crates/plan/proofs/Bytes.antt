@@ -9,11 +9,11 @@ use borrow.Author.Tests.{lt-ltb, le-leb, lt-leb}
 use Rattle.ground.specs.Search.{all}
 use Rattle.ground.proofs.Bools.{and-left, and-right, lt-or-ge}
 use Rattle.ground.proofs.Search.{all-at}
-use Rattle.knowledge.specs.Acts.{settingOf, postOf, byteOf, ofKind, actOf}
-use Rattle.knowledge.specs.declared.act.Act.{Act}
-use Rattle.knowledge.specs.declared.act.Act.the-variants.{Set, Look}
-use Rattle.knowledge.specs.declared.act.Named.{Named}
-use Rattle.knowledge.specs.declared.act.Named.the-variants.{One, Nothing}
+use Rattle.acts.specs.Acts.{settingOf, postOf, byteOf, ofKind, actOf}
+use Rattle.acts.specs.declared.act.Act.{Act}
+use Rattle.acts.specs.declared.act.Act.the-variants.{Set, Look}
+use Rattle.acts.specs.declared.act.Named.{Named}
+use Rattle.acts.specs.declared.act.Named.the-variants.{One, Nothing}
 
 -- the act that a byte from 1 to 168 names
 named-at : (c kind i q : ℕ) → 0 < c → c ≤ 168 → (c - 1) / 56 ≡ kind → (c - 1) / 8 % 7 ≡ i → (c - 1) % 8 ≡ q → actOf c ≡ One (ofKind kind i q)

@@ -9,10 +9,10 @@ use lib.Pow.{pow-mono}
 use Rattle.ground.specs.Digits.{digit}
 use Rattle.ground.proofs.Bools.{lt-or-ge}
 use Rattle.ground.proofs.Digits.{digit-lt, put-lt}
-use Rattle.knowledge.specs.Seven.{afterSet, afterLook}
-use Rattle.knowledge.specs.Acts.{setTo, lookAt}
-use Rattle.knowledge.specs.declared.act.Act.{Act}
-use Rattle.knowledge.specs.declared.act.Act.the-variants.{Set, Look}
+use Rattle.acts.specs.Seven.{afterSet, afterLook}
+use Rattle.acts.specs.Acts.{setTo, lookAt}
+use Rattle.acts.specs.declared.act.Act.{Act}
+use Rattle.acts.specs.declared.act.Act.the-variants.{Set, Look}
 use Rattle.plan.specs.Plans.{System, may, Lawful, Outcome, after-set, after-look, Plan, stop, set-then, look-then, Works, height}
 use Rattle.plan.specs.Ranks.{IsRank}
 use Rattle.plan.specs.Certificate.{Certified}

@@ -17,10 +17,10 @@ use Rattle.ground.proofs.Bits.{digit-zero, digit-suc}
 use Rattle.ground.proofs.Bools.{lt-or-ge}
 use Rattle.ground.proofs.Digits.{digit-lt}
 use Rattle.ground.proofs.Search.{all-at}
-use Rattle.knowledge.specs.Seven.{afterSet}
-use Rattle.knowledge.specs.Acts.{setTo}
-use Rattle.knowledge.specs.declared.act.Act.{Act}
-use Rattle.knowledge.specs.declared.act.Act.the-variants.{Set, Look}
+use Rattle.acts.specs.Seven.{afterSet}
+use Rattle.acts.specs.Acts.{setTo}
+use Rattle.acts.specs.declared.act.Act.{Act}
+use Rattle.acts.specs.declared.act.Act.the-variants.{Set, Look}
 use Rattle.plan.specs.Plans.{System, may, Lawful, Outcome, after-set, after-look}
 use Rattle.plan.specs.Pending.{nought, unknowns}
 use Rattle.plan.proofs.Unknowns.{seven, unknowns-le, unknowns-set, unknowns-look, set-lt}

@@ -6,9 +6,9 @@ use native.Mathlib.Decide.{ℕ-discrete}
 use lib.Dec.{eqb, lit<}
 use Rattle.ground.specs.Digits.{digit, bit}
 use Rattle.ground.proofs.Digits.{digit-lt, put-same, put-other}
-use Rattle.knowledge.specs.Seven.{startOf, afterSet, afterLook}
-use Rattle.knowledge.specs.Acts.{setTo, lookAt}
-use Rattle.knowledge.proofs.Seven.{start-set}
+use Rattle.acts.specs.Seven.{startOf, afterSet, afterLook}
+use Rattle.acts.specs.Acts.{setTo, lookAt}
+use Rattle.acts.proofs.Seven.{start-set}
 use Rattle.plan.specs.Runs.{change}
 use Rattle.plan.proofs.Unknowns.{seven, set-lt, look-lt}
 

@@ -13,10 +13,10 @@ use Rattle.ground.specs.Table.{truth}
 use Rattle.ground.proofs.Bools.{T→false, decide, both}
 use Rattle.ground.proofs.Digits.{digit-lt}
 use Rattle.ground.proofs.Search.{all-at, all-intro, all-or}
-use Rattle.knowledge.specs.Seven.{startOf, afterSet, afterLook}
+use Rattle.acts.specs.Seven.{startOf, afterSet, afterLook}
+use Rattle.acts.specs.Acts.{setTo, lookAt}
+use Rattle.acts.specs.declared.act.Act.the-variants.{Set, Look}
 use Rattle.knowledge.specs.Fits.{agrees, fits, implies, is, always, fitsStart, startSide, learnSettled}
-use Rattle.knowledge.specs.Acts.{setTo, lookAt}
-use Rattle.knowledge.specs.declared.act.Act.the-variants.{Set, Look}
 use Rattle.plan.specs.Plans.{System, Lawful, Plan, stop, set-then, look-then, Permitted, Works}
 use Rattle.plan.specs.Ranks.{Cannot}
 use Rattle.plan.specs.Runs.{change, did, saw, run}

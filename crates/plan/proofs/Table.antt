@@ -2,8 +2,8 @@
 use mathlib.Core.Path.{_≡_}
 use Prim.Native.Nat.{ℕ, _≤_}
 use native.Mathlib.Omega.{arith}
-use Rattle.knowledge.specs.Acts.{byteOf}
-use Rattle.knowledge.specs.declared.act.Act.{Act}
+use Rattle.acts.specs.Acts.{byteOf}
+use Rattle.acts.specs.declared.act.Act.{Act}
 use Rattle.plan.specs.Plans.{System}
 use Rattle.plan.specs.Ranks.{IsRank, Lowers, Chosen}
 use Rattle.plan.specs.Certificate.{Leads}

@@ -11,9 +11,9 @@ use Rattle.ground.specs.Search.{all}
 use Rattle.ground.proofs.Bits.{digit-zero, digit-suc}
 use Rattle.ground.proofs.Digits.{digit-lt}
 use Rattle.ground.proofs.Search.{all-at}
-use Rattle.knowledge.specs.Seven.{afterSet, afterLook}
-use Rattle.knowledge.specs.Acts.{setTo, lookAt}
-use Rattle.knowledge.proofs.Seven.{at-digit}
+use Rattle.acts.specs.Seven.{afterSet, afterLook}
+use Rattle.acts.specs.Acts.{setTo, lookAt}
+use Rattle.acts.proofs.Seven.{at-digit}
 use Rattle.plan.specs.Pending.{nought, unknowns}
 
 pub seven : 0 < 7

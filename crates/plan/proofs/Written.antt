@@ -9,11 +9,11 @@ use native.Mathlib.Nat.{le-antisymm}
 use native.Mathlib.Omega.{arith}
 use lib.Dec.{T}
 use Rattle.ground.proofs.Bools.{lt-or-ge}
-use Rattle.knowledge.specs.Acts.{byteOf, actOf, setTo, lookAt}
-use Rattle.knowledge.specs.declared.act.Act.{Act}
-use Rattle.knowledge.specs.declared.act.Act.the-variants.{Set, Look}
-use Rattle.knowledge.specs.declared.act.Named.{Named}
-use Rattle.knowledge.specs.declared.act.Named.the-variants.{One, Nothing}
+use Rattle.acts.specs.Acts.{byteOf, actOf, setTo, lookAt}
+use Rattle.acts.specs.declared.act.Act.{Act}
+use Rattle.acts.specs.declared.act.Act.the-variants.{Set, Look}
+use Rattle.acts.specs.declared.act.Named.{Named}
+use Rattle.acts.specs.declared.act.Named.the-variants.{One, Nothing}
 use Rattle.plan.specs.Plans.{System, Lawful, Outcome, after-set, after-look, Plan, stop, set-then, look-then, Works, height}
 use Rattle.plan.specs.Ranks.{IsRank, Lowers, Chosen, Written}
 use Rattle.plan.proofs.Acts.{can, can-in, can-may, can-at}

@@ -3,7 +3,8 @@ use mathlib.Core.Bool.{Bool}
 use mathlib.Core.List.{List}
 use Prim.Native.Nat.{ℕ}
 use Rattle.ground.specs.Digits.{digit}
-use Rattle.knowledge.specs.Acts.{offered, permitted}
+use Rattle.acts.specs.Acts.{offered}
+use Rattle.knowledge.specs.Allowed.{permitted}
 use Rattle.plan.specs.Plans.{System}
 
 -- the team's bit q is the post with index q; the goal tells the states at which it is settled

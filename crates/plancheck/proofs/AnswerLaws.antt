@@ -6,8 +6,8 @@ use Prim.Native.Nat.{ℕ, _^_, _≤_, _<_}
 use lib.Dec.{lit<}
 use lib.ListN.{length}
 use Rattle.ground.specs.Digits.{bit}
+use Rattle.acts.proofs.Seven.{first-lt}
 use Rattle.knowledge.specs.Number.{digitIn, numberOf, firstAt, firstDigits}
-use Rattle.knowledge.proofs.Seven.{first-lt}
 use Rattle.knowledge.proofs.Number.{sum-lt}
 use Rattle.knowledge.proofs.States.{number-state, first-state}
 use Rattle.ground.specs.Order.{only, First}

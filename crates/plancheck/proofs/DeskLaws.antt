@@ -9,9 +9,9 @@ use native.Mathlib.Omega.{arith}
 use lib.Dec.{T}
 use lib.ListN.{length, getD, set, drop, length-set, drop-of-length-le}
 use lib.Seq.{getD-set-same, getD-set-other, drop-cons}
-use Rattle.knowledge.specs.Acts.{setTo, lookAt}
-use Rattle.knowledge.specs.declared.act.Act.the-variants.{Set, Look}
-use Rattle.knowledge.proofs.Outcomes.{set-below, look-below}
+use Rattle.acts.specs.Acts.{setTo, lookAt}
+use Rattle.acts.specs.declared.act.Act.the-variants.{Set, Look}
+use Rattle.acts.proofs.Outcomes.{set-below, look-below}
 use Rattle.plan.specs.Plans.{System, may, Lawful}
 use Rattle.plan.specs.Check.{readByte, judge, check}
 use Rattle.plan.specs.Check as C

@@ -10,13 +10,14 @@ use lib.ListN.{replicate}
 use Rattle.ground.specs.Digits.{digit, put, bit}
 use Rattle.ground.specs.Search.{all}
 use Rattle.ground.specs.Table.{truth}
-use Rattle.book.specs.Rule.{rule}
-use Rattle.book.specs.declared.rule.Right.the-variants.{Set as set-rule}
-use Rattle.knowledge.specs.Seven.{startOf, nowOf, afterSet, firstDigit}
+use Rattle.block.specs.Rule.{rule}
+use Rattle.block.specs.declared.rule.Right.the-variants.{Set as set-rule}
+use Rattle.acts.specs.Seven.{startOf, nowOf, afterSet, firstDigit}
+use Rattle.acts.specs.declared.act.Act.the-variants.{Set}
+use Rattle.acts.specs.Acts.{actOf, offered, setTo}
 use Rattle.knowledge.specs.Number.{sumOf, firstAt}
 use Rattle.knowledge.specs.Fits.{agrees, fits, always, known, learnSettled}
-use Rattle.knowledge.specs.declared.act.Act.the-variants.{Set}
-use Rattle.knowledge.specs.Acts.{actOf, offered, permitted, setTo}
+use Rattle.knowledge.specs.Allowed.{permitted}
 use Rattle.plan.specs.Plans.{may}
 use Rattle.plan.proofs.Check.{judge-on, judge-fails, read-act, read-unsettled}
 use Rattle.plan.specs.Check.{not-settled, faulty, check}

@@ -8,16 +8,17 @@ use lib.Dec.{leb, ltb, ltb→lt}
 use lib.ListN.{set}
 use Rattle.ground.specs.Digits.{digit, bit}
 use Rattle.ground.proofs.Bools.{true→T, and-left}
-use Rattle.knowledge.specs.Seven.{afterSet, afterLook}
+use Rattle.acts.specs.Seven.{afterSet, afterLook}
+use Rattle.acts.specs.Acts.{settingOf, postOf, actOf, offered, setTo, lookAt}
+use Rattle.acts.specs.declared.act.Act.{Act}
+use Rattle.acts.specs.declared.act.Act.the-variants.{Set, Look}
+use Rattle.acts.specs.declared.act.Named.{Named}
+use Rattle.acts.specs.declared.act.Named.the-variants.{One, Nothing}
+use Rattle.acts.proofs.Outcomes.{set-below, look-below}
 use Rattle.knowledge.specs.Number.{digitIn, digitsOf, numberOf}
-use Rattle.knowledge.specs.Acts.{settingOf, postOf, actOf, offered, permitted, setTo, lookAt}
-use Rattle.knowledge.specs.declared.act.Act.{Act}
-use Rattle.knowledge.specs.declared.act.Act.the-variants.{Set, Look}
-use Rattle.knowledge.specs.declared.act.Named.{Named}
-use Rattle.knowledge.specs.declared.act.Named.the-variants.{One, Nothing}
+use Rattle.knowledge.specs.Allowed.{permitted}
 use Rattle.knowledge.proofs.Number.{digits-are}
 use Rattle.knowledge.proofs.States.{number-state, set-state, look-state}
-use Rattle.knowledge.proofs.Outcomes.{set-below, look-below}
 use Rattle.plan.specs.Check.{goes-on, outcomes, readAct, readNamed, readByte}
 use Rattle.plan.proofs.Check.{read-named}
 use Rattle.question.specs.Question.{goalSettled, systemOf}

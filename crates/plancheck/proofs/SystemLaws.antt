@@ -5,8 +5,9 @@ use Prim.Native.Nat.{ℕ, _<_}
 use native.Mathlib.Omega.{arith}
 use lib.Dec.{T}
 use Rattle.ground.specs.Digits.{digit, bit}
-use Rattle.knowledge.specs.Acts.{postOf, allowed}
-use Rattle.knowledge.specs.declared.act.Act.the-variants.{Look}
+use Rattle.acts.specs.Acts.{postOf}
+use Rattle.acts.specs.declared.act.Act.the-variants.{Look}
+use Rattle.knowledge.specs.Allowed.{allowed}
 use Rattle.knowledge.proofs.Allowed.{allowed-offered, allowed-permitted, permitted-look}
 use Rattle.plan.specs.Plans.{Lawful}
 use Rattle.question.specs.Question.{systemOf}

@@ -1,13 +1,14 @@
 // What one byte of a plan comes to at a knowledge number.
 use crate::answer::Refusal;
 use crate::goal::is_settled;
-use knowledge::Act;
+use acts::Act;
+use acts::Named;
 use knowledge::Knowledge;
-use knowledge::Named;
 ghost use mathlib.Core.Path.{_≡_};
 ghost use Prim.Native.Nat.{_^_, _≤_, _<_};
 ghost use Rattle.ground.specs.Digits.{digit};
-ghost use Rattle.knowledge.specs.Acts.{settingOf, offered, permitted};
+ghost use Rattle.acts.specs.Acts.{settingOf, offered};
+ghost use Rattle.knowledge.specs.Allowed.{permitted};
 ghost use Rattle.plan.specs.Check.{goes-on, outcomes, readAct, readByte};
 ghost use Rattle.question.specs.Question.{systemOf};
 ghost use Rattle.plancheck.specs.Inner.{readingOf};

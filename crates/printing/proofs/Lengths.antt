@@ -6,7 +6,7 @@ use native.Mathlib.Nat.{mul-suc, mul-add, le-max-left, le-max-right}
 use native.Mathlib.Omega.{arith}
 use lib.ListN.{length, length-append}
 use Rattle.ground.specs.Text.{bytes}
-use Rattle.knowledge.specs.declared.act.Act.the-variants.{Set, Look}
+use Rattle.acts.specs.declared.act.Act.the-variants.{Set, Look}
 use Rattle.plan.specs.Plans.{Plan, stop, set-then, look-then, height}
 use Rattle.plan.specs.Bytes.{encode}
 use Rattle.printing.specs.Printed.{actText, numbered, planText, Lettered}

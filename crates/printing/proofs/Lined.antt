@@ -6,10 +6,10 @@ use Prim.Native.Nat.{ℕ, _+_, _^_, _<_}
 use native.Mathlib.Omega.{arith}
 use lib.ListN.{length, getD, length-append}
 use Rattle.ground.specs.Text.{bytes}
-use Rattle.knowledge.specs.Acts.{actOf}
-use Rattle.knowledge.specs.declared.act.Act.{Act}
-use Rattle.knowledge.specs.declared.act.Act.the-variants.{Set, Look}
-use Rattle.knowledge.specs.declared.act.Named.the-variants.{One, Nothing}
+use Rattle.acts.specs.Acts.{actOf}
+use Rattle.acts.specs.declared.act.Act.{Act}
+use Rattle.acts.specs.declared.act.Act.the-variants.{Set, Look}
+use Rattle.acts.specs.declared.act.Named.the-variants.{One, Nothing}
 use Rattle.plan.specs.Plans.{Plan, stop}
 use Rattle.plan.specs.Bytes.{encode}
 use Rattle.text.specs.Decimal.{decimal}

@@ -8,11 +8,11 @@ use native.Mathlib.Numerals.{add-one}
 use native.Mathlib.Omega.{arith}
 use lib.ListN.{length, getD, drop, length-drop}
 use lib.Seq.{drop-cons, drop-drop, drop-append-seam}
-use Rattle.knowledge.specs.Acts.{actOf}
-use Rattle.knowledge.specs.declared.act.Act.the-variants.{Set, Look}
-use Rattle.knowledge.specs.declared.act.Named.{Named}
-use Rattle.knowledge.specs.declared.act.Named.the-variants.{One, Nothing}
-use Rattle.knowledge.proofs.Acts.{act-of-byte}
+use Rattle.acts.specs.Acts.{actOf}
+use Rattle.acts.specs.declared.act.Act.the-variants.{Set, Look}
+use Rattle.acts.specs.declared.act.Named.{Named}
+use Rattle.acts.specs.declared.act.Named.the-variants.{One, Nothing}
+use Rattle.acts.proofs.Acts.{act-of-byte}
 use Rattle.plan.specs.Plans.{Plan, stop, set-then, look-then}
 use Rattle.plan.specs.Bytes.{encode}
 use Rattle.printing.specs.Inner.{Shows}

@@ -8,8 +8,8 @@ use native.Mathlib.Omega.{arith}
 use lib.ListN.{length, take, drop, length-append, length-take, length-drop, drop-of-length-le}
 use lib.Seq.{take-all, take-append-seam}
 use Rattle.ground.specs.Text.{bytes}
-use Rattle.knowledge.specs.Acts.{byteOf, setTo, lookAt}
-use Rattle.knowledge.specs.declared.act.Act.the-variants.{Set, Look}
+use Rattle.acts.specs.Acts.{byteOf, setTo, lookAt}
+use Rattle.acts.specs.declared.act.Act.the-variants.{Set, Look}
 use Rattle.plan.specs.Plans.{System, Lawful, Plan, stop, set-then, look-then, Permitted, height}
 use Rattle.plan.specs.Bytes.{encode}
 use Rattle.text.specs.Decimal.{decimal}

@@ -6,8 +6,8 @@ use mathlib.Core.List.{List, [], _∷_, _++_}
 use Prim.Native.Nat.{ℕ, _+_, _<_}
 use lib.ListN.{length, take, drop}
 use Rattle.ground.specs.Text.{bytes}
-use Rattle.knowledge.specs.declared.act.Act.{Act}
-use Rattle.knowledge.specs.declared.act.Act.the-variants.{Set, Look}
+use Rattle.acts.specs.declared.act.Act.{Act}
+use Rattle.acts.specs.declared.act.Act.the-variants.{Set, Look}
 use Rattle.plan.specs.Plans.{Plan, stop, set-then, look-then}
 use Rattle.text.specs.Decimal.{decimal}
 

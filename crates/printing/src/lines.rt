@@ -1,9 +1,9 @@
 // A line for each byte of a plan: the depth, then the act by its setting's letter and its post's digit.
-use knowledge::Act;
-use knowledge::Named;
+use acts::Act;
+use acts::Named;
 ghost use mathlib.Core.Path.{_≡_};
 ghost use Prim.Native.Nat.{_<_};
-ghost use Rattle.knowledge.specs.Acts.{settingOf, postOf};
+ghost use Rattle.acts.specs.Acts.{settingOf, postOf};
 ghost use Rattle.printing.specs.Printed.{valueDigit, actText, numbered};
 ghost use Rattle.text.specs.Wrote.{Ends, Wrote};
 ghost use Rattle.printing.specs.Inner.{Readable, Lines};

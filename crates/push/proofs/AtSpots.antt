@@ -6,7 +6,7 @@ use Prim.Native.Nat.{ℕ, _+_, _*_, _≤_, _<_}
 use lib.Dec.{ltb}
 use Rattle.ground.specs.Digits.{digit}
 use Rattle.ground.proofs.Digits.{digit-lt}
-use Rattle.knowledge.specs.Seven.{nowOf, afterLook}
+use Rattle.acts.specs.Seven.{nowOf, afterLook}
 use Rattle.sides.specs.Over.{entry}
 use Rattle.push.specs.Ranks.{rank}
 use Rattle.push.specs.Push.{Pushing}

@@ -10,11 +10,11 @@ use Rattle.ground.specs.Search.{all}
 use Rattle.ground.proofs.Bools.{and-left, and-right, or-out}
 use Rattle.ground.proofs.Search.{all-at}
 use Rattle.ground.proofs.Digits.{digit-lt, put-same, put-put, put-digit}
-use Rattle.knowledge.specs.Seven.{afterSet, afterLook}
+use Rattle.acts.specs.Seven.{afterSet, afterLook}
+use Rattle.acts.specs.Acts.{setTo, lookAt}
+use Rattle.acts.proofs.Seven.{set-lt, look-lt}
+use Rattle.acts.proofs.Outcomes.{set-here, look-here}
 use Rattle.knowledge.specs.Fits.{implies}
-use Rattle.knowledge.specs.Acts.{setTo, lookAt}
-use Rattle.knowledge.proofs.Seven.{set-lt, look-lt}
-use Rattle.knowledge.proofs.Outcomes.{set-here, look-here}
 use Rattle.push.specs.Inner.{SetsTo}
 use Rattle.sides.proofs.Shown.{seven as pos}
 

@@ -11,7 +11,7 @@ use borrow.Author.Tests.{ne-eqb}
 use lib.ListN.{length, getD, set, length-set}
 use lib.Seq.{getD-set-same, getD-set-other}
 use Rattle.ground.proofs.Bools.{and-left, and-right, decide, eq→eqb, T→true, T→false}
-use Rattle.knowledge.specs.Acts.{lookAt}
+use Rattle.acts.specs.Acts.{lookAt}
 use Rattle.push.specs.Ranks.{rank, HasLower, by-set, by-look}
 use Rattle.push.specs.Push.{Grew, SetsDone, LooksDone}
 use Rattle.push.specs.Inner.{given, afterOffer}

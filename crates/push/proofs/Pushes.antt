@@ -8,9 +8,9 @@ use native.Mathlib.Omega.{arith}
 use lib.Dec.{ltb, ltb→lt, lt→ltb}
 use Rattle.ground.specs.Digits.{digit, put}
 use Rattle.ground.proofs.Digits.{digit-lt, put-same, put-lt}
-use Rattle.knowledge.specs.Seven.{afterLook}
-use Rattle.knowledge.specs.Acts.{lookAt}
-use Rattle.knowledge.proofs.Seven.{set-known}
+use Rattle.acts.specs.Seven.{afterLook}
+use Rattle.acts.specs.Acts.{lookAt}
+use Rattle.acts.proofs.Seven.{set-known}
 use Rattle.sides.specs.Sides.{nowSideNumber}
 use Rattle.sides.specs.Over.{entry}
 use Rattle.push.specs.Ranks.{rank, May, by-set, by-look}

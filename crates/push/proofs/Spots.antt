@@ -9,8 +9,8 @@ use Rattle.ground.proofs.Digits.{digit-lt, put-same, put-other, put-lt, put-sum
 use Rattle.sides.proofs.Shown.{seven as pos}
 use Rattle.sides.proofs.CountLaws.{states-most}
 use Rattle.sides.proofs.ApartLaws.{below-sides}
+use Rattle.acts.specs.Seven.{nowOf}
 use Rattle.knowledge.specs.Number.{sumOf}
-use Rattle.knowledge.specs.Seven.{nowOf}
 use Rattle.knowledge.proofs.Number.{sum-ext}
 use Rattle.sides.specs.Sides.{nowSideNumber}
 use Rattle.push.specs.Inner.{Spotted}

@@ -6,7 +6,7 @@ use Prim.Native.Nat.{ℕ, _^_, _≤_, _<_}
 use lib.Dec.{eqb}
 use lib.ListN.{getD, set}
 use Rattle.ground.specs.Digits.{put}
-use Rattle.knowledge.specs.Seven.{afterSet, afterLook}
+use Rattle.acts.specs.Seven.{afterSet, afterLook}
 use Rattle.sides.specs.Sides.{nowSideNumber}
 use Rattle.push.specs.Ranks.{rank, May}
 use Rattle.push.specs.Push.{Grew, SetsDone, LooksDone}

@@ -6,7 +6,7 @@ use mathlib.Core.Bool.{Bool, not}
 use Prim.Native.Nat.{ℕ, _^_, _≤_, _<_}
 use lib.ListN.{length}
 use Rattle.ground.specs.Digits.{digit}
-use Rattle.knowledge.specs.Acts.{setTo, lookAt}
+use Rattle.acts.specs.Acts.{setTo, lookAt}
 use Rattle.push.specs.Ranks.{rank, May, HasLower}
 
 -- what a push of the rank h from k is made with

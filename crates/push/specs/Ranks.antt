@@ -5,7 +5,7 @@ use mathlib.Core.Bool.{Bool, true, false}
 use Prim.Native.Nat.{ℕ, _<_}
 use lib.ListN.{getD}
 use Rattle.ground.specs.Digits.{digit}
-use Rattle.knowledge.specs.Acts.{setTo, lookAt}
+use Rattle.acts.specs.Acts.{setTo, lookAt}
 use Rattle.sides.specs.Sides.{nowSideNumber}
 use Rattle.sides.specs.Over.{entry}
 

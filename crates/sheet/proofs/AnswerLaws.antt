@@ -6,9 +6,9 @@ use Rattle.book.specs.Written.{bookOf}
 use Rattle.plan.specs.Plans.{System}
 use Rattle.printing.specs.Printed.{refusedText, Prints}
 use Rattle.question.specs.Question.{systemOf}
-use Rattle.line.specs.Desk.{number}
-use Rattle.line.specs.declared.desk.Desk.{Desk}
-use Rattle.line.specs.declared.desk.Fault.{Fault}
+use Rattle.desk.specs.Desk.{number}
+use Rattle.desk.specs.declared.desk.Desk.{Desk}
+use Rattle.desk.specs.declared.desk.Fault.{Fault}
 use Rattle.lines.specs.Reading.{Meaning, refused, stated, meaning}
 use Rattle.lines.specs.Reads.{Reads}
 use Rattle.lines.specs.declared.Told.{Told}

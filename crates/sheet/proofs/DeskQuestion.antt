@@ -34,7 +34,7 @@ use Rattle.finder.specs.declared.finding.Answer.{Answer}
 use Rattle.finder.specs.declared.finding.Answer.the-variants.{Reach, Cannot, Refused}
 use Rattle.question.proofs.Unique.{lawful}
 use Rattle.finder.proofs.Unique.{find-clear}
-use Rattle.line.specs.declared.desk.Desk.{Desk}
+use Rattle.desk.specs.declared.desk.Desk.{Desk}
 use Rattle.sheet.specs.Answer.{Question, PrintsFound}
 use Rattle.sheet.specs.Inner.{Whole, rightsIn, learnIn, bookIn, systemIn, startIn}
 use Rattle.sheet.proofs.SheetQuestion.{asked-writable, asked-valid, asked-most}

@@ -11,19 +11,19 @@ use lib.ListN.{length, getD, take, replicate}
 use lib.Seq.{length-take-le, getD-take}
 use Rattle.ground.specs.Text.{bytes}
 use Rattle.ground.proofs.Bools.{decide, and-right, T→false}
-use Rattle.formula.specs.Grammar.{text}
+use Rattle.grammar.specs.Grammar.{text}
 use Rattle.formula.specs.Read.{Accepts}
-use Rattle.book.specs.Rule.{tablePlace, table}
+use Rattle.block.specs.Rule.{tablePlace, table}
 use Rattle.book.specs.Sound.{tablesOf}
-use Rattle.book.specs.declared.rule.Right.{Right}
-use Rattle.book.specs.declared.rule.Right.the-variants.{Look, Set}
+use Rattle.block.specs.declared.rule.Right.{Right}
+use Rattle.block.specs.declared.rule.Right.the-variants.{Look, Set}
 use Rattle.ground.proofs.Lists.{getD-part, part-same}
 use Rattle.book.proofs.WriteLaws.{length-tables}
-use Rattle.book.proofs.RuleLaws.{place-most}
-use Rattle.line.specs.Sheet.{Rule, Sheet, concerns, isStated, ruleText}
-use Rattle.line.specs.Desk.{TablesOf, slotOf, tableIn, Slot, Holds}
-use Rattle.line.specs.declared.desk.Desk.{Desk}
-use Rattle.line.proofs.HoldLaws.{nought-accepts}
+use Rattle.block.proofs.RuleLaws.{place-most}
+use Rattle.desk.specs.Sheet.{Rule, Sheet, concerns, isStated, ruleText}
+use Rattle.desk.specs.Desk.{TablesOf, slotOf, tableIn, Slot, Holds}
+use Rattle.desk.specs.declared.desk.Desk.{Desk}
+use Rattle.desk.proofs.HoldLaws.{nought-accepts}
 use Rattle.lines.specs.Grammar.{RulesFit, WellFormed}
 use Rattle.sheet.specs.Answer.{Question}
 use Rattle.sheet.specs.Inner.{rightsIn, learnIn}

@@ -9,21 +9,21 @@ use lib.ListN.{length, getD}
 use lib.Seq.{ext-getD}
 use Rattle.ground.proofs.Bools.{lt-or-ge}
 use Rattle.ground.proofs.Search.{least-unique}
-use Rattle.book.specs.Rule.{tablePlace, table}
+use Rattle.block.specs.Rule.{tablePlace, table}
 use Rattle.book.specs.Sound.{tablesOf}
 use Rattle.book.specs.Written.{bookOf}
-use Rattle.book.specs.declared.rule.Right.{Right}
-use Rattle.book.specs.declared.rule.Right.the-variants.{Look, Set}
+use Rattle.block.specs.declared.rule.Right.{Right}
+use Rattle.block.specs.declared.rule.Right.the-variants.{Look, Set}
 use Rattle.ground.proofs.Lists.{getD-part}
-use Rattle.book.proofs.RuleLaws.{place-most}
+use Rattle.block.proofs.RuleLaws.{place-most}
 use Rattle.plan.specs.Plans.{System, Lawful, Plan}
 use Rattle.plan.proofs.Written.{written-works, written-unique}
 use Rattle.printing.specs.Printed.{reachText, Prints}
 use Rattle.printing.proofs.Theorems.{prints-unique}
 use Rattle.question.specs.Question.{systemOf, startNumber}
 use Rattle.words.proofs.Unique.{mask-one}
-use Rattle.line.specs.Sheet.{Sheet}
-use Rattle.line.proofs.Unique.{table-one, tables-one}
+use Rattle.desk.specs.Sheet.{Sheet}
+use Rattle.desk.proofs.Unique.{table-one, tables-one}
 use Rattle.sheet.specs.Answer.{Question, PrintsFound}
 
 -- ---- rights

@@ -8,11 +8,11 @@ use native.Mathlib.Omega.{arith}
 use lib.ListN.{length, take, length-append}
 use lib.Seq.{take-at}
 use Rattle.ground.specs.Text.{bytes}
-use Rattle.formula.specs.Grammar.{text, meaning as truthOf, one, one-unit, one-product}
+use Rattle.grammar.specs.Grammar.{text, meaning as truthOf, one, one-unit, one-product}
+use Rattle.grammar.proofs.Meaning.{unambiguous}
 use Rattle.formula.specs.Read.{Accepts}
-use Rattle.formula.proofs.Meaning.{unambiguous}
 use Rattle.book.specs.Written.{bookOf}
-use Rattle.knowledge.specs.declared.act.Act.the-variants.{Set, Look}
+use Rattle.acts.specs.declared.act.Act.the-variants.{Set, Look}
 use Rattle.plan.specs.Plans.{System, Plan, stop, set-then, look-then, Permitted, Works, height}
 use Rattle.plan.specs.Secret.{Twins}
 use Rattle.plan.proofs.Ranks.{rank-least}
@@ -24,8 +24,8 @@ use Rattle.printing.proofs.Theorems.{prints-unique, refused-length, reach-lengt
 use Rattle.knowledge.specs.Learn.{learnTable}
 use Rattle.question.specs.Question.{systemOf, startNumber, NoMaking}
 use Rattle.finder.proofs.Theorems.{enough}
-use Rattle.line.specs.Sheet.{Sheet}
-use Rattle.line.specs.Desk.{TablesOf}
+use Rattle.desk.specs.Sheet.{Sheet}
+use Rattle.desk.specs.Desk.{TablesOf}
 use Rattle.lines.specs.Reading.{Meaning, refused, stated, meaning}
 use Rattle.lines.specs.Grammar.{WellFormed}
 use Rattle.lines.proofs.Taken.{stated-written}

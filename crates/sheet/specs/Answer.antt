@@ -8,17 +8,17 @@ use lib.ListN.{length, replicate}
 use Rattle.ground.specs.Digits.{bit}
 use Rattle.ground.specs.Search.{Least}
 use Rattle.formula.specs.Read.{Accepts}
-use Rattle.book.specs.Rule.{table}
+use Rattle.block.specs.Rule.{table}
 use Rattle.book.specs.Sound.{tablesOf}
 use Rattle.book.specs.Written.{bookOf}
-use Rattle.book.specs.declared.rule.Right.{Right}
+use Rattle.block.specs.declared.rule.Right.{Right}
 use Rattle.plan.specs.Plans.{System, Plan}
 use Rattle.plan.specs.Ranks.{Reach, Cannot, Written}
 use Rattle.printing.specs.Printed.{refusedText, cannotText, reachText, Prints}
 use Rattle.question.specs.Question.{systemOf, startNumber}
 use Rattle.words.specs.Words.{member}
-use Rattle.line.specs.Sheet.{Sheet, ruleText, knownSettings, knownTrue}
-use Rattle.line.specs.Desk.{TablesOf}
+use Rattle.desk.specs.Sheet.{Sheet, ruleText, knownSettings, knownTrue}
+use Rattle.desk.specs.Desk.{TablesOf}
 use Rattle.lines.specs.Reading.{Meaning, refused, stated, meaning}
 
 -- the question that a sheet asks: "Every rule and goal is worked on as a table", and a mask has a bit for each post or setting that is named

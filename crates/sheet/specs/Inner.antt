@@ -5,9 +5,9 @@ use lib.ListN.{take}
 use Rattle.book.specs.Written.{bookOf}
 use Rattle.plan.specs.Plans.{System}
 use Rattle.question.specs.Question.{systemOf, startNumber}
-use Rattle.line.specs.Sheet.{Sheet}
-use Rattle.line.specs.Desk.{Holds}
-use Rattle.line.specs.declared.desk.Desk.{Desk}
+use Rattle.desk.specs.Sheet.{Sheet}
+use Rattle.desk.specs.Desk.{Holds}
+use Rattle.desk.specs.declared.desk.Desk.{Desk}
 use Rattle.lines.specs.Grammar.{WellFormed}
 
 -- a whole sheet is on the desk

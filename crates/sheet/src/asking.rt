@@ -1,7 +1,7 @@
 // The question that a whole sheet asks, through the same book and the same finder as stored books. For
 // this crate alone: a whole sheet is on the desk.
+use desk::Desk;
 use finder::Answer;
-use line::Desk;
 use question::Question;
 ghost use mathlib.Core.Path.{_≡_};
 ghost use Prim.Native.Nat.{_+_, _*_};
@@ -36,7 +36,7 @@ fn find(desk: Desk, plan: &mut [u8]) -> Answer
 {
     let mut book = [0u8; BOOK_MOST];
     write_book(desk, &mut book);
-    let blocks = book::BLOCK * (1 + (desk.settings as usize));
+    let blocks = block::BLOCK * (1 + (desk.settings as usize));
     let question = Question {
         team: desk.team,
         known: desk.known,

@@ -10,10 +10,10 @@ use lib.ListN.{length, set, length-set}
 use lib.Seq.{getD-set-same, getD-set-other}
 use Rattle.ground.specs.Digits.{digit}
 use Rattle.ground.specs.Search.{all}
-use Rattle.knowledge.specs.Seven.{nowOf}
+use Rattle.acts.specs.Seven.{nowOf}
+use Rattle.acts.proofs.Seven.{at-digit}
 use Rattle.knowledge.specs.Number.{digitIn, digitsOf, sumOf}
 use Rattle.knowledge.proofs.Number.{digit-in}
-use Rattle.knowledge.proofs.Seven.{at-digit}
 use Rattle.sides.specs.Sides.{nowSideNumber}
 use Rattle.sides.specs.Apart.{Apart}
 use Rattle.sides.proofs.Shown.{now-number-lt}

@@ -17,7 +17,7 @@ use Rattle.ground.specs.Digits.{digit, put, bit}
 use Rattle.ground.proofs.Bits.{bit-and}
 use Rattle.ground.proofs.Bools.{lt-or-ge}
 use Rattle.ground.proofs.Digits.{put-same, put-other, put-lt, put-sum}
-use Rattle.knowledge.specs.Seven.{unknown, told}
+use Rattle.acts.specs.Seven.{unknown, told}
 use Rattle.knowledge.specs.Fits.{always, is}
 use Rattle.knowledge.proofs.Fits.{always-split, always-one}
 use Rattle.sides.proofs.Shown.{three}

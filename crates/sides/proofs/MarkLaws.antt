@@ -7,9 +7,9 @@ use native.Mathlib.Numerals.{add-one}
 use native.Mathlib.Omega.{arith}
 use lib.ListN.{getD}
 use Rattle.ground.specs.Digits.{digit}
+use Rattle.acts.specs.Seven.{nowOf, startOf}
+use Rattle.acts.proofs.Seven.{now-lt, start-lt}
 use Rattle.knowledge.specs.Number.{sumOf}
-use Rattle.knowledge.specs.Seven.{nowOf, startOf}
-use Rattle.knowledge.proofs.Seven.{now-lt, start-lt}
 use Rattle.sides.specs.Sides.{nowSideNumber, startSideNumber}
 use Rattle.sides.specs.Over.{markOf, Marks}
 use Rattle.sides.specs.Inner.{Stored, markAt}

@@ -9,8 +9,8 @@ use lib.Dec.{lit<}
 use Rattle.ground.specs.Digits.{digit}
 use Rattle.ground.proofs.Bits.{digit-zero, digit-suc}
 use Rattle.ground.proofs.Digits.{digit-lt, same-digits}
-use Rattle.knowledge.specs.Seven.{startOf, nowOf}
-use Rattle.knowledge.proofs.Seven.{now-lt, start-lt}
+use Rattle.acts.specs.Seven.{startOf, nowOf}
+use Rattle.acts.proofs.Seven.{now-lt, start-lt}
 use Rattle.knowledge.specs.Number.{sumOf}
 use Rattle.knowledge.proofs.Number.{sum-lt, digits-sum}
 use Rattle.sides.specs.Sides.{nowSideNumber, startSideNumber}

@@ -10,7 +10,7 @@ use lib.Pow.{pow-mono}
 use Rattle.ground.specs.Digits.{digit, bit}
 use Rattle.ground.proofs.Search.{below-suc}
 use Rattle.ground.proofs.Digits.{digit-top, digit-low}
-use Rattle.knowledge.specs.Seven.{told}
+use Rattle.acts.specs.Seven.{told}
 
 -- the first i settings of the side are told, and this is what they tell
 pub record ToldTo (side i rest power value weight : ℕ) : Type 0 where

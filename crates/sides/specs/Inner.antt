@@ -4,7 +4,7 @@ use mathlib.Core.List.{List}
 use Prim.Native.Nat.{ℕ, _^_, _≤_, _<_}
 use lib.ListN.{length, getD}
 use Rattle.ground.specs.Digits.{digit, bit}
-use Rattle.knowledge.specs.Seven.{unknown, told}
+use Rattle.acts.specs.Seven.{unknown, told}
 use Rattle.sides.specs.Sides.{nowSideNumber, startSideNumber}
 use Rattle.sides.specs.Over.{markOf}
 use Rattle.sides.specs.Fill.{FilledAt}

@@ -2,8 +2,8 @@
 -- "now" of paper 01's table of digits.
 use Prim.Native.Nat.{ℕ}
 use Rattle.ground.specs.Digits.{digit}
+use Rattle.acts.specs.Seven.{startOf, nowOf}
 use Rattle.knowledge.specs.Number.{sumOf}
-use Rattle.knowledge.specs.Seven.{startOf, nowOf}
 
 -- what the knowledge number k tells of the present values of n settings
 unfoldable pub nowSideNumber : ℕ → ℕ → ℕ

@@ -3,7 +3,7 @@ use ground::SETTINGS_MOST;
 use knowledge::Knowledge;
 ghost use mathlib.Core.Path.{_≡_};
 ghost use Prim.Native.Nat.{_^_, _≤_, _<_};
-ghost use Rattle.knowledge.specs.Seven.{nowOf};
+ghost use Rattle.acts.specs.Seven.{nowOf};
 ghost use Rattle.sides.specs.Sides.{nowSideNumber};
 ghost use Rattle.sides.specs.Apart.{Apart};
 

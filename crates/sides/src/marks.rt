@@ -1,8 +1,8 @@
 // The states in which a goal is settled, marked in a rank table by their knowledge numbers.
 use super::SIDES;
 use crate::counts::numbers;
-use knowledge::now_side;
-use knowledge::start_side;
+use acts::now_side;
+use acts::start_side;
 ghost use mathlib.Core.Path.{_≡_};
 ghost use Prim.Native.Nat.{_+_, _*_, _-_, _^_, _≤_, _<_};
 ghost use lib.ListN.{length};

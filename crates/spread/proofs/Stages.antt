@@ -8,8 +8,8 @@ use Prim.Native.Nat.{ℕ, _+_, _-_, _^_, _≤_, _<_}
 use native.Mathlib.Omega.{arith}
 use lib.ListN.{length}
 use Rattle.ground.proofs.Bools.{lt-or-ge}
-use Rattle.knowledge.specs.Acts.{setTo, lookAt}
-use Rattle.knowledge.proofs.Outcomes.{set-below, look-below}
+use Rattle.acts.specs.Acts.{setTo, lookAt}
+use Rattle.acts.proofs.Outcomes.{set-below, look-below}
 use Rattle.push.specs.Ranks.{rank, HasLower, by-set, by-look}
 use Rattle.spread.specs.Spread.{Ready, Spread}
 use Rattle.spread.specs.Inner.{Swept}

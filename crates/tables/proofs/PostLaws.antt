@@ -15,8 +15,8 @@ use lib.Seq.{getD-set-other}
 use Rattle.ground.specs.Digits.{digit, bit}
 use Rattle.ground.proofs.Bits.{bit-zero, bit-suc}
 use Rattle.ground.proofs.Bools.{lt-or-ge}
-use Rattle.book.specs.Rule.{rule, rulePlace}
-use Rattle.book.specs.declared.rule.Right.{Right}
+use Rattle.block.specs.Rule.{rule, rulePlace}
+use Rattle.block.specs.declared.rule.Right.{Right}
 use Rattle.knowledge.specs.Fits.{always}
 use Rattle.knowledge.proofs.Fits.{always-take}
 use Rattle.tables.proofs.ListLaws.{each-more}

@@ -8,8 +8,8 @@ use lib.Dec.{eqb}
 use lib.ListN.{getD}
 use Rattle.ground.specs.Digits.{digit, bit}
 use Rattle.ground.proofs.Search.{all-ext}
-use Rattle.book.specs.Rule.{rule}
-use Rattle.book.specs.declared.rule.Right.{Right}
+use Rattle.block.specs.Rule.{rule}
+use Rattle.block.specs.declared.rule.Right.{Right}
 use Rattle.knowledge.specs.Fits.{always, nowSide, startSide, known, oneValue, learnSettled}
 use Rattle.knowledge.specs.Learn.{learnCount, learnTable, allSettled}
 use Rattle.knowledge.proofs.Fits.{always-ext}

@@ -9,7 +9,7 @@ use lib.ListN.{getD}
 use lib.Seq.{ext-getD}
 use Rattle.ground.proofs.Bits.{same-bits}
 use Rattle.ground.proofs.Bools.{lt-or-ge}
-use Rattle.book.specs.declared.rule.Right.{Right}
+use Rattle.block.specs.declared.rule.Right.{Right}
 use Rattle.sides.specs.Over.{entry}
 use Rattle.tables.specs.Tables.{PostTables}
 

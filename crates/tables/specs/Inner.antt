@@ -7,8 +7,8 @@ use lib.Dec.{eqb}
 use lib.ListN.{length, getD, drop}
 use Rattle.ground.specs.Digits.{digit, bit}
 use Rattle.ground.specs.Table.{truth}
-use Rattle.book.specs.Rule.{rulePlace}
-use Rattle.book.specs.declared.rule.Right.{Right}
+use Rattle.block.specs.Rule.{rulePlace}
+use Rattle.block.specs.declared.rule.Right.{Right}
 use Rattle.knowledge.specs.Fits.{oneValue}
 use Rattle.sides.specs.Over.{oneOf}
 

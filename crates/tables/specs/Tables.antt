@@ -6,8 +6,8 @@ use Prim.Native.Nat.{ℕ, _^_, _≤_, _<_}
 use lib.ListN.{length, getD}
 use Rattle.ground.specs.Digits.{digit, bit}
 use Rattle.ground.specs.Search.{all}
-use Rattle.book.specs.Rule.{rule}
-use Rattle.book.specs.declared.rule.Right.{Right}
+use Rattle.block.specs.Rule.{rule}
+use Rattle.block.specs.declared.rule.Right.{Right}
 use Rattle.knowledge.specs.Fits.{always, oneValue}
 use Rattle.knowledge.specs.Learn.{learnCount, learnTable}
 use Rattle.sides.specs.Over.{entry, SideTable}

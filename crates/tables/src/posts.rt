@@ -1,5 +1,5 @@
 // Which posts of a team may act on each setting, at each present side.
-use book::Right;
+use block::Right;
 use ground::Present;
 use sides::SIDES;
 use sides::VALUATIONS;
@@ -11,7 +11,7 @@ ghost use Prim.Native.Nat.{_^_, _≤_, _<_};
 ghost use lib.ListN.{drop};
 ghost use Rattle.ground.specs.Digits.{bit};
 ghost use Rattle.ground.specs.Table.{truth};
-ghost use Rattle.book.specs.Rule.{rulePlace};
+ghost use Rattle.block.specs.Rule.{rulePlace};
 ghost use Rattle.tables.specs.Inner.{PostsAt, EachColumn, doubled};
 ghost use Rattle.tables.specs.Tables.{PostTables};
 
@@ -21,7 +21,7 @@ fn post_at(book: &[u8], team: u8, setting: u8, post: u8, right: Right, v: Presen
     ensures { λ r. ⌜ r ≡ (bit team post && truth (drop (rulePlace setting post right) (now (book .entry))) (v .0)) ⌝ }
 {
     if (team >> post) % 2 == 1 {
-        return v.finds(book, book::rule_at(setting, post, right));
+        return v.finds(book, block::rule_at(setting, post, right));
     }
     false
 }

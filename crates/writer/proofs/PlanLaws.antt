@@ -8,10 +8,10 @@ use native.Mathlib.Omega.{arith}
 use lib.ListN.{length, getD, set, length-append}
 use lib.Seq.{sets}
 use Rattle.ground.proofs.Lists.{sets-append}
-use Rattle.knowledge.specs.Acts.{setTo, lookAt, byteOf, planByte, settingOf}
-use Rattle.knowledge.proofs.Acts.{plan-byte}
-use Rattle.knowledge.specs.declared.act.Act.{Act}
-use Rattle.knowledge.specs.declared.act.Act.the-variants.{Set, Look}
+use Rattle.acts.specs.Acts.{setTo, lookAt, byteOf, planByte, settingOf}
+use Rattle.acts.proofs.Acts.{plan-byte}
+use Rattle.acts.specs.declared.act.Act.{Act}
+use Rattle.acts.specs.declared.act.Act.the-variants.{Set, Look}
 use Rattle.plan.specs.Plans.{System, after-set, after-look, Plan, stop, set-then, look-then}
 use Rattle.plan.specs.Ranks.{IsRank, Chosen, Written}
 use Rattle.plan.specs.Bytes.{encode}

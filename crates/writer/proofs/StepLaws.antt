@@ -12,13 +12,13 @@ use Rattle.ground.specs.Digits.{digit, bit}
 use Rattle.ground.specs.Search.{Least}
 use Rattle.ground.proofs.Bools.{T→false, true→T, false→T, both, decide, lt-or-ge}
 use Rattle.ground.proofs.Bits.{same-bits, bit-of-zero}
+use Rattle.acts.specs.Seven.{afterSet, afterLook}
+use Rattle.acts.specs.Acts.{setTo, lookAt, byteOf, ofKind, settingOf, postOf, kindOf}
+use Rattle.acts.specs.declared.act.Act.{Act}
+use Rattle.acts.specs.declared.act.Act.the-variants.{Set, Look}
+use Rattle.acts.proofs.Acts.{of-kind-of, byte-of-kind}
 use Rattle.knowledge.specs.Number.{digitIn, digitsOf, numberOf}
-use Rattle.knowledge.specs.Seven.{afterSet, afterLook}
-use Rattle.knowledge.specs.Acts.{setTo, lookAt, byteOf, ofKind, settingOf, postOf, kindOf}
-use Rattle.knowledge.specs.declared.act.Act.{Act}
-use Rattle.knowledge.specs.declared.act.Act.the-variants.{Set, Look}
 use lib.Arith.{digits-div, digits-mod}
-use Rattle.knowledge.proofs.Acts.{of-kind-of, byte-of-kind}
 use Rattle.knowledge.proofs.Number.{digits-are}
 use Rattle.writer.specs.declared.steps.Step.{Step}
 use Rattle.knowledge.proofs.States.{number-state, set-state, look-state}

@@ -5,9 +5,9 @@ use mathlib.Core.List.{List}
 use Prim.Native.Nat.{ℕ, _+_, _/_, _%_, _^_, _≤_, _<_}
 use lib.ListN.{length, getD}
 use Rattle.ground.specs.Digits.{digit, bit}
-use Rattle.knowledge.specs.Acts.{ofKind}
-use Rattle.knowledge.specs.declared.act.Act.{Act}
-use Rattle.knowledge.specs.declared.act.Act.the-variants.{Set, Look}
+use Rattle.acts.specs.Acts.{ofKind}
+use Rattle.acts.specs.declared.act.Act.{Act}
+use Rattle.acts.specs.declared.act.Act.the-variants.{Set, Look}
 use Rattle.plan.specs.Plans.{System, Lawful, may, Plan}
 use Rattle.plan.specs.Bytes.{encode}
 use Rattle.plan.specs.Ranks.{IsRank, Chosen, Written}

@@ -1,8 +1,8 @@
 // One step of the plan written: at a state, the act with the smallest byte whose outcomes all have a
 // lower rank, or a stop. The two tables have, for each setting and present side, a bit for each post
 // of the team that may set it, or look at it.
+use acts::Act;
 use ground::SETTINGS_MOST;
-use knowledge::Act;
 use knowledge::Knowledge;
 use sides::SIDES;
 ghost use mathlib.Core.Path.{_≡_};
@@ -12,8 +12,8 @@ ghost use lib.Dec.{T};
 ghost use lib.ListN.{length};
 ghost use Rattle.ground.specs.Digits.{bit};
 ghost use Rattle.ground.specs.Search.{Least};
-ghost use Rattle.knowledge.specs.Acts.{setTo, lookAt, ofKind};
-ghost use Rattle.knowledge.specs.declared.act.Act.the-variants.{Set, Look};
+ghost use Rattle.acts.specs.Acts.{setTo, lookAt, ofKind};
+ghost use Rattle.acts.specs.declared.act.Act.the-variants.{Set, Look};
 ghost use Rattle.plan.specs.Plans.{System};
 ghost use Rattle.sides.specs.Sides.{nowSideNumber};
 ghost use Rattle.writer.specs.Told.{Told, Tries, family, Chooses};

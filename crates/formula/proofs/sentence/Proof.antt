@@ -1,9 +1,9 @@
 -- `sentence` meets its contract: the sum that begins the text ends with it, or the text breaks.
 use native.Mathlib.Omega.{arith}
-use Rattle.formula.specs.Grammar as G
+use Rattle.grammar.specs.Grammar as G
+use Rattle.grammar.proofs.PartLaws.{as-read, as-broken, sum-short}
 use Rattle.formula.specs.declared.Refusal.the-variants.{NotSentence}
 use Rattle.formula.proofs.Answers.{refusal, broken, whole}
-use Rattle.formula.proofs.PartLaws.{as-read, as-broken, sum-short}
 use borrow.Author.Needs.{needs}
 use Rattle.formula.proofs.sentence.Statement.{statement}
 use Rattle.formula.proofs.sentence.Tie as tie

@@ -2,9 +2,9 @@
 use mathlib.Core.Path.{_≡_, sym, ap, _∙_, subst}
 use Prim.Native.Nat.{ℕ}
 use native.Mathlib.Omega.{arith}
-use Rattle.line.specs.declared.desk.Due.{Due}
-use Rattle.line.specs.declared.desk.Due.the-variants.{Asks}
-use Rattle.line.specs.declared.desk.Fault.the-variants.{Malformed}
+use Rattle.desk.specs.declared.desk.Due.{Due}
+use Rattle.desk.specs.declared.desk.Due.the-variants.{Asks}
+use Rattle.desk.specs.declared.desk.Fault.the-variants.{Malformed}
 use Rattle.lines.specs.Reading.{Meaning, ending}
 use Rattle.lines.specs.Reads.{Reads}
 use Rattle.lines.specs.declared.Told.the-variants.{Stated}

@@ -7,8 +7,8 @@ use lib.ListN.{take, drop}
 use lib.Seq.{length-take-le}
 use Rattle.words.specs.Words.{split, newline}
 use Rattle.words.proofs.Pieces.{piece-is}
+use Rattle.desk.specs.declared.desk.Fault.the-variants.{Malformed, Length}
 use Rattle.line.specs.Steps.{sizeStep}
-use Rattle.line.specs.declared.desk.Fault.the-variants.{Malformed, Length}
 use Rattle.lines.specs.Reading.{Meaning, lines}
 use Rattle.lines.specs.Reads.{Reads}
 use Rattle.lines.proofs.ReadLaws.{faulted-by, went-on-by, refused-is, too-long, no-line, size-faults, size-goes-on}

@@ -6,9 +6,9 @@ use native.Mathlib.Omega.{arith}
 use lib.ListN.{length, drop}
 use Rattle.words.specs.Words.{split, newline}
 use Rattle.words.proofs.Pieces.{part, piece-is}
-use Rattle.line.specs.Sheet.{Sheet}
+use Rattle.desk.specs.Sheet.{Sheet}
+use Rattle.desk.specs.Desk.{Holds}
 use Rattle.line.specs.Steps.{step}
-use Rattle.line.specs.Desk.{Holds}
 use Rattle.lines.specs.Reading.{Meaning, lines}
 use Rattle.lines.specs.Reads.{Reads}
 use Rattle.lines.proofs.ReadLaws.{faulted-by, went-on-by, refused-is, rest-ends, rest-faults, rest-goes-on}

@@ -5,7 +5,7 @@ use Prim.Native.Nat.{ℕ, _≤_, _<_, _-_}
 use native.Mathlib.Omega.{arith}
 use lib.ListN.{getD}
 use borrow.Author.Count.{below-more}
-use Rattle.book.specs.Block.{Zeros}
+use Rattle.block.specs.Block.{Zeros}
 use Rattle.book.proofs.reading.is_plain.Statement.{statement}
 use Rattle.book.proofs.reading.is_plain.Tie as tie
 

@@ -1,6 +1,6 @@
 -- `book::reading::is_whole` meets its contract: each test is one field of `Whole`.
 use native.Mathlib.Omega.{arith}
-use Rattle.book.specs.Block.{blocks}
+use Rattle.book.specs.Refusals.{blocks}
 use Rattle.book.proofs.reading.is_whole.Statement.{statement}
 use Rattle.book.proofs.reading.is_whole.Tie as tie
 

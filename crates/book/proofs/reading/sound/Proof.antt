@@ -3,9 +3,9 @@ use mathlib.Core.Path.{subst}
 use Prim.Native.Nat.{ℕ, _+_, _≤_, _<_}
 use native.Mathlib.Omega.{arith}
 use denote.Ref.{now}
-use Rattle.book.specs.Block.{blocks, block, RightCheck}
-use Rattle.book.specs.Sound.{SettingBlock}
-use Rattle.book.specs.Refusals.{Whole, settingsOf, postsOf, RightHead}
+use Rattle.book.specs.Refusals.{blocks, Whole, settingsOf, postsOf, RightHead}
+use Rattle.block.specs.Block.{block, RightCheck}
+use Rattle.block.specs.Kinds.{SettingBlock}
 use Rattle.ground.specs.Search.{Lowest}
 use Rattle.ground.proofs.Answers.{told, untold, lowest-all}
 use Rattle.book.proofs.BookLaws.{whole-length}

@@ -2,7 +2,8 @@
 use native.Mathlib.Omega.{arith}
 use denote.Ref.{now}
 use Rattle.ground.specs.Bounds.{SettingsFit, PostsFit}
-use Rattle.book.specs.Sound.{Tables, tablesOf}
+use Rattle.block.specs.Kinds.{Tables}
+use Rattle.book.specs.Sound.{tablesOf}
 use Rattle.ground.specs.Search.{Lowest}
 use Rattle.ground.proofs.Answers.{lowest-all}
 use Rattle.book.proofs.RefusalLaws.{refuse-settings, refuse-posts, refuse-size, refuse-tables, refuse-room, lowest-tables}

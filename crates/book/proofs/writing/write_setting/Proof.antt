@@ -6,8 +6,9 @@ use Prim.Native.Nat.{_+_, _*_}
 use denote.Ref.{now}
 use lib.ListN.{length, length-append, length-replicate, replicate}
 use Rattle.book.specs.Sound.{tablesOf}
-use Rattle.book.specs.Written.{settingBlock}
-use Rattle.book.proofs.WriteLaws.{run-on, seal-on, length-tables}
+use Rattle.block.specs.Sealed.{settingBlock}
+use Rattle.block.proofs.SealLaws.{run-on, seal-on}
+use Rattle.book.proofs.WriteLaws.{length-tables}
 use borrow.Author.Needs.{needs}
 use Rattle.book.proofs.writing.write_setting.Statement.{statement}
 use Rattle.book.proofs.writing.write_setting.Tie as tie

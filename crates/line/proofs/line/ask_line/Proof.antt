@@ -3,8 +3,9 @@ use mathlib.Core.Path.{sym, _∙_}
 use borrow.Author.Tests.{not-true, not-false}
 use Rattle.ground.specs.Text.{bytes}
 use Rattle.words.proofs.Fronts.{begins-length}
-use Rattle.line.specs.declared.desk.Fault.the-variants.{Malformed}
-use Rattle.line.proofs.Turns.{faulty, ask-other, ask-fifth, ask-read}
+use Rattle.desk.specs.declared.desk.Fault.the-variants.{Malformed}
+use Rattle.desk.proofs.Turns.{faulty}
+use Rattle.line.proofs.Turns.{ask-other, ask-fifth, ask-read}
 use borrow.Author.Needs.{needs}
 use Rattle.line.proofs.line.ask_line.Statement.{statement}
 use Rattle.line.proofs.line.ask_line.Tie as tie

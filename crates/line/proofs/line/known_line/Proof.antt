@@ -1,7 +1,8 @@
 -- `known_line` meets its contract, by what the line names.
 use native.Mathlib.Omega.{arith}
-use Rattle.line.specs.declared.desk.Fault.the-variants.{Malformed, Twice}
-use Rattle.line.proofs.Turns.{faulty, known-malformed, known-twice, known-taken}
+use Rattle.desk.specs.declared.desk.Fault.the-variants.{Malformed, Twice}
+use Rattle.desk.proofs.Turns.{faulty}
+use Rattle.line.proofs.Turns.{known-malformed, known-twice, known-taken}
 use borrow.Author.Needs.{needs}
 use Rattle.line.proofs.line.known_line.Statement.{statement}
 use Rattle.line.proofs.line.known_line.Tie as tie

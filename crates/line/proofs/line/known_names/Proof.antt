@@ -1,7 +1,7 @@
 -- `known_names` meets its contract, test by test.
 use mathlib.Core.Path.{sym, _∙_}
 use borrow.Author.Tests.{not-true, not-false}
-use Rattle.line.proofs.FormLaws.{inside}
+use Rattle.desk.proofs.FormLaws.{inside}
 use Rattle.line.proofs.Turns.{known-other, known-alone, known-spaceless, known-names}
 use borrow.Author.Needs.{needs}
 use Rattle.line.proofs.line.known_names.Statement.{statement}

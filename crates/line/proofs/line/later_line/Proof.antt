@@ -1,8 +1,8 @@
 -- `later_line` meets its contract, by what is due.
 use mathlib.Core.Path.{sym, subst}
+use Rattle.desk.specs.Desk.{Steps}
+use Rattle.desk.specs.declared.desk.Due.{Due}
 use Rattle.line.specs.Steps.{step}
-use Rattle.line.specs.Desk.{Steps}
-use Rattle.line.specs.declared.desk.Due.{Due}
 use borrow.Author.Needs.{needs}
 use Rattle.line.proofs.line.later_line.Statement.{statement}
 use Rattle.line.proofs.line.later_line.Tie as tie

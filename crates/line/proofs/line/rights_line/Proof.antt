@@ -3,8 +3,8 @@ use mathlib.Core.Path.{refl, sym, _∙_, subst}
 use mathlib.Core.Bool.{true, false}
 use lib.Dec.{lit<}
 use Rattle.ground.proofs.Bools.{true→T}
-use Rattle.line.specs.Steps.{Step}
-use Rattle.line.specs.Desk.{Steps}
+use Rattle.desk.specs.Steps.{Step}
+use Rattle.desk.specs.Desk.{Steps}
 use Rattle.line.proofs.Turns.{rights-of}
 use borrow.Author.Needs.{needs}
 use Rattle.line.proofs.line.rights_line.Statement.{statement}

@@ -3,13 +3,13 @@ use mathlib.Core.Path.{sym, _∙_, subst}
 use Prim.Native.Nat.{ℕ, _-_, _<_}
 use native.Mathlib.Omega.{arith}
 use borrow.Author.Tests.{not-true, not-false}
+use Rattle.desk.specs.Steps.{sized}
+use Rattle.desk.specs.Desk.{Holds}
+use Rattle.desk.specs.declared.desk.Fault.the-variants.{Malformed, Settings}
+use Rattle.desk.proofs.Turns.{faulty, taken}
 use Rattle.line.specs.Forms.{digitAt}
-use Rattle.line.specs.Steps.{sized}
-use Rattle.line.specs.Desk.{Holds}
-use Rattle.line.specs.declared.desk.Fault.the-variants.{Malformed, Settings}
 use Rattle.line.proofs.FormLaws.{size-bounds, digit-of}
 use Rattle.line.proofs.StepLaws.{size-malformed, size-large, size-next}
-use Rattle.line.proofs.Turns.{faulty, taken}
 use borrow.Author.Needs.{needs}
 use Rattle.line.proofs.line.size_line.Statement.{statement}
 use Rattle.line.proofs.line.size_line.Tie as tie

@@ -1,6 +1,7 @@
 -- `team_line` meets its contract, by what the line names.
-use Rattle.line.specs.declared.desk.Fault.the-variants.{Malformed, Twice}
-use Rattle.line.proofs.Turns.{faulty, team-malformed, team-twice, team-taken}
+use Rattle.desk.specs.declared.desk.Fault.the-variants.{Malformed, Twice}
+use Rattle.desk.proofs.Turns.{faulty}
+use Rattle.line.proofs.Turns.{team-malformed, team-twice, team-taken}
 use borrow.Author.Needs.{needs}
 use Rattle.line.proofs.line.team_line.Statement.{statement}
 use Rattle.line.proofs.line.team_line.Tie as tie

@@ -2,8 +2,8 @@
 use mathlib.Core.Path.{subst}
 use mathlib.Core.Bool.{true, false}
 use Prim.Native.Nat.{_<_}
-use Rattle.knowledge.specs.Acts.{settingOf}
-use Rattle.knowledge.specs.declared.act.Act.{Act}
+use Rattle.acts.specs.Acts.{settingOf}
+use Rattle.acts.specs.declared.act.Act.{Act}
 use Rattle.plancheck.proofs.ReadingLaws.{set-number, look-number, set-goes, look-parts}
 use borrow.Author.Needs.{needs}
 use Rattle.plancheck.proofs.reading.outcomes_of.Statement.{statement}

@@ -5,8 +5,8 @@ use mathlib.Core.Path.{sym, ap, _∙_}
 use Prim.Native.Nat.{ℕ, _-_, _<_}
 use native.Mathlib.Omega.{arith}
 use lib.ListN.{length}
-use Rattle.knowledge.specs.declared.act.Named.the-variants.{One}
-use Rattle.knowledge.proofs.Acts.{byte-of-act}
+use Rattle.acts.specs.declared.act.Named.the-variants.{One}
+use Rattle.acts.proofs.Acts.{byte-of-act}
 use Rattle.text.proofs.Writing.{wrote-length}
 use Rattle.printing.proofs.Shown.{shown-here}
 use Rattle.printing.proofs.Lined.{wrote-act, stop-ends, stop-lined, act-ends, set-next, set-lined, false-next, true-next, look-lined}
@@ -15,7 +15,7 @@ use borrow.Fn.PlainCycle.{Measures, is, falls, and}
 use Rattle.printing.proofs.lines.lines.Reads as lines
 use Rattle.printing.proofs.lines.lines.Kinds as lines-kinds
 use Rattle.printing.proofs.lines.+lines.Lts-lines as lines-lts
-use Rattle.knowledge.proofs.act.Act.of_byte.Reads as of-byte-reads
+use Rattle.acts.proofs.act.Act.of_byte.Reads as of-byte-reads
 use Rattle.printing.proofs.lines.act_line.Reads as act-line-reads
 use Rattle.printing.proofs.lines.line.Reads as line-reads
 use Rattle.printing.proofs.lines.+lines.{statement}

@@ -6,7 +6,7 @@ use lib.ListN.{drop}
 use lib.Pow.{pow-mono}
 use Rattle.ground.specs.Digits.{bit}
 use Rattle.ground.specs.Table.{truth}
-use Rattle.book.specs.Rule.{rulePlace}
+use Rattle.block.specs.Rule.{rulePlace}
 use Rattle.tables.proofs.PostLaws.{BitsFrom, bits-none, bits-more, bits-all}
 use Rattle.tables.proofs.posts.posts_at.Statement.{statement}
 use Rattle.tables.proofs.posts.posts_at.Tie as tie

@@ -3,7 +3,7 @@ use mathlib.Core.Path.{_≡_, refl, sym, ap, _∙_, subst}
 use mathlib.Core.Bool.{false, true}
 use native.Mathlib.Omega.{arith}
 use lib.ListN.{getD}
-use Rattle.knowledge.specs.declared.act.Act.the-variants.{Set, Look}
+use Rattle.acts.specs.declared.act.Act.the-variants.{Set, Look}
 use Rattle.plan.specs.Plans.{stop}
 use Rattle.writer.specs.Told.{Chooses, Ranked}
 use Rattle.writer.specs.declared.steps.Step.the-variants.{Stop, Do}

@@ -5,8 +5,8 @@ use mathlib.Core.Bool.{false, true}
 use Prim.Native.Nat.{_+_}
 use native.Mathlib.Omega.{arith}
 use lib.ListN.{length, getD, length-set}
-use Rattle.knowledge.specs.Acts.{planByte}
-use Rattle.knowledge.specs.declared.act.Act.the-variants.{Set, Look}
+use Rattle.acts.specs.Acts.{planByte}
+use Rattle.acts.specs.declared.act.Act.the-variants.{Set, Look}
 use Rattle.plan.specs.Plans.{stop}
 use Rattle.writer.specs.Told.{Chooses, Ranked, Room}
 use Rattle.writer.specs.declared.steps.Step.the-variants.{Stop, Do}
@@ -21,7 +21,7 @@ use Rattle.writer.proofs.written.+write.Lts-write as write-lts
 use Rattle.writer.proofs.steps.choose.Reads as choose-reads
 use Rattle.writer.proofs.steps.look_at.Reads as look-at-reads
 use Rattle.writer.proofs.steps.set_to.Reads as set-to-reads
-use Rattle.knowledge.proofs.act.Act.byte.Reads as byte-reads
+use Rattle.acts.proofs.act.Act.byte.Reads as byte-reads
 use Rattle.writer.proofs.written.+write.{statement}
 use Rattle.writer.proofs.written.+write.Tie.{close}
 

@@ -2,7 +2,7 @@
 use borrow.Author.Needs.{needs}
 use mathlib.Core.Path.{sym, _∙_}
 use lib.Dec.{leb}
-use Rattle.knowledge.specs.Acts.{allowed}
+use Rattle.knowledge.specs.Allowed.{allowed}
 use Rattle.knowledge.proofs.Allowed.{and-false}
 use Rattle.knowledge.proofs.state.Knowledge.allows.Statement.{statement}
 use Rattle.knowledge.proofs.state.Knowledge.allows.Tie as tie

@@ -1,0 +1,54 @@
+-- What an act does to a knowledge number: one digit changes, the number stays below 7 ^ n, and a look at digit 0 makes one
+-- unknown setting known.
+use mathlib.Core.Path.{_≡_}
+use mathlib.Core.Bool.{Bool}
+use Prim.Native.Nat.{ℕ, suc, _^_, _<_}
+use native.Mathlib.Omega.{arith}
+use lib.Dec.{lit<}
+use Rattle.ground.specs.Digits.{digit}
+use Rattle.ground.proofs.Digits.{digit-lt, put-same, put-other, put-lt}
+use Rattle.acts.specs.Seven.{afterSet, afterLook}
+use Rattle.acts.specs.Acts.{setTo, lookAt}
+use Rattle.acts.proofs.Seven.{set-lt, look-lt, look-known}
+use Rattle.acts.proofs.Unknowns.{counts, counts-known, unknowns, unknowns-change}
+
+seven : 0 < 7
+seven = lit< tt
+
+module _ (k i : ℕ) (b : Bool) where
+  small : digit 7 k i < 7
+  small = digit-lt seven k i
+
+  -- the digit of a changed state: at the act's setting, and elsewhere
+  pub set-here : digit 7 (setTo k i b) i ≡ afterSet (digit 7 k i) b
+  unfolding setTo
+  set-here = put-same seven k i (afterSet (digit 7 k i) b) (set-lt (digit 7 k i) b small)
+
+  pub set-other : (j : ℕ) → (j ≡ i → ⊥) → digit 7 (setTo k i b) j ≡ digit 7 k j
+  unfolding setTo
+  set-other j ne = put-other seven k i j (afterSet (digit 7 k i) b) (set-lt (digit 7 k i) b small) ne
+
+  pub look-here : digit 7 (lookAt k i b) i ≡ afterLook b
+  unfolding lookAt
+  look-here = put-same seven k i (afterLook b) (look-lt b)
+
+  pub look-other : (j : ℕ) → (j ≡ i → ⊥) → digit 7 (lookAt k i b) j ≡ digit 7 k j
+  unfolding lookAt
+  look-other j ne = put-other seven k i j (afterLook b) (look-lt b) ne
+
+  -- an act keeps the number below 7 ^ n
+  pub set-below : (n : ℕ) → k < 7 ^ n → i < n → setTo k i b < 7 ^ n
+  unfolding setTo
+  set-below n h l = put-lt seven k i n (afterSet (digit 7 k i) b) h l (set-lt (digit 7 k i) b small)
+
+  pub look-below : (n : ℕ) → k < 7 ^ n → i < n → lookAt k i b < 7 ^ n
+  unfolding lookAt
+  look-below n h l = put-lt seven k i n (afterLook b) h l (look-lt b)
+
+  -- a look at digit 0 makes one unknown setting known
+  module _ (at : digit 7 k i ≡ 0) where
+    pub look-unknowns : (n : ℕ) → i < n → suc (unknowns n (digit 7 (lookAt k i b))) ≡ unknowns n (digit 7 k)
+    unfolding counts
+    look-unknowns n l =
+        let moved = unknowns-change n i (digit 7 k) (digit 7 (lookAt k i b)) l look-other in
+        omega (arith, rw (at, look-here, counts-known (afterLook b) (look-known b)) at moved)

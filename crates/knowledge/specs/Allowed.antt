@@ -1,0 +1,21 @@
+-- "Acts, by a post of the team": which of them the team may do, by what it knows. d i is the digit of setting i (Fits).
+use mathlib.Core.Bool.{Bool, _&&_}
+use mathlib.Core.List.{List}
+use Prim.Native.Nat.{ℕ}
+use lib.Dec.{eqb}
+use Rattle.block.specs.Rule.{rule}
+use Rattle.block.specs.declared.rule.Right.the-variants.{Look as look-rule, Set as set-rule}
+use Rattle.acts.specs.Acts.{offered}
+use Rattle.acts.specs.declared.act.Act.{Act}
+use Rattle.acts.specs.declared.act.Act.the-variants.{Set, Look}
+use Rattle.knowledge.specs.Fits.{known}
+
+-- "set a setting false or true, where its set rule for that post is known to hold; look, where the look rule is known to hold
+-- and the digit is 0"
+unfoldable pub permitted : ℕ → List ℕ → (ℕ → ℕ) → Act → Bool
+permitted n book d (Set i q b) = known n d (rule book i q set-rule)
+permitted n book d (Look i q) = known n d (rule book i q look-rule) && eqb (d i) 0
+
+-- an act that the team may do where it knows the digits d
+unfoldable pub allowed : ℕ → List ℕ → ℕ → (ℕ → ℕ) → Act → Bool
+allowed n book team d a = offered n team a && permitted n book d a
