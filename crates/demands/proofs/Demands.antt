@@ -27,7 +27,7 @@ use Rattle.plan.specs.Plans.{Plan, Permitted, Works, height}
 use Rattle.plan.specs.Ranks.{Written as WrittenFrom}
 use Rattle.plan.specs.Bytes.{encode}
 use Rattle.plan.specs.Secret.{Twins}
-use Rattle.knowledge.specs.Learn.{learnCount, learnTable}
+use Rattle.knowledge.specs.Goal.{learnCount, learnTable}
 use Rattle.question.specs.Rows.{number, place}
 use Rattle.question.specs.Question.{startNumber, NoMaking}
 use Rattle.question.specs.Asks.{ValidQuestion}

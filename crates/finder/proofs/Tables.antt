@@ -31,7 +31,8 @@ use Rattle.tables.specs.Tables.{PostTables, Made, Learnt}
 use Rattle.tables.proofs.Tables.{post-known, goal-marked}
 use Rattle.push.specs.Ranks.{rank, May, HasLower, by-set, by-look}
 use Rattle.spread.specs.Spread.{Spread}
-use Rattle.question.specs.Question.{goalSettled, systemOf}
+use Rattle.knowledge.specs.Goal.{goalSettled}
+use Rattle.question.specs.Question.{systemOf}
 use Rattle.writer.specs.Told.{Told}
 use Rattle.writer.proofs.StepLaws.{some-bit}
 

@@ -24,8 +24,8 @@ use Rattle.plan.proofs.Ranks.{rank-least, rank-most, has-rank, rank-reach}
 use Rattle.plan.proofs.Written.{written-works, written-height}
 use Rattle.plan.proofs.Accepted.{written-most}
 use Rattle.plan.proofs.Secret.{secret}
-use Rattle.knowledge.specs.Learn.{learnCount, learnTable, allSettled}
-use Rattle.question.specs.Question.{goalSettled, systemOf, startNumber, NoMaking}
+use Rattle.knowledge.specs.Goal.{learnCount, learnTable, allSettled, goalSettled}
+use Rattle.question.specs.Question.{systemOf, startNumber, NoMaking}
 use Rattle.question.specs.Rows.{number, place}
 use Rattle.question.specs.Asks.{ValidQuestion}
 use Rattle.finder.specs.Finds.{RanksFilled, Finds, findRows}

@@ -1,5 +1,4 @@
--- Laws that callers cite, one file for each definition of specs/ or idea; then what settles the contracts, and what only this
--- crate's own proofs use.
+-- Laws that callers cite, one file for each definition of specs/ or idea; then what settles the contracts.
 pub mod Number
 pub mod States
 pub mod Fits
@@ -7,4 +6,3 @@ pub mod Known
 pub mod Allowed
 pub mod Unique
 pub mod Examples
-mod Loop

@@ -9,12 +9,6 @@ use Rattle.knowledge.proofs.state.Knowledge.number.Reads as number
 use Rattle.knowledge.proofs.state.Knowledge.digit.Reads as digit
 use Rattle.knowledge.proofs.state.Knowledge.after_set.Reads as after-set
 use Rattle.knowledge.proofs.state.Knowledge.after_look.Reads as after-look
-use Rattle.knowledge.proofs.state.Knowledge.fits_present.Reads as fits-present
-use Rattle.knowledge.proofs.state.Knowledge.fits_start.Reads as fits-start
-use Rattle.knowledge.proofs.state.Knowledge.known_to_hold.Reads as known-to-hold
-use Rattle.knowledge.proofs.state.Knowledge.learn_settled.Reads as learn-settled
-use Rattle.knowledge.proofs.state.Knowledge.permits.Reads as permits
-use Rattle.knowledge.proofs.state.Knowledge.allows.Reads as allows
 
 -- two states with the same digits are the same state
 same-state : {x y : Knowledge} → x .digits ≡ y .digits → x ≡ y
@@ -37,21 +31,3 @@ after-set-unique κs a x y s p q = same-state (p ∙ sym q)
 
 pub after-look-unique : (κs : _) (a : _) (x y : _) (s : _) → after-look.Post κs a x s → after-look.Post κs a y s → x ≡ y
 after-look-unique κs a x y s p q = same-state (p ∙ sym q)
-
-pub fits-present-unique : (κs : _) (a : _) (x y : _) (s : _) → fits-present.Post κs a x s → fits-present.Post κs a y s → x ≡ y
-fits-present-unique κs a x y s p q = p ∙ sym q
-
-pub fits-start-unique : (κs : _) (a : _) (x y : _) (s : _) → fits-start.Post κs a x s → fits-start.Post κs a y s → x ≡ y
-fits-start-unique κs a x y s p q = p ∙ sym q
-
-pub known-to-hold-unique : (κs : _) (a : _) (x y : _) (s : _) → known-to-hold.Post κs a x s → known-to-hold.Post κs a y s → x ≡ y
-known-to-hold-unique κs a x y s p q = p ∙ sym q
-
-pub learn-settled-unique : (κs : _) (a : _) (x y : _) (s : _) → learn-settled.Post κs a x s → learn-settled.Post κs a y s → x ≡ y
-learn-settled-unique κs a x y s p q = p ∙ sym q
-
-pub permits-unique : (κs : _) (a : _) (x y : _) (s : _) → permits.Post κs a x s → permits.Post κs a y s → x ≡ y
-permits-unique κs a x y s p q = p ∙ sym q
-
-pub allows-unique : (κs : _) (a : _) (x y : _) (s : _) → allows.Post κs a x s → allows.Post κs a y s → x ≡ y
-allows-unique κs a x y s p q = p ∙ sym q

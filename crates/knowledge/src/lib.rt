@@ -1,9 +1,5 @@
-// What a team knows: a state of one digit for each setting, which valuations fit it, when a rule is
-// known to hold, and which acts that allows. A rule over more settings than seven is not known to hold.
+// What a team knows: a state of one digit for each setting, its number, and what an act makes of it.
 // Nothing is written to what a caller lends.
-mod judge;
-mod permit;
 mod state;
-mod valuation;
 
 pub use state::Knowledge;

@@ -25,8 +25,8 @@ use Rattle.plan.proofs.Written.{written-works}
 use Rattle.plan.proofs.States.{elem}
 use Rattle.plan.proofs.Sample.{entry, ranked, writes, sample-rank, sample-written}
 use Rattle.plan.proofs.Trap.{trap, trapped}
-use Rattle.knowledge.specs.Learn.{learnTable, allSettled}
-use Rattle.question.specs.Question.{goalSettled, systemOf, startNumber}
+use Rattle.knowledge.specs.Goal.{learnTable, allSettled, goalSettled}
+use Rattle.question.specs.Question.{systemOf, startNumber}
 use Rattle.marked.specs.Row.{Case, Holds, reaches, cannot}
 use Rattle.marked.proofs.Valid.{Well, well, tested, valid, every, pick}
 use Rattle.marked.proofs.OneAnswer.{systemFor, startFor, law, answers, one-reach, one-cannot, all-ranks}

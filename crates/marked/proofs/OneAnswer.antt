@@ -21,7 +21,8 @@ use Rattle.plan.specs.Bytes.{encode}
 use Rattle.plan.proofs.Ranks.{has-rank}
 use Rattle.plan.proofs.Written.{written-works, written-unique}
 use Rattle.plan.proofs.Team.{team-lawful}
-use Rattle.question.specs.Question.{goalSettled, systemOf, startNumber}
+use Rattle.knowledge.specs.Goal.{goalSettled}
+use Rattle.question.specs.Question.{systemOf, startNumber}
 use Rattle.question.specs.Rows.{number, place, questionRows}
 use Rattle.finder.specs.Finds.{RanksFilled, Answers, Finds, findRows}
 use Rattle.question.specs.declared.Refusal.the-variants.{Book, Team, Known, Goal, Ranks, PlanRoom}

@@ -23,7 +23,7 @@ use Rattle.ground.proofs.Lists.{length-part}
 use Rattle.block.proofs.RuleLaws.{place-most}
 use Rattle.book.proofs.WriteLaws.{length-tables}
 use Rattle.book.proofs.RoundTrip.{written-sound}
-use Rattle.knowledge.specs.Learn.{learnTable}
+use Rattle.knowledge.specs.Goal.{learnTable}
 use Rattle.question.specs.Asks.{ValidQuestion}
 use Rattle.question.proofs.QuestionLaws.{bits-low}
 use Rattle.marked.specs.Row.{Case, bookFor, first, tables}

@@ -21,8 +21,8 @@ use Rattle.knowledge.specs.Allowed.{permitted}
 use Rattle.plan.specs.Plans.{may}
 use Rattle.plan.proofs.Check.{judge-on, judge-fails, read-act, read-unsettled}
 use Rattle.plan.specs.Check.{not-settled, faulty, check}
-use Rattle.knowledge.specs.Learn.{learnTable, allSettled}
-use Rattle.question.specs.Question.{goalSettled, systemOf, startNumber}
+use Rattle.knowledge.specs.Goal.{learnTable, allSettled, goalSettled}
+use Rattle.question.specs.Question.{systemOf, startNumber}
 use Rattle.question.specs.Asks.{ValidQuestion}
 use Rattle.question.specs.declared.Question.{Question}
 use Rattle.plancheck.specs.Checks.{Checks}

@@ -1,6 +1,5 @@
 -- Laws that this crate's proofs cite, one file for each idea; then what is proved of `check`, and a marked example.
 pub mod SystemLaws
-pub mod GoalLaws
 pub mod ReadingLaws
 pub mod ByteLaws
 pub mod EndLaws

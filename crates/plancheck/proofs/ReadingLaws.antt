@@ -21,12 +21,13 @@ use Rattle.knowledge.proofs.Number.{digits-are}
 use Rattle.knowledge.proofs.States.{number-state, set-state, look-state}
 use Rattle.plan.specs.Check.{goes-on, outcomes, readAct, readNamed, readByte}
 use Rattle.plan.proofs.Check.{read-named}
-use Rattle.question.specs.Question.{goalSettled, systemOf}
+use Rattle.knowledge.specs.Goal.{goalSettled}
+use Rattle.question.specs.Question.{systemOf}
 use Rattle.plancheck.specs.Inner.{readingOf}
 use Rattle.plancheck.specs.declared.answer.Refusal.the-variants.{NoAct, NotPermitted, NotSettled}
 use Rattle.plancheck.specs.declared.reading.Reading.{Reading}
 use Rattle.plancheck.specs.declared.reading.Reading.the-variants.{Stops, Goes, Parts, Fails}
-use Rattle.plancheck.proofs.GoalLaws.{unguarded}
+use Rattle.judging.proofs.GoalLaws.{unguarded}
 
 -- the number of the state after an act at k
 module _ (k i : ℕ) (b : Bool) (small : k < 7 ^ 7) (seven : i < 7) where

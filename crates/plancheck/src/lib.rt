@@ -4,7 +4,6 @@
 // this crate alone: up to seven settings, and numbers of seven digits.
 mod answer;
 mod desk;
-mod goal;
 mod reading;
 mod walk;
 

@@ -1,8 +1,8 @@
 // What one byte of a plan comes to at a knowledge number.
 use crate::answer::Refusal;
-use crate::goal::is_settled;
 use acts::Act;
 use acts::Named;
+use judging::is_settled;
 use knowledge::Knowledge;
 ghost use mathlib.Core.Path.{_≡_};
 ghost use Prim.Native.Nat.{_^_, _≤_, _<_};
@@ -51,7 +51,7 @@ fn read_act(n: u8, book: &[u8], team: u8, k: u32, at: usize, act: Act) -> Readin
     if !act.offered(n, team) {
         return Reading::Fails(Refusal::NoAct(at));
     }
-    if !Knowledge::from_number(k).permits(n, book, act) {
+    if !judging::permits(Knowledge::from_number(k), n, book, act) {
         return Reading::Fails(Refusal::NotPermitted(at));
     }
     outcomes_of(k, act)

@@ -18,7 +18,7 @@ use Rattle.ground.proofs.Bits.{same-bits, bit-or}
 use Rattle.ground.proofs.HighBits.{high-bit, shift-none}
 use Rattle.ground.proofs.HighBits as High
 use Rattle.ground.proofs.Table.{truth-take}
-use Rattle.knowledge.specs.Learn.{learnTable}
+use Rattle.knowledge.specs.Goal.{learnTable}
 use Rattle.question.specs.Rows.{TeamFits, KnownFits, LearnWithin}
 
 -- a test tells what it is equivalent to

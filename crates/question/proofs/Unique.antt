@@ -16,7 +16,8 @@ use Rattle.book.proofs.Theorems as B
 use Rattle.book.specs.declared.refusal.Refusal.the-variants.{Settings, Length, Check, Head, StrayBit, Room}
 use Rattle.plan.specs.Plans.{Lawful}
 use Rattle.plan.proofs.Team.{team-lawful}
-use Rattle.question.specs.Question.{goalSettled, systemOf}
+use Rattle.knowledge.specs.Goal.{goalSettled}
+use Rattle.question.specs.Question.{systemOf}
 use Rattle.question.specs.Rows.{number, place, TeamFits, questionRows}
 use Rattle.question.proofs.QuestionLaws.{low-bits}
 use Rattle.question.specs.Asks.{ValidQuestion, Asks}

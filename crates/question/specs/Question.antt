@@ -1,21 +1,14 @@
 -- A question: "a book of rights: settings, posts, look and set rules, a team, what it knows, and a goal". It fixes the acts that the team may do at
 -- each knowledge number, and the knowledge numbers at which the goal is settled: a system of plans.
 use mathlib.Core.Path.{_≡_}
-use mathlib.Core.Bool.{Bool, true, _&&_}
+use mathlib.Core.Bool.{true}
 use mathlib.Core.List.{List}
 use Prim.Native.Nat.{ℕ, _^_, _<_}
-use Rattle.ground.specs.Digits.{digit}
 use Rattle.ground.specs.Table.{truth}
 use Rattle.knowledge.specs.Number.{numberOf, firstAt}
-use Rattle.knowledge.specs.Fits.{known}
+use Rattle.knowledge.specs.Goal.{goalSettled}
 use Rattle.plan.specs.Plans.{System}
 use Rattle.plan.specs.Team.{ofTeam}
-use Rattle.knowledge.specs.Learn.{allSettled}
-
--- "The goal is settled when the make formula is true at every fitting present valuation, and each learn formula has one same value at all fitting
--- start valuations."
-unfoldable pub goalSettled : ℕ → List ℕ → List ℕ → ℕ → Bool
-goalSettled n make learn k = known n (digit 7 k) make && allSettled n (digit 7 k) learn
 
 -- the system of a question over n settings
 unfoldable pub systemOf : ℕ → List ℕ → ℕ → List ℕ → List ℕ → System

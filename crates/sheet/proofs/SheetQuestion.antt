@@ -29,7 +29,7 @@ use Rattle.plan.proofs.Unknowns.{unknowns-le}
 use Rattle.plan.proofs.Ranks.{has-rank, rank-reach, rank-most}
 use Rattle.plan.proofs.Written.{written-works, written-height}
 use Rattle.plan.proofs.Accepted.{written-size}
-use Rattle.knowledge.specs.Learn.{learnTable}
+use Rattle.knowledge.specs.Goal.{learnTable}
 use Rattle.question.specs.Question.{systemOf}
 use Rattle.question.specs.Rows.{TeamFits, KnownFits, GoalFits}
 use Rattle.question.specs.Asks.{ValidQuestion}

@@ -21,7 +21,7 @@ use Rattle.plan.proofs.Secret.{secret}
 use Rattle.text.specs.Decimal.{decimal}
 use Rattle.printing.specs.Printed.{line, numbered, actText, planText, cannotText, reachText, Prints}
 use Rattle.printing.proofs.Theorems.{prints-unique, refused-length, reach-length}
-use Rattle.knowledge.specs.Learn.{learnTable}
+use Rattle.knowledge.specs.Goal.{learnTable}
 use Rattle.question.specs.Question.{systemOf, startNumber, NoMaking}
 use Rattle.finder.proofs.Theorems.{enough}
 use Rattle.desk.specs.Sheet.{Sheet}

@@ -17,7 +17,7 @@ use Rattle.ground.proofs.Bits.{below-2, bit-of-zero}
 use Rattle.ground.proofs.Bools.{T→true, lt-or-ge}
 use Rattle.knowledge.specs.Fits.{always, is, oneValue}
 use Rattle.knowledge.proofs.Fits.{always-intro, always-take}
-use Rattle.knowledge.specs.Learn.{learnTable}
+use Rattle.knowledge.specs.Goal.{learnTable}
 use Rattle.sides.specs.Over.{oneOf, SideTable}
 use Rattle.tables.specs.Tables.{Made, Learnt}
 use Rattle.sides.proofs.CountLaws.{sides-most}

@@ -11,7 +11,7 @@ use Rattle.ground.proofs.Search.{all-ext}
 use Rattle.block.specs.Rule.{rule}
 use Rattle.block.specs.declared.rule.Right.{Right}
 use Rattle.knowledge.specs.Fits.{always, nowSide, startSide, known, oneValue, learnSettled}
-use Rattle.knowledge.specs.Learn.{learnCount, learnTable, allSettled}
+use Rattle.knowledge.specs.Goal.{learnCount, learnTable, allSettled}
 use Rattle.knowledge.proofs.Fits.{always-ext}
 use Rattle.sides.specs.Sides.{nowSideNumber, startSideNumber}
 use Rattle.sides.specs.Over.{entry, rankIf, markOf, Marks}

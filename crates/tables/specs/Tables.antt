@@ -9,7 +9,7 @@ use Rattle.ground.specs.Search.{all}
 use Rattle.block.specs.Rule.{rule}
 use Rattle.block.specs.declared.rule.Right.{Right}
 use Rattle.knowledge.specs.Fits.{always, oneValue}
-use Rattle.knowledge.specs.Learn.{learnCount, learnTable}
+use Rattle.knowledge.specs.Goal.{learnCount, learnTable}
 use Rattle.sides.specs.Over.{entry, SideTable}
 
 -- bit q of the entry of setting i and side s: the post q is of the team, and its rule on the setting is known to hold at the side

@@ -1,0 +1,38 @@
+// Whether the goal is settled where the team knows so much.
+use crate::judge::known_to_hold;
+use crate::judge::learn_settled;
+use ground::TABLE;
+use knowledge::Knowledge;
+ghost use mathlib.Core.Path.{_≡_};
+ghost use Prim.Native.Nat.{_^_, _≤_, _<_};
+ghost use Rattle.knowledge.specs.Number.{digitIn};
+ghost use Rattle.knowledge.specs.Goal.{allSettled, goalSettled};
+
+// Whether each learn formula has one same value at all start valuations that fit.
+fn learnt(n: u8, learn: &[u8], state: Knowledge) -> bool
+    requires { ⌜ n ≤ 7 ⌝ }
+    ensures { λ r. ⌜ r ≡ allSettled n (digitIn (state .digits)) (now (learn .entry)) ⌝ }
+{
+    let count = learn.len() / TABLE;
+    let mut j = 0;
+    while j < count {
+        if !learn_settled(state, n, learn, TABLE * j) {
+            return false;
+        }
+        j += 1;
+    }
+    true
+}
+
+// Whether the make formula is true at all present valuations that fit, and all is learnt. For this
+// repository alone: k has at most seven digits.
+pub fn is_settled(n: u8, make: &[u8], learn: &[u8], k: u32) -> bool
+    requires { ⌜ (n ≤ 7) × (k < 7 ^ 7) ⌝ }
+    ensures { λ r. ⌜ r ≡ goalSettled n (now (make .entry)) (now (learn .entry)) k ⌝ }
+{
+    let state = Knowledge::from_number(k);
+    if !known_to_hold(state, n, make, 0) {
+        return false;
+    }
+    learnt(n, learn, state)
+}

@@ -1,0 +1,24 @@
+-- A goal: its learn formulas, and when it is settled.
+use mathlib.Core.List.{List}
+use mathlib.Core.Bool.{Bool, _&&_}
+use Prim.Native.Nat.{ℕ, _*_, _/_}
+use lib.ListN.{length, take, drop}
+use Rattle.ground.specs.Digits.{digit}
+use Rattle.ground.specs.Search.{all}
+use Rattle.knowledge.specs.Fits.{known, learnSettled}
+
+-- "learn tables not 0 to 4 times 16 bytes" are refused: how many there are, and the one with index j
+abbrev pub learnCount : List ℕ → ℕ
+learnCount learn = length learn / 16
+
+unfoldable pub learnTable : List ℕ → ℕ → List ℕ
+learnTable learn j = take 16 (drop (16 * j) learn)
+
+-- "each learn formula has one same value at all fitting start valuations", where the team knows the digits d
+unfoldable pub allSettled : ℕ → (ℕ → ℕ) → List ℕ → Bool
+allSettled n d learn = all (learnCount learn) (λ j. learnSettled n d (learnTable learn j))
+
+-- "The goal is settled when the make formula is true at every fitting present valuation, and each learn formula has one same value at all fitting
+-- start valuations."
+unfoldable pub goalSettled : ℕ → List ℕ → List ℕ → ℕ → Bool
+goalSettled n make learn k = known n (digit 7 k) make && allSettled n (digit 7 k) learn
