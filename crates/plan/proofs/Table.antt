@@ -1,5 +1,4 @@
 -- A table of ranks chooses the plan written: its entries say which acts lower the rank.
-use mathlib.Core.Path.{_≡_}
 use Prim.Native.Nat.{ℕ, _≤_}
 use native.Mathlib.Omega.{arith}
 use Rattle.acts.specs.Acts.{byteOf}

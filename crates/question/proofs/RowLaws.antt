@@ -1,7 +1,7 @@
 -- Which refusal a question meets, from what the code found: a sound book leaves its rows behind, and each row after it the ones before.
 use mathlib.Core.Path.{_≡_, refl, sym, subst}
 use mathlib.Core.Logic.{inl, inr}
-use mathlib.Core.List.{List, [], _∷_, _++_}
+use mathlib.Core.List.{List, [], _∷_}
 use Prim.Native.Nat.{ℕ}
 use Rattle.book.specs.Sound.{Sound}
 use Rattle.ground.specs.Order.{only, First, Clear}

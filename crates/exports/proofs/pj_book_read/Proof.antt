@@ -1,5 +1,5 @@
 -- `pj_book_read` meets its contract: the answer and the room are the reader's.
-use mathlib.Core.Path.{_≡_, sym, ap, ap₂, _∙_, subst}
+use mathlib.Core.Path.{sym, ap, ap₂, _∙_, subst}
 use native.Mathlib.Omega.{arith}
 use Rattle.exports.specs.Packed.{packed}
 use Rattle.book.specs.Refusals.{number, place}

@@ -1,5 +1,5 @@
 -- `pj_find` meets its contract: the answer and the rooms are the finder's.
-use mathlib.Core.Path.{_≡_, sym, ap, ap₂, _∙_, subst}
+use mathlib.Core.Path.{sym, ap, ap₂, _∙_, subst}
 use native.Mathlib.Omega.{arith}
 use Rattle.exports.specs.Packed.{packed}
 use Rattle.exports.specs.Find.{asked, found}

@@ -1,13 +1,10 @@
 -- `pj_formula_read` meets its contract: the answer is the reader's, and only a table is stored.
-use mathlib.Core.Path.{_≡_, sym, ap, ap₂, _∙_, refl, subst}
-use mathlib.Core.List.{List}
-use Prim.Native.Nat.{ℕ}
+use mathlib.Core.Path.{sym, ap, ap₂, _∙_, subst}
 use native.Mathlib.Omega.{arith}
 use Rattle.exports.specs.Packed.{packed}
 use Rattle.exports.specs.Formula.{returned, onReturn}
 use Rattle.formula.specs.Read.{Reads}
 use Rattle.formula.specs.declared.Answer.{Answer}
-use Rattle.formula.specs.declared.Answer.the-variants.{Accepted, Refused}
 use Rattle.formula.proofs.Small.{number-small, place-small}
 use borrow.Author.Needs.{needs}
 use Rattle.exports.proofs.pj_formula_read.Statement.{statement}

@@ -1,8 +1,6 @@
 -- `refusal` meets its contract: the shift is a product that fits.
-use mathlib.Core.Path.{_≡_}
 use native.Mathlib.Omega.{arith}
 use Rattle.exports.specs.Packed.{packed}
-use borrow.Author.Needs.{needs}
 use Rattle.exports.proofs.refusal.Statement.{statement}
 use Rattle.exports.proofs.refusal.Tie as tie
 

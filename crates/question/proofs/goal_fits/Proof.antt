@@ -1,6 +1,5 @@
 -- `goal_fits` meets its contract: the lengths, then the tables.
 use native.Mathlib.Omega.{arith}
-use lib.ListN.{drop}
 use Rattle.ground.specs.Table.{Within}
 use Rattle.ground.proofs.Answers.{told, untold, tells-iff}
 use Rattle.question.specs.Rows.{LearnWithin, GoalFits}

@@ -1,7 +1,6 @@
 -- `team_fits` meets its contract: a shift leaves nothing of the team exactly where all its posts are below m.
 use native.Mathlib.Omega.{arith}
 use Rattle.question.proofs.QuestionLaws.{team-tells}
-use borrow.Author.Needs.{needs}
 use Rattle.question.proofs.team_fits.Statement.{statement}
 use Rattle.question.proofs.team_fits.Tie as tie
 

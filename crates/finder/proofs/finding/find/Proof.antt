@@ -1,7 +1,6 @@
 -- `find` meets its contract: refusals 6 to 12, then 13, then the search.
-use mathlib.Core.Path.{_≡_, refl, sym, _∙_, subst}
-use mathlib.Core.Logic.{_⊎_, inl, inr}
-use Prim.Native.Nat.{ℕ, _<_, _≤_}
+use mathlib.Core.Path.{refl}
+use mathlib.Core.Logic.{inl, inr}
 use native.Mathlib.Omega.{arith}
 use Rattle.question.specs.Rows.{number, place}
 use Rattle.question.specs.declared.Refusal.the-variants.{Ranks}

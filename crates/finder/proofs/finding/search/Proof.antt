@@ -1,5 +1,5 @@
 -- `search` meets its contract: the tables tell the question's system, and the ranks are its ranks.
-use mathlib.Core.Path.{_≡_, sym, subst}
+use mathlib.Core.Path.{sym, subst}
 use Prim.Native.Nat.{ℕ, _^_, _<_}
 use native.Mathlib.Omega.{arith}
 use Rattle.question.specs.Question.{systemOf}

@@ -1,6 +1,6 @@
 -- The cycle of the three readers meets its contracts. What is left of the text falls with each byte that is passed; at one place a sum calls a product and a
 -- product a unit, so the measure is three times what is left, plus 2 for a sum and 1 for a product. Each return is a law of PartLaws.
-use mathlib.Core.Path.{_≡_, sym, _∙_}
+use mathlib.Core.Path.{sym, _∙_}
 use borrow.Author.Needs.{needs}
 use native.Mathlib.Omega.{arith}
 use Prim.Native.Nat.{_+_, _-_, _*_}

@@ -1,6 +1,6 @@
 -- `atom` meets its contract: each of the one-byte units, and else nothing goes on.
 use borrow.Author.Needs.{needs}
-use mathlib.Core.Path.{_≡_, sym, ap, _∙_}
+use mathlib.Core.Path.{sym, ap, _∙_}
 use native.Mathlib.Omega.{arith}
 use Rattle.grammar.specs.Signs.{isLetter}
 use Rattle.grammar.proofs.ScanLaws.{letter-low, letter-small}

@@ -1,5 +1,5 @@
 -- `is_past` meets its contract: of a letter, its distance from `a`.
-use mathlib.Core.Path.{_≡_, sym, _∙_}
+use mathlib.Core.Path.{sym, _∙_}
 use Rattle.grammar.proofs.ScanLaws.{letter-low, past-letter, past-none}
 use borrow.Author.Needs.{needs}
 use Rattle.grammar.proofs.signs.is_past.Statement.{statement}

@@ -1,5 +1,5 @@
 -- `is_stray` meets its contract: no letter and no sign.
-use mathlib.Core.Path.{_≡_, sym, ap, _∙_}
+use mathlib.Core.Path.{sym, ap, _∙_}
 use mathlib.Core.Bool.{not}
 use Rattle.grammar.proofs.ScanLaws.{letter-not-stray, sign-not-stray}
 use borrow.Author.Needs.{needs}

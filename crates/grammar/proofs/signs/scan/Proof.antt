@@ -1,7 +1,7 @@
 -- `scan` meets its contract. The loop has found no foreign byte among the first i.
 use borrow.Author.Needs.{needs}
 use Prim.Native.Nat.{_-_}
-use mathlib.Core.Path.{_≡_, sym, _∙_}
+use mathlib.Core.Path.{sym, _∙_}
 use lib.ListN.{length}
 use native.Mathlib.Omega.{arith}
 use Rattle.grammar.proofs.ScanLaws.{CleanTo, stray-first, past-first, clean-more}

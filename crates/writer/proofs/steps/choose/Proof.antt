@@ -1,6 +1,6 @@
 -- `choose` meets its contract: the loop has found no act of the pairs below `pair` that leads lower.
-use Prim.Native.Nat.{ℕ, _-_, _≤_}
-use mathlib.Core.Path.{_≡_, subst}
+use Prim.Native.Nat.{_-_, _≤_}
+use mathlib.Core.Path.{subst}
 use native.Mathlib.Omega.{arith}
 use Rattle.plan.specs.Plans.{System}
 use Rattle.writer.specs.Told.{Told, Tries, family}

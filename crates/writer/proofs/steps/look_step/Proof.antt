@@ -1,14 +1,14 @@
 -- `look_step` meets its contract: by the digit, the bit of the table and the three entries of the rank table.
 use borrow.Author.Needs.{needs}
-use Prim.Native.Nat.{ℕ, _^_, _<_, _≤_}
-use mathlib.Core.Path.{_≡_, refl, sym, ap, _∙_, subst}
+use Prim.Native.Nat.{ℕ, _<_, _≤_}
+use mathlib.Core.Path.{sym, _∙_, subst}
 use mathlib.Core.Bool.{false, true}
 use lib.Dec.{T}
 use lib.ListN.{getD}
 use native.Mathlib.Omega.{arith}
 use Rattle.ground.specs.Digits.{bit}
 use Rattle.ground.specs.Search.{Least}
-use Rattle.plan.proofs.Certificate.{setTo-lt, lookAt-lt}
+use Rattle.plan.proofs.Certificate.{lookAt-lt}
 use Rattle.writer.proofs.StepLaws.{number-small, side-small, at-side, rank-at, digit-at, look-seen, look-nobody, look-no-lower, look-do}
 use Rattle.writer.proofs.steps.look_step.Statement.{statement}
 use Rattle.writer.proofs.steps.look_step.Tie as tie

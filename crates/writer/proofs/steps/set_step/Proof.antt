@@ -1,13 +1,12 @@
 -- `set_step` meets its contract: by the bit of the table and the two entries of the rank table.
-use Prim.Native.Nat.{ℕ, _^_, _<_, _≤_}
-use mathlib.Core.Path.{_≡_, refl, sym, ap, _∙_, subst}
-use mathlib.Core.Bool.{false, true}
+use Prim.Native.Nat.{ℕ, _<_, _≤_}
+use mathlib.Core.Path.{sym, _∙_, subst}
 use lib.Dec.{T}
 use lib.ListN.{getD}
 use native.Mathlib.Omega.{arith}
 use Rattle.ground.specs.Digits.{bit}
 use Rattle.ground.specs.Search.{Least}
-use Rattle.plan.proofs.Certificate.{setTo-lt, lookAt-lt}
+use Rattle.plan.proofs.Certificate.{setTo-lt}
 use Rattle.writer.proofs.StepLaws.{number-small, side-small, at-side, rank-at, set-nobody, set-no-lower, set-do}
 use Rattle.writer.proofs.steps.set_step.Statement.{statement}
 use Rattle.writer.proofs.steps.set_step.Tie as tie

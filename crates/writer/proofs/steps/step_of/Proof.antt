@@ -1,8 +1,5 @@
 -- `step_of` meets its contract: the kind of the pair, and its setting.
-use Prim.Native.Nat.{ℕ}
-use mathlib.Core.Path.{_≡_, subst, sym}
 use native.Mathlib.Omega.{arith}
-use Rattle.writer.specs.Told.{Tries, family}
 use Rattle.writer.proofs.StepLaws.{pair-past, family-false, family-true, family-look}
 use Rattle.writer.proofs.steps.step_of.Statement.{statement}
 use Rattle.writer.proofs.steps.step_of.Tie as tie

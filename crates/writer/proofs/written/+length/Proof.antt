@@ -1,12 +1,12 @@
 -- `length` meets its contract: each step leads to a lower entry of the rank table, which is the measure.
-use mathlib.Core.Path.{_≡_, refl, sym, ap, _∙_, subst}
+use mathlib.Core.Path.{refl, sym, ap, _∙_, subst}
 use mathlib.Core.Bool.{false, true}
 use native.Mathlib.Omega.{arith}
 use lib.ListN.{getD}
 use Rattle.acts.specs.declared.act.Act.the-variants.{Set, Look}
 use Rattle.plan.specs.Plans.{stop}
 use Rattle.writer.specs.Told.{Chooses, Ranked}
-use Rattle.writer.specs.declared.steps.Step.the-variants.{Stop, Do}
+use Rattle.writer.specs.declared.steps.Step.the-variants.{Do}
 use Rattle.writer.proofs.StepLaws.{number-small}
 use Rattle.writer.proofs.PlanLaws.{next-set, next-look, step-setting, most, stop-plan, set-plan, look-plan}
 use Prim.Native.Nat.{ℕ, _<_}

@@ -1,6 +1,6 @@
 -- `write` meets its contract: the step's byte, then what follows it; each step leads to a lower entry of the rank table, which is the measure.
 use borrow.Author.Needs.{needs}
-use mathlib.Core.Path.{_≡_, refl, sym, ap, _∙_, subst}
+use mathlib.Core.Path.{refl, sym, ap, _∙_, subst}
 use mathlib.Core.Bool.{false, true}
 use Prim.Native.Nat.{_+_}
 use native.Mathlib.Omega.{arith}
@@ -9,7 +9,7 @@ use Rattle.acts.specs.Acts.{planByte}
 use Rattle.acts.specs.declared.act.Act.the-variants.{Set, Look}
 use Rattle.plan.specs.Plans.{stop}
 use Rattle.writer.specs.Told.{Chooses, Ranked, Room}
-use Rattle.writer.specs.declared.steps.Step.the-variants.{Stop, Do}
+use Rattle.writer.specs.declared.steps.Step.the-variants.{Do}
 use Rattle.writer.proofs.StepLaws.{number-small}
 use Rattle.writer.proofs.PlanLaws.{next-set, next-look, step-setting, step-byte, stop-plan, room-here, room-set, set-written, room-false, room-true, look-written}
 use Prim.Native.Nat.{ℕ, _<_}
