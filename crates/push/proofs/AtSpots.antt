@@ -13,7 +13,7 @@ use Rattle.push.specs.Push.{Pushing}
 use Rattle.push.specs.Inner.{afterOffer, Spotted, SetsTo, Beside, Tried, PushedLooks}
 use Rattle.sides.proofs.Shown.{seven as pos}
 use Rattle.push.proofs.Spots.{spot-at, spot-side}
-use Rattle.push.proofs.Before.{low, from-low, from-high, from-none}
+use Rattle.push.proofs.Before.{other, from-other, from-none}
 use Rattle.push.proofs.Pushes.{try-set, try-look, look-high}
 
 module _ {n k i rest side seven three : ℕ} (s : Spotted n k i rest side seven three) {h : ℕ} where
@@ -41,11 +41,8 @@ module _ (k i : ℕ) (d : ℕ) (is : d ≡ digit 7 k i) where
   pub is-digit : d < 7
   is-digit = rw is (digit-lt pos k i)
 
-  pub lead-low : (d ≡ 0 → ⊥) → SetsTo (low d) (digit 7 k i)
-  lead-low z = rw (← is) (from-low d is-digit z)
-
-  pub lead-high : (d ≡ 0 → ⊥) → SetsTo (low d + 1) (digit 7 k i)
-  lead-high z = rw (← is) (from-high d is-digit z)
+  pub lead-other : (d ≡ 0 → ⊥) → SetsTo (other d) (digit 7 k i)
+  lead-other z = rw (← is) (from-other d is-digit z)
 
   pub lead-none : (d ≡ 0 → ⊥) → d < 3 → SetsTo 0 (digit 7 k i)
   lead-none z l = rw (← is) (from-none d is-digit z l)

@@ -51,20 +51,20 @@ module _ (k i : ℕ) where
   pub look-from : (b : Bool) → digit 7 k i ≡ afterLook b → lookAt (put 7 k i 0) i b ≡ k
   look-from b e = look-to b ∙ ap (λ (x : ℕ). put 7 k i x) (sym e) ∙ put-digit pos k i
 
--- the lower one of the two digits that sets of the same start side give
-abbrev pub low : ℕ → ℕ
-low d = (d - 1) / 2 * 2 + 1
+-- the other one of the two digits that sets of the same start side give
+abbrev pub other : ℕ → ℕ
+other d = (d - 1) / 2 * 4 + 3 - d
 
 -- a set gives d from these digits, and from no others
 from-these : Bool → ℕ → ℕ → Bool
-from-these b d e = implies (eqb (afterSet e b) d) (eqb e (low d) || (eqb e (low d + 1) || (eqb e 0 && ltb d 3)))
+from-these b d e = implies (eqb (afterSet e b) d) (eqb e d || (eqb e (other d) || (eqb e 0 && ltb d 3)))
 
-pub only-from : (d e : ℕ) (b : Bool) → d < 7 → e < 7 → afterSet e b ≡ d → (e ≡ low d) ⊎ ((e ≡ low d + 1) ⊎ ((e ≡ 0) × (d < 3)))
+pub only-from : (d e : ℕ) (b : Bool) → d < 7 → e < 7 → afterSet e b ≡ d → (e ≡ d) ⊎ ((e ≡ other d) ⊎ ((e ≡ 0) × (d < 3)))
 unfolding all afterSet from-these
-only-from d e b l m a = elim (or-out (eqb e (low d)) _ (rw (T-eqb a) at (tested b))) [
-  | inl x ↦ inl (eqb→eq e (low d) x)
-  | inr x ↦ elim (or-out (eqb e (low d + 1)) _ x) [
-    | inl y ↦ inr (inl (eqb→eq e (low d + 1) y))
+only-from d e b l m a = elim (or-out (eqb e d) _ (rw (T-eqb a) at (tested b))) [
+  | inl x ↦ inl (eqb→eq e d x)
+  | inr x ↦ elim (or-out (eqb e (other d)) _ x) [
+    | inl y ↦ inr (inl (eqb→eq e (other d) y))
     | inr y ↦ inr (inr (eqb→eq e 0 (and-left (eqb e 0) (ltb d 3) y), ltb→lt d 3 (and-right (eqb e 0) (ltb d 3) y)))
   ]
 ]
@@ -81,15 +81,10 @@ value : ℕ → Bool
 value d = eqb (d % 2) 0
 
 module _ (d : ℕ) (l : d < 7) where
-  pub from-low : (d ≡ 0 → ⊥) → SetsTo (low d) d
+  pub from-other : (d ≡ 0 → ⊥) → SetsTo (other d) d
   unfolding all afterSet value
-  from-low z =
-      (value d, eqb→eq (afterSet (low d) (value d)) d (rw (ne-eqb d 0 z) at (all-at 7 (λ d. eqb d 0 || eqb (afterSet (low d) (value d)) d) tt d l)))
-
-  pub from-high : (d ≡ 0 → ⊥) → SetsTo (low d + 1) d
-  unfolding all afterSet value
-  from-high z =
-      (value d, eqb→eq (afterSet (low d + 1) (value d)) d (rw (ne-eqb d 0 z) at (all-at 7 (λ d. eqb d 0 || eqb (afterSet (low d + 1) (value d)) d) tt d l)))
+  from-other z =
+      (value d, eqb→eq (afterSet (other d) (value d)) d (rw (ne-eqb d 0 z) at (all-at 7 (λ d. eqb d 0 || eqb (afterSet (other d) (value d)) d) tt d l)))
 
   pub from-none : (d ≡ 0 → ⊥) → d < 3 → SetsTo 0 d
   unfolding all afterSet value

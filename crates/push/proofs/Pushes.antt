@@ -7,7 +7,7 @@ use Prim.Native.Nat.{ℕ, _+_, _^_, _≤_, _<_}
 use native.Mathlib.Omega.{arith}
 use lib.Dec.{ltb, ltb→lt, lt→ltb}
 use Rattle.ground.specs.Digits.{digit, put}
-use Rattle.ground.proofs.Digits.{digit-lt, put-same, put-lt}
+use Rattle.ground.proofs.Digits.{digit-lt, put-same, put-lt, put-digit}
 use Rattle.acts.specs.Seven.{afterLook}
 use Rattle.acts.specs.Acts.{lookAt}
 use Rattle.acts.proofs.Seven.{set-known}
@@ -18,7 +18,7 @@ use Rattle.push.specs.Push.{Grew, SetsDone, Pushing, PushedAlong}
 use Rattle.push.specs.Inner.{afterOffer, SetsTo, Beside, Tried, PushedSets, PushedLooks}
 use Rattle.sides.proofs.Shown.{seven as pos}
 use Rattle.push.proofs.Grown.{same, kept, further, still-none, sets-stay, offer-grew, offer-taken}
-use Rattle.push.proofs.Before.{set-into, set-from, look-into, look-to, look-from, low, only-from}
+use Rattle.push.proofs.Before.{set-into, set-from, look-into, look-to, look-from, other, only-from}
 
 -- what a push is made with lasts
 pub pushing-on : {n k h : ℕ} {set look : List (List ℕ)} {old new : List ℕ} → Pushing n k h old → Grew n set look h old new → Pushing n k h new
@@ -78,24 +78,28 @@ module _ {n k i h : ℕ} (state : k < 7 ^ n) (setting : i < n) where
     sets = sets-done n k i set t (λ e l w. absurd (set-known e (w .0) l (w .1 ∙ z)));
   }
 
-  pub sets-two : {set : List (List ℕ)} {a b c : List ℕ} (d : ℕ) → d ≡ digit 7 k i → h < 255 → 3 ≤ d
-      → Tried n set h k i (low d) a b → Tried n set h k i (low d + 1) b c → PushedSets n set h k i a c
-  sets-two {set} {c = c} d is l m f g = record {
-    grew = λ look. further l (f .grew look) (g .grew look);
-    sets = sets-done n k i set c (λ e small w may none. elim (only-from d e (w .0) (rw is (digit-lt pos k i)) small (w .1 ∙ sym is)) [
-      | inl q ↦ f .taken (rw q at may) (still-none (g .grew set) l _ (rw q at none))
-      | inr (inl q) ↦ g .taken (rw q at may) (rw q at none)
+  -- k itself has a rank
+  ranked : {t : List ℕ} → Pushing n k h t → rank t (put 7 k i (digit 7 k i)) ≡ 255 → ⊥
+  ranked {t} p e = omega (arith, p .low, p .high, ap (λ (x : ℕ). rank t x) (put-digit pos k i), e)
+
+  pub sets-one : {set : List (List ℕ)} {a b : List ℕ} (d : ℕ) → d ≡ digit 7 k i → Pushing n k h a → 3 ≤ d
+      → Tried n set h k i (other d) a b → PushedSets n set h k i a b
+  sets-one {set} {b = b} d is p m f = record {
+    grew = f .grew;
+    sets = sets-done n k i set b (λ e small w may none. elim (only-from d e (w .0) (rw is (digit-lt pos k i)) small (w .1 ∙ sym is)) [
+      | inl q ↦ ranked (pushing-on p (f .grew set)) (rw (q ∙ is) at none)
+      | inr (inl q) ↦ f .taken (rw q at may) (rw q at none)
       | inr (inr q) ↦ absurd (omega (arith, q .1))
     ]);
   }
 
-  pub sets-three : {set : List (List ℕ)} {a b c z : List ℕ} (d : ℕ) → d ≡ digit 7 k i → h < 255
-      → Tried n set h k i (low d) a b → Tried n set h k i (low d + 1) b c → Tried n set h k i 0 c z → PushedSets n set h k i a z
-  sets-three {set} {z = z} d is l f g o = record {
-    grew = λ look. further l (f .grew look) (further l (g .grew look) (o .grew look));
-    sets = sets-done n k i set z (λ e small w may none. elim (only-from d e (w .0) (rw is (digit-lt pos k i)) small (w .1 ∙ sym is)) [
-      | inl q ↦ f .taken (rw q at may) (still-none (further l (g .grew set) (o .grew set)) l _ (rw q at none))
-      | inr (inl q) ↦ g .taken (rw q at may) (still-none (o .grew set) l _ (rw q at none))
+  pub sets-two : {set : List (List ℕ)} {a b c : List ℕ} (d : ℕ) → d ≡ digit 7 k i → Pushing n k h a
+      → Tried n set h k i (other d) a b → Tried n set h k i 0 b c → PushedSets n set h k i a c
+  sets-two {set} {c = c} d is p f o = record {
+    grew = λ look. further (p .high) (f .grew look) (o .grew look);
+    sets = sets-done n k i set c (λ e small w may none. elim (only-from d e (w .0) (rw is (digit-lt pos k i)) small (w .1 ∙ sym is)) [
+      | inl q ↦ ranked (pushing-on p (further (p .high) (f .grew set) (o .grew set))) (rw (q ∙ is) at none)
+      | inr (inl q) ↦ f .taken (rw q at may) (still-none (o .grew set) (p .high) _ (rw q at none))
       | inr (inr q) ↦ o .taken (rw (q .0) at may) (rw (q .0) at none)
     ]);
   }

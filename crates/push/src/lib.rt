@@ -67,8 +67,9 @@ fn from_digit(
     give(ranks, at, h, so);
 }
 
-// Pushes to each state from which a set gives the digit d at the spot. Digits 1 and 2 come from 0, 1
-// and 2, digits 3 and 4 from 3 and 4, digits 5 and 6 from 5 and 6, and no set gives digit 0.
+// Pushes to each other state from which a set gives the digit d at the spot. Digits 1 and 2 come from
+// 0, 1 and 2, digits 3 and 4 from 3 and 4, digits 5 and 6 from 5 and 6, and no set gives digit 0. The
+// state with d itself is k, which has a rank.
 fn by_set(
     n: usize,
     k: usize,
@@ -85,9 +86,8 @@ fn by_set(
     if d == 0 {
         return;
     }
-    let low = (d - 1) / 2 * 2 + 1;
-    from_digit(n, k, i, spot, low, h, set, ranks);
-    from_digit(n, k, i, spot, low + 1, h, set, ranks);
+    let other = (d - 1) / 2 * 4 + 3 - d;
+    from_digit(n, k, i, spot, other, h, set, ranks);
     if d < 3 {
         from_digit(n, k, i, spot, 0, h, set, ranks);
     }
