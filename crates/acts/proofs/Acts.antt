@@ -36,12 +36,12 @@ byte-of-kind (suc zero) i q h = refl
 byte-of-kind (suc (suc zero)) i q h = refl
 byte-of-kind (suc (suc (suc kind))) i q h = absurd (omega arith)
 
-setting-of-kind : (kind i q : ℕ) → settingOf (ofKind kind i q) ≡ i
+pub setting-of-kind : (kind i q : ℕ) → settingOf (ofKind kind i q) ≡ i
 setting-of-kind zero i q = refl
 setting-of-kind (suc zero) i q = refl
 setting-of-kind (suc (suc kind)) i q = refl
 
-post-of-kind : (kind i q : ℕ) → postOf (ofKind kind i q) ≡ q
+pub post-of-kind : (kind i q : ℕ) → postOf (ofKind kind i q) ≡ q
 post-of-kind zero i q = refl
 post-of-kind (suc zero) i q = refl
 post-of-kind (suc (suc kind)) i q = refl

@@ -1,16 +1,13 @@
--- What an act does to a knowledge number: one digit changes, the number stays below 7 ^ n, and a look at digit 0 makes one
--- unknown setting known.
+-- What an act does to a knowledge number: one digit changes, and the number stays below 7 ^ n.
 use mathlib.Core.Path.{_≡_}
 use mathlib.Core.Bool.{Bool}
-use Prim.Native.Nat.{ℕ, suc, _^_, _<_}
-use native.Mathlib.Omega.{arith}
+use Prim.Native.Nat.{ℕ, _^_, _<_}
 use lib.Dec.{lit<}
 use Rattle.ground.specs.Digits.{digit}
 use Rattle.ground.proofs.Digits.{digit-lt, put-same, put-other, put-lt}
 use Rattle.acts.specs.Seven.{afterSet, afterLook}
 use Rattle.acts.specs.Acts.{setTo, lookAt}
-use Rattle.acts.proofs.Seven.{set-lt, look-lt, look-known}
-use Rattle.acts.proofs.Unknowns.{counts, counts-known, unknowns, unknowns-change}
+use Rattle.acts.proofs.Seven.{set-lt, look-lt}
 
 seven : 0 < 7
 seven = lit< tt
@@ -44,11 +41,3 @@ module _ (k i : ℕ) (b : Bool) where
   pub look-below : (n : ℕ) → k < 7 ^ n → i < n → lookAt k i b < 7 ^ n
   unfolding lookAt
   look-below n h l = put-lt seven k i n (afterLook b) h l (look-lt b)
-
-  -- a look at digit 0 makes one unknown setting known
-  module _ (at : digit 7 k i ≡ 0) where
-    pub look-unknowns : (n : ℕ) → i < n → suc (unknowns n (digit 7 (lookAt k i b))) ≡ unknowns n (digit 7 k)
-    unfolding counts
-    look-unknowns n l =
-        let moved = unknowns-change n i (digit 7 k) (digit 7 (lookAt k i b)) l look-other in
-        omega (arith, rw (at, look-here, counts-known (afterLook b) (look-known b)) at moved)

@@ -1,8 +1,8 @@
 // One block of a book: 512 bytes, of which the last four are the check of those before. It knows the
-// check, how it is written and where it is wrong; where the table of a rule stands in a setting's block;
-// and which bits of a setting's tables must be zero.
+// check, how it is written and where it is wrong; where the table of a rule stands in a book; and which
+// bits of a setting's tables must be zero.
 //
-// It refuses nothing: a wrong check or a stray bit is told by the block that has it. In a lent room
+// It refuses nothing: a wrong check is told by its block, a stray bit by its setting. In a lent room
 // `seal` writes the four bytes of the check and no other.
 mod bytes;
 mod rule;

@@ -1,5 +1,5 @@
 -- What is promised of the book, in one place: for each public function, that any two results that its contract allows are the same, the room
--- included; the two round trips; what a rule of a sound book is. All for every n at once.
+-- included; how far the places of refusals go; and the two round trips. All for every n at once.
 use mathlib.Core.Path.{_≡_, refl, sym, ap, ap₂, _∙_, subst}
 use mathlib.Core.Bool.{cond}
 use mathlib.Core.List.{List, _++_}

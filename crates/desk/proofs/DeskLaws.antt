@@ -1,4 +1,4 @@
--- The desk after each line holds what the sheet then states: a line changes one part, and the rest stays.
+-- The desk after a line that states a right holds what the sheet then states: one slot changes, and the rest stays.
 use mathlib.Core.Path.{_≡_, refl, sym, ap, _∙_, subst}
 use mathlib.Core.Logic.{_⊎_, inl, inr}
 use mathlib.Core.Bool.{Bool, true, false, not, _&&_, _||_, cond}

@@ -26,7 +26,7 @@ laid d rights marks team known values make asks learn = record {
   learn = learn;
 }
 
--- and the desk with one formula more
+-- the desk with one formula more
 unfoldable pub ruledDesk : Desk → ℕ → List ℕ → Desk
 ruledDesk d slot t = laid d (sets (d .rights) (16 * slot) t) (set (d .stated) slot 1) (d .team) (d .known) (d .values) (d .make) (d .asks) (d .learn)
 

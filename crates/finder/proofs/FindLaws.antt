@@ -12,9 +12,8 @@ use Rattle.ground.specs.Search.{Least}
 use Rattle.ground.proofs.Bools.{T→false, decide}
 use Rattle.acts.specs.Seven.{firstDigit}
 use Rattle.acts.proofs.Seven.{first-lt}
-use Rattle.knowledge.specs.Number.{numberOf, digitIn, firstAt, firstDigits}
-use Rattle.knowledge.proofs.Number.{sum-lt, sum-short, sum-ext}
-use Rattle.knowledge.proofs.States.{first-in}
+use Rattle.knowledge.specs.Number.{firstAt}
+use Rattle.knowledge.proofs.Number.{sum-lt, sum-short}
 use Rattle.ground.specs.Order.{First}
 use Rattle.ground.proofs.Lists.{sets-front}
 use Rattle.ground.proofs.OrderLaws.{least-only, first-left, first-right}
@@ -27,15 +26,12 @@ use Rattle.plan.proofs.Written.{written-unique}
 use Rattle.sides.specs.Over.{Marks}
 use Rattle.spread.specs.Spread.{Spread}
 use Rattle.question.specs.Question.{startNumber}
-use Rattle.question.specs.Rows.{number, place, KnownFits, questionRows}
-use Rattle.question.specs.Asks.{ValidQuestion, Asks}
+use Rattle.question.specs.Rows.{KnownFits, questionRows}
+use Rattle.question.specs.Asks.{ValidQuestion}
 use Rattle.finder.specs.Finds.{RanksFilled, Answers, findRows}
 use Rattle.writer.specs.Told.{Told, Room}
 use Rattle.finder.specs.declared.finding.Answer.the-variants.{Reach}
-use Rattle.question.specs.declared.Refusal.{Refusal}
 use Rattle.question.specs.declared.Question.{Question}
-use Rattle.question.specs.declared.Asked.{Asked}
-use Rattle.question.specs.declared.Asked.the-variants.{Valid, Not}
 use Rattle.question.proofs.RowLaws.{question-clear}
 
 -- ---- the answer at a state
@@ -71,10 +67,6 @@ module _ {n : ℕ} {sets′ looks : List (List ℕ)} {ranks : List ℕ} where
 
 -- ---- the start
 
-pub start-is : (known values : ℕ) {ds : List ℕ} {r : ℕ} → ds ≡ firstDigits known values → r ≡ numberOf 7 (digitIn ds) → r ≡ startNumber known values
-unfolding startNumber
-start-is known values e r = r ∙ ap (λ (xs : List ℕ). numberOf 7 (digitIn xs)) e ∙ sum-ext 7 7 (digitIn (firstDigits known values)) (firstAt known values) (λ i h. first-in known values i h)
-
 pub start-below : (n known values : ℕ) → n ≤ 7 → KnownFits n known values → startNumber known values < 7 ^ n
 unfolding startNumber firstAt firstDigit
 start-below n known values few fits =
@@ -94,14 +86,6 @@ pub filled : {n : ℕ} {S : System} {sets′ looks : List (List ℕ)} {made lear
 filled m s t = record { size = s .same-length ∙ m .long; ranks = t .ranked; later = λ j h. s .beyond j h ∙ m .kept j h }
 
 -- ---- refusals 6 to 13
-
--- what `ask` ensures of its answer, once the answer is known
-module _ (book : List ℕ) (q : Question) (make learn : List ℕ) where
-  pub as-valid : {r : Asked} {n m : ℕ} → r ≡ Valid n m → Asks book q make learn r → ValidQuestion book q make learn n m
-  as-valid e h = subst (Asks book q make learn) e h
-
-  pub as-not : {r : Asked} {why : Refusal} → r ≡ Not why → Asks book q make learn r → First (questionRows book (q .team) (q .known) (q .values) make learn) (number why) (place why)
-  as-not e h = subst (Asks book q make learn) e h
 
 module _ (book : List ℕ) (q : Question) (make learn ranks : List ℕ) where
   pub early : (x p : ℕ) → First (questionRows book (q .team) (q .known) (q .values) make learn) x p → First (findRows book (q .team) (q .known) (q .values) make learn ranks) x p

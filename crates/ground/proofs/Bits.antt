@@ -2,9 +2,10 @@
 use mathlib.Core.Path.{_≡_, refl, sym, ap, ap₂, _∙_}
 use mathlib.Core.Bool.{Bool, true, false, not, _&&_, _||_, Bool·beq}
 use Prim.Native.Nat.{ℕ, zero, suc, _+_, _*_, _/_, _%_, _^_, _<_}
-use native.Mathlib.Nat.{pow-zero, pow-suc, pow-succ', div-one, div-div-eq-div-mul, mod-lt, div-add-mod', div-lt-iff-lt-mul, zero-div}
+use native.Mathlib.Nat.{pow-zero, pow-suc, pow-succ', div-one, div-div-eq-div-mul, mod-lt, div-add-mod', div-lt-iff-lt-mul, zero-div, two-pow-succ}
 use native.Mathlib.Omega.{arith}
 use lib.Dec.{eqb, lit<}
+use borrow.Author.Tests.{eq-eqb, ne-eqb}
 use lib.Bits.{bitAnd, bitOr, bitXor, and-shr, or-shr, xor-shr, and-mod, or-mod, xor-mod}
 use lib.Pow.{shr-shr, field, mod-mod-pow}
 use native.Mathlib.Numerals.{add-one}
@@ -113,3 +114,17 @@ bit-mod (suc m) x (suc i) h =
     ∙ ap (λ (y : ℕ). bit y i) (ap (λ (j : ℕ). x % 2 ^ j / 2) (sym (add-one m)) ∙ field x m 1)
     ∙ bit-mod m (x / 2) i (omega arith)
     ∙ sym (bit-suc x i)
+
+-- a bit as code tests it
+pub bit-on : (x i : ℕ) → x / 2 ^ i % 2 ≡ 1 → bit x i ≡ true
+unfolding bit digit
+bit-on x i e = eq-eqb (x / 2 ^ i % 2) 1 e
+
+pub bit-off : (x i : ℕ) → (x / 2 ^ i % 2 ≡ 1 → ⊥) → bit x i ≡ false
+unfolding bit digit
+bit-off x i e = ne-eqb (x / 2 ^ i % 2) 1 e
+
+-- a number has no bit at its own place
+pub below-power : (x : ℕ) → x < 2 ^ x
+below-power zero = lit< tt
+below-power (suc x) = rw two-pow-succ (omega (arith, below-power x))

@@ -25,6 +25,10 @@ pub and-true : (a : Bool) → a && true ≡ a
 and-true true = refl
 and-true false = refl
 
+pub and-false : (a : Bool) → a && false ≡ false
+and-false true = refl
+and-false false = refl
+
 pub and-left : (a b : Bool) → T (a && b) → T a
 and-left true b h = tt
 

@@ -6,6 +6,7 @@ mod bytes;
 pub use bytes::copy;
 pub use bytes::zeros;
 ghost use mathlib.Core.Path.{_≡_};
+ghost use Prim.Native.Nat.{_^_, _≤_};
 ghost use lib.ListN.{drop, getD};
 ghost use Rattle.ground.specs.Digits.{bit};
 ghost use Rattle.ground.specs.Table.{truth, Within};
@@ -25,6 +26,14 @@ pub const POSTS_MOST: usize = 8;
 
 // The bytes of one formula's table: "A formula's table is 16 bytes".
 pub const TABLE: usize = 16;
+
+// How many valuations n settings have, up to seven; for this repository alone.
+pub fn valuations(n: u8) -> u8
+    requires { ⌜ n ≤ 7 ⌝ }
+    ensures { λ r. ⌜ r ≡ 2 ^ n ⌝ }
+{
+    1 << n
+}
 
 // The byte at a place, 0 past the end.
 pub fn peek(bytes: &[u8], at: usize) -> u8

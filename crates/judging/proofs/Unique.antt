@@ -6,6 +6,7 @@ use Rattle.judging.proofs.valuation.fits_present.Reads as fits-present
 use Rattle.judging.proofs.valuation.fits_start.Reads as fits-start
 use Rattle.judging.proofs.judge.known_to_hold.Reads as known-to-hold
 use Rattle.judging.proofs.judge.learn_settled.Reads as learn-settled
+use Rattle.judging.proofs.goal.is_settled.Reads as is-settled
 use Rattle.judging.proofs.permit.permits.Reads as permits
 use Rattle.judging.proofs.permit.allows.Reads as allows
 
@@ -26,3 +27,6 @@ permits-unique κs a x y s p q = p ∙ sym q
 
 pub allows-unique : (κs : _) (a : _) (x y : _) (s : _) → allows.Post κs a x s → allows.Post κs a y s → x ≡ y
 allows-unique κs a x y s p q = p ∙ sym q
+
+pub is-settled-unique : (κs : _) (a : _) (x y : _) (s : _) → is-settled.Post κs a x s → is-settled.Post κs a y s → x ≡ y
+is-settled-unique κs a x y s p q = p ∙ sym q

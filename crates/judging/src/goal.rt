@@ -25,7 +25,7 @@ fn learnt(n: u8, learn: &[u8], state: Knowledge) -> bool
 }
 
 // Whether the make formula is true at all present valuations that fit, and all is learnt. For this
-// repository alone: k has at most seven digits.
+// repository alone: at most seven settings, and k has at most seven digits.
 pub fn is_settled(n: u8, make: &[u8], learn: &[u8], k: u32) -> bool
     requires { ⌜ (n ≤ 7) × (k < 7 ^ 7) ⌝ }
     ensures { λ r. ⌜ r ≡ goalSettled n (now (make .entry)) (now (learn .entry)) k ⌝ }

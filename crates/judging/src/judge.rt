@@ -4,23 +4,16 @@ use crate::valuation::fits_present;
 use crate::valuation::fits_start;
 use ground::Present;
 use ground::Start;
+use ground::valuations;
 use knowledge::Knowledge;
 ghost use mathlib.Core.Path.{_≡_};
 ghost use mathlib.Core.Bool.{_&&_};
-ghost use Prim.Native.Nat.{_≤_, _^_};
+ghost use Prim.Native.Nat.{_≤_};
 ghost use lib.Dec.{leb};
 ghost use lib.ListN.{drop};
 ghost use Rattle.ground.specs.Table.{truth};
 ghost use Rattle.knowledge.specs.Number.{digitIn};
 ghost use Rattle.knowledge.specs.Fits.{implies, is, always, fitsNow, fitsStart, startSide, known, learnSettled};
-
-// How many valuations n settings have, up to seven.
-fn valuations(n: u8) -> u8
-    requires { ⌜ n ≤ 7 ⌝ }
-    ensures { λ r. ⌜ r ≡ 2 ^ n ⌝ }
-{
-    1 << n
-}
 
 // Whether the table that begins at byte `from` is true at these present settings, if they fit.
 fn true_if_present(state: Knowledge, n: u8, v: Present, bytes: &[u8], from: usize) -> bool

@@ -1,14 +1,14 @@
 -- When an act is allowed: the setting is one of the book's, the post one of the team's, and the judgement of its rule, where that
 -- stands in the book, is that it holds.
 use mathlib.Core.Path.{_≡_, refl, sym, _∙_}
-use mathlib.Core.Bool.{Bool, true, false, _&&_}
+use mathlib.Core.Bool.{Bool, false, _&&_}
 use mathlib.Core.List.{List}
 use Prim.Native.Nat.{ℕ, _<_}
 use lib.Dec.{T, eqb, ltb, leb, eqb→eq, ltb→lt}
 use lib.ListN.{drop}
 use borrow.Author.Tests.{eq-eqb, ne-eqb}
 use Rattle.ground.specs.Digits.{bit}
-use Rattle.ground.proofs.Bools.{and-left, and-right, and-true}
+use Rattle.ground.proofs.Bools.{and-left, and-right, and-true, and-false}
 use Rattle.block.specs.Rule.{rule, rulePlace}
 use Rattle.block.specs.declared.rule.Right.the-variants.{Look as look-rule, Set as set-rule}
 use Rattle.acts.specs.Acts.{settingOf, postOf, offered}
@@ -18,10 +18,6 @@ use Rattle.knowledge.specs.Fits.{known}
 use Rattle.knowledge.specs.Allowed.{permitted, allowed}
 use Rattle.knowledge.proofs.Fits.{guarded}
 use Rattle.knowledge.proofs.Known.{known-take}
-
-pub and-false : (a : Bool) → a && false ≡ false
-and-false true = refl
-and-false false = refl
 
 -- an act's permission is the judgement of its rule where that stands in the book
 module _ (n : ℕ) (book : List ℕ) (d : ℕ → ℕ) (i q : ℕ) where

@@ -3,19 +3,19 @@ use mathlib.Core.Path.{_≡_, refl, ap, _∙_}
 use mathlib.Core.Logic.{_⊎_, inl, inr}
 use mathlib.Core.Bool.{Bool, true, false, _&&_}
 use mathlib.Core.List.{List}
-use Prim.Native.Nat.{ℕ, _/_, _^_, _≤_, _<_}
+use Prim.Native.Nat.{ℕ, _^_, _≤_, _<_}
 use native.Mathlib.Decide.{ℕ-discrete}
 use native.Mathlib.Omega.{arith}
 use lib.Dec.{T, leb}
 use lib.ListN.{take}
 use lib.Pow.{pow-mono}
-use lib.Seq.{getD-take}
 use borrow.Author.Tests.{leb-true}
 use Rattle.ground.specs.Digits.{bit}
 use Rattle.ground.specs.Table.{truth}
 use Rattle.ground.proofs.Bits.{same-bits}
 use Rattle.ground.proofs.Bools.{and-in, and-left, and-right, decide, T-iff, T→true, T→false}
 use Rattle.ground.proofs.Search.{all-at, all-intro, all-ext}
+use Rattle.ground.proofs.Table.{truth-take}
 use Rattle.acts.specs.Seven.{unknown, told}
 use Rattle.knowledge.specs.Fits.{agrees, fits, implies, is, always}
 
@@ -126,10 +126,6 @@ always-one b n s t w small all-told =
         same-bits n v w l small (λ i m. agrees-only (bit w i) (bit v i) (rw (all-told i m) at (fits-at n s v f i m)))
 
 -- a valuation of up to seven settings reads the first sixteen bytes alone
-truth-take : (t : List ℕ) (v : ℕ) → v < 128 → truth (take 16 t) v ≡ truth t v
-unfolding truth
-truth-take t v h = rw (getD-take 16 t (v / 8) 0 (omega arith))
-
 pub always-take : (b : Bool) (n : ℕ) (side : ℕ → ℕ) (t : List ℕ) → n ≤ 7 → always b n side (take 16 t) ≡ always b n side t
 unfolding always
 always-take b n side t h =

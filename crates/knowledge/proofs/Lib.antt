@@ -1,4 +1,4 @@
--- Laws that callers cite, one file for each definition of specs/ or idea; then what settles the contracts.
+-- Laws that callers cite, one file for each definition of specs/ or idea; then what settles the contracts, and examples.
 pub mod Number
 pub mod States
 pub mod Fits

@@ -1,6 +1,6 @@
 -- States and numbers: what the methods of a state hand back is the state of the number after the act, so that what is said of
 -- numbers is said of states.
-use mathlib.Core.Path.{_≡_, refl, sym, _∙_}
+use mathlib.Core.Path.{_≡_, refl, sym, ap, _∙_}
 use mathlib.Core.Bool.{Bool}
 use mathlib.Core.List.{List}
 use Prim.Native.Nat.{ℕ, zero, suc, _^_, _≤_, _<_}
@@ -13,6 +13,7 @@ use Rattle.ground.proofs.Digits.{digit-lt}
 use Rattle.acts.specs.Seven.{afterSet, afterLook, firstDigit}
 use Rattle.acts.specs.Acts.{setTo, lookAt}
 use Rattle.acts.proofs.Seven.{set-lt, look-lt, first-lt}
+use Rattle.acts.proofs.Outcomes.{set-below, look-below}
 use Rattle.knowledge.specs.Number.{digitIn, numberOf, digitsOf, firstAt, firstDigits}
 use Rattle.ground.proofs.HighBits.{high-bit}
 use Rattle.knowledge.proofs.Number.{digit-in, digits-are, digits-long, digits-put, sum-digits, sum-lt, sum-short, digits-sum}
@@ -73,3 +74,16 @@ module _ (known values : ℕ) where
     where
       none : (i : ℕ) → n ≤ i → firstAt known values i ≡ 0
       none i l = rw (high-bit known _ i small l)
+
+-- the number of the state after an act at k, as the type computes it
+pub set-number : (k i : ℕ) (b : Bool) {ds es : List ℕ} {r : ℕ} → k < 7 ^ 7 → i < 7 → ds ≡ digitsOf k → es ≡ set ds i (afterSet (digitIn ds i) b)
+    → r ≡ numberOf 7 (digitIn es) → r ≡ setTo k i b
+set-number k i b {ds} {es} hk hi d e r =
+    r ∙ ap (λ (xs : List ℕ). numberOf 7 (digitIn xs)) (e ∙ ap (λ (xs : List ℕ). set xs i (afterSet (digitIn xs i) b)) d ∙ set-state k i b hi)
+    ∙ number-state (setTo k i b) (set-below k i b 7 hk hi)
+
+pub look-number : (k i : ℕ) (b : Bool) {ds es : List ℕ} {r : ℕ} → k < 7 ^ 7 → i < 7 → ds ≡ digitsOf k → es ≡ set ds i (afterLook b)
+    → r ≡ numberOf 7 (digitIn es) → r ≡ lookAt k i b
+look-number k i b {ds} {es} hk hi d e r =
+    r ∙ ap (λ (xs : List ℕ). numberOf 7 (digitIn xs)) (e ∙ ap (λ (xs : List ℕ). set xs i (afterLook b)) d ∙ look-state k i b hi)
+    ∙ number-state (lookAt k i b) (look-below k i b 7 hk hi)

@@ -1,6 +1,6 @@
 -- "A present valuation fits if it agrees with every known present value, a start valuation if it agrees with every known start
 -- value. A rule is known to hold if it is true at every fitting present valuation." d i is the digit of setting i: of a
--- knowledge number k it is digit 7 k i. A side tells for each setting whether a value is unknown, false or true (Seven).
+-- knowledge number k it is digit 7 k i. A side tells for each setting whether a value is unknown, false or true (acts/specs/Seven).
 use mathlib.Core.Bool.{Bool, true, false, not, _||_}
 use mathlib.Core.List.{List}
 use Prim.Native.Nat.{ℕ, _^_}

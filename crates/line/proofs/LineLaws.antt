@@ -18,7 +18,13 @@ use Rattle.desk.specs.declared.desk.Desk.{Desk}
 use Rattle.desk.proofs.DeskLaws.{getD-sets-other}
 use Rattle.line.specs.Forms.{teamOf, knownBy, knownOf}
 use Rattle.line.specs.Steps.{withTeam, withKnown, withMake, withAsk}
-use Rattle.line.specs.Inner.{teamDesk, knownDesk}
+
+-- the desk with the line `team` more, and with the line `known`
+abbrev pub teamDesk : Desk → ℕ → Desk
+teamDesk d team = laid d (d .rights) (d .stated) team (d .known) (d .values) (d .make) (d .asks) (d .learn)
+
+abbrev pub knownDesk : Desk → ℕ → ℕ → Desk
+knownDesk d known values = laid d (d .rights) (d .stated) (d .team) known values (d .make) (d .asks) (d .learn)
 
 -- the words of `known` as they are marked, and as they are read
 pub known-settings : (ws : List (List ℕ)) → knownSettings (knownBy ws) ≡ indexes 97 ws

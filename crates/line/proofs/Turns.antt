@@ -29,7 +29,7 @@ use Rattle.desk.specs.declared.desk.Taken.the-variants.{Next}
 use Rattle.desk.proofs.Turns.{taken}
 use Rattle.line.specs.Forms.{postWords, isTeam, teamOf, settingWords, isKnown, knownOf}
 use Rattle.line.specs.Steps.{withTeam, withKnown, withMake, withAsk, teamStep, knownStep, makeStep, askStep, rightOrTeam, rightsStep}
-use Rattle.line.specs.Inner.{teamDesk, knownDesk}
+use Rattle.line.proofs.LineLaws.{teamDesk, knownDesk}
 use Rattle.line.proofs.StepLaws.{team-by, known-by, make-by, ask-by, rights-by}
 use Rattle.line.proofs.LineLaws.{known-settings, known-true, holds-team, holds-known, holds-make, holds-ask}
 

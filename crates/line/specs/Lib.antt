@@ -1,4 +1,3 @@
--- What a reader must believe of one line of a sheet, above the desk: the form of each line, and what it does. `Inner` is for the private functions.
+-- What a reader must believe of one line of a sheet, above the desk: the form of each line, and what it does.
 pub mod Forms
 pub mod Steps
-pub mod Inner

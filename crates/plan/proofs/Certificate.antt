@@ -1,16 +1,14 @@
 -- A certified table is the table of ranks: an entry below 255 has a plan, by induction on the entry; no plan is lower than its
 -- state's entry, by induction on the plan; and at 255 no plan works, since one of height at most 254 would.
 use mathlib.Core.Logic.{inl, inr}
-use mathlib.Core.Bool.{Bool, true, false}
+use mathlib.Core.Bool.{true, false}
 use Prim.Native.Nat.{ℕ, zero, suc, max, _^_, _≤_, _<_}
 use native.Mathlib.Omega.{arith}
 use lib.Dec.{T}
 use lib.Pow.{pow-mono}
-use Rattle.ground.specs.Digits.{digit}
 use Rattle.ground.proofs.Bools.{lt-or-ge}
-use Rattle.ground.proofs.Digits.{digit-lt, put-lt}
-use Rattle.acts.specs.Seven.{afterSet, afterLook}
 use Rattle.acts.specs.Acts.{setTo, lookAt}
+use Rattle.acts.proofs.Outcomes.{set-below, look-below}
 use Rattle.acts.specs.declared.act.Act.{Act}
 use Rattle.acts.specs.declared.act.Act.the-variants.{Set, Look}
 use Rattle.plan.specs.Plans.{System, may, Lawful, Outcome, after-set, after-look, Plan, stop, set-then, look-then, Works, height}
@@ -18,21 +16,12 @@ use Rattle.plan.specs.Ranks.{IsRank}
 use Rattle.plan.specs.Certificate.{Certified}
 use Rattle.plan.proofs.Acts.{after-a-set, after-a-look}
 use Rattle.plan.proofs.Layers.{Within, act-then}
-use Rattle.plan.proofs.Unknowns.{seven, set-lt, look-lt}
 use Rattle.plan.proofs.Bound.{short-plan}
-
-pub setTo-lt : (n k i : ℕ) (b : Bool) → k < 7 ^ n → i < n → setTo k i b < 7 ^ n
-unfolding setTo
-setTo-lt n k i b h l = put-lt seven k i n (afterSet (digit 7 k i) b) h l (set-lt (digit 7 k i) b (digit-lt seven k i))
-
-pub lookAt-lt : (n k i : ℕ) (b : Bool) → k < 7 ^ n → i < n → lookAt k i b < 7 ^ n
-unfolding lookAt
-lookAt-lt n k i b h l = put-lt seven k i n (afterLook b) h l (look-lt b)
 
 -- an act's outcomes are knowledge numbers of n settings again
 pub outcome-lt : {n : ℕ} {S : System} (law : Lawful n S) {k x : ℕ} {a : Act} → T (may S k a) → Outcome k a x → k < 7 ^ n → x < 7 ^ n
-outcome-lt {n} law {k} m (after-set i q b) h = setTo-lt n k i b h (law .setting-of k (Set i q b) m)
-outcome-lt {n} law {k} m (after-look i q b) h = lookAt-lt n k i b h (law .setting-of k (Look i q) m)
+outcome-lt {n} law {k} m (after-set i q b) h = set-below k i b n h (law .setting-of k (Set i q b) m)
+outcome-lt {n} law {k} m (after-look i q b) h = look-below k i b n h (law .setting-of k (Look i q) m)
 
 -- acts do not lead out of the states with an entry
 abbrev pub Closed : System → (ℕ → Type 0) → Type 0

@@ -17,7 +17,8 @@ use Rattle.acts.specs.declared.act.Named.the-variants.{One, Nothing}
 use Rattle.plan.specs.Plans.{System, may, Lawful, Plan, stop, set-then, look-then, Works}
 use Rattle.plan.specs.Bytes.{encode}
 use Rattle.plan.specs.Check.{Fault, no-act, not-permitted, not-settled, Verdict, accepted, faulty, Reading, goes-on, fails, outcomes, readAct, readNamed, readStop, readByte, judge, check}
-use Rattle.plan.proofs.Bytes.{act-of-byte, byte-of-act, byte-positive}
+use Rattle.acts.proofs.Acts.{act-of-byte}
+use Rattle.plan.proofs.Bytes.{byte-of-act, byte-positive}
 
 module _ (S : System) (k : ℕ) where
   -- what a byte comes to, case by case

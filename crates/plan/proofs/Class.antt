@@ -23,7 +23,8 @@ use Rattle.acts.specs.declared.act.Act.{Act}
 use Rattle.acts.specs.declared.act.Act.the-variants.{Set, Look}
 use Rattle.plan.specs.Plans.{System, may, Lawful, Outcome, after-set, after-look}
 use Rattle.plan.specs.Pending.{nought, unknowns}
-use Rattle.plan.proofs.Unknowns.{seven, unknowns-le, unknowns-set, unknowns-look, set-lt}
+use Rattle.acts.proofs.Seven.{set-lt}
+use Rattle.plan.proofs.Unknowns.{seven, unknowns-le, unknowns-set, unknowns-look}
 
 -- which pair a digit is of: 0 stands alone
 abbrev pairOf : ℕ → ℕ

@@ -23,7 +23,8 @@ use Rattle.plan.specs.Runs.{change, did, saw, run}
 use Rattle.plan.specs.Secret.{Twins}
 use Rattle.plan.specs.Pending.{nought}
 use Rattle.plan.proofs.Unknowns.{seven, set-known, look-known}
-use Rattle.plan.proofs.Effects.{change-other, set-digit, set-digit-other, look-digit, look-digit-other, start-stays}
+use Rattle.acts.proofs.Outcomes.{set-here, set-other, look-here, look-other}
+use Rattle.plan.proofs.Effects.{change-other, start-stays}
 
 -- what a look has shown at the start
 seen : (b x : Bool) → T (agrees (startOf (afterLook b)) x) → x ≡ b
@@ -61,14 +62,14 @@ module _ (n : ℕ) where
   unfolding fitsStart fits agrees startOf
   fits-look k i v b z t = all-intro n _ (λ j l. elim (ℕ-discrete j i) [
     | yes e ↦ rw (e, z) tt
-    | no ne ↦ rw (look-digit-other k i j b ne) at (all-at n (λ j. agrees (startSide (digit 7 (lookAt k i b)) j) (bit v j)) t j l)
+    | no ne ↦ rw (look-other k i b j ne) at (all-at n (λ j. agrees (startSide (digit 7 (lookAt k i b)) j) (bit v j)) t j l)
   ])
 
   -- a start that fits what a look has shown has that value
   pub fits-seen : (k i v : ℕ) (b : Bool) → i < n → T (fitsStart n (digit 7 (lookAt k i b)) v) → bit v i ≡ b
   unfolding fitsStart fits
   fits-seen k i v b l t =
-      seen b (bit v i) (rw (look-digit k i b) at (all-at n (λ j. agrees (startSide (digit 7 (lookAt k i b)) j) (bit v j)) t i l))
+      seen b (bit v i) (rw (look-here k i b) at (all-at n (λ j. agrees (startSide (digit 7 (lookAt k i b)) j) (bit v j)) t i l))
 
 module _ (n : ℕ) (formula : List ℕ) where
   -- where the formula has not the value b everywhere, a fitting start gives it another
@@ -117,14 +118,14 @@ module _ (n : ℕ) (formula : List ℕ) where
   -- an unknown setting after a set is another one, which was unknown before, and the set has not touched it
   real-set : (k i v a : ℕ) (b : Bool) → Real k v a → Real (setTo k i b) v (change a i b)
   real-set k i v a b real j l z = elim (ℕ-discrete j i) [
-    | yes e ↦ absurd (not-nought (afterSet (digit 7 k i) b) (set-known (digit 7 k i) b (digit-lt seven k i)) (sym (set-digit k i b) ∙ rw e at z))
-    | no ne ↦ change-other a i j b ne ∙ real j l (sym (set-digit-other k i j b ne) ∙ z)
+    | yes e ↦ absurd (not-nought (afterSet (digit 7 k i) b) (set-known (digit 7 k i) b (digit-lt seven k i)) (sym (set-here k i b) ∙ rw e at z))
+    | no ne ↦ change-other a i j b ne ∙ real j l (sym (set-other k i b j ne) ∙ z)
   ]
 
   real-look : (k i v a : ℕ) (b : Bool) → Real k v a → Real (lookAt k i b) v a
   real-look k i v a b real j l z = elim (ℕ-discrete j i) [
-    | yes e ↦ absurd (not-nought (afterLook b) (look-known b) (sym (look-digit k i b) ∙ rw e at z))
-    | no ne ↦ real j l (sym (look-digit-other k i j b ne) ∙ z)
+    | yes e ↦ absurd (not-nought (afterLook b) (look-known b) (sym (look-here k i b) ∙ rw e at z))
+    | no ne ↦ real j l (sym (look-other k i b j ne) ∙ z)
   ]
 
   open-set : (k i q : ℕ) (b : Bool) (p : Plan) → Open (setTo k i b) p → Open k (set-then i q b p)

@@ -5,15 +5,14 @@ use Prim.Native.Nat.{ℕ, zero, suc, _+_, _/_, _%_, _≤_, _<_}
 use native.Mathlib.Nat.{mod-lt, not-suc-le-zero, le-of-suc-le-suc}
 use native.Mathlib.Omega.{arith}
 use lib.Arith.{digits-div, digits-mod}
-use lib.Dec.{lit<, ltb, ltb→lt}
+use lib.Dec.{lit<}
 use Rattle.ground.specs.Digits.{digit, put}
 use Rattle.ground.specs.Search.{all}
 use Rattle.ground.proofs.Bits.{digit-zero, digit-suc}
 use Rattle.ground.proofs.Digits.{digit-lt}
-use Rattle.ground.proofs.Search.{all-at}
 use Rattle.acts.specs.Seven.{afterSet, afterLook}
 use Rattle.acts.specs.Acts.{setTo, lookAt}
-use Rattle.acts.proofs.Seven.{at-digit}
+use Rattle.acts.proofs.Seven.{at-digit, set-lt, look-lt}
 use Rattle.plan.specs.Pending.{nought, unknowns}
 
 pub seven : 0 < 7
@@ -37,21 +36,11 @@ unfolding unknowns
 unknowns-le zero k = omega arith
 unknowns-le (suc n) k = omega (arith, nought-le (k % 7), unknowns-le n (k / 7))
 
--- the digit after a set is a digit and not 0; so is the one after a look
-pub set-lt : (d : ℕ) (b : Bool) → d < 7 → afterSet d b < 7
-unfolding all afterSet
-set-lt d false h = ltb→lt (afterSet d false) 7 (all-at 7 (λ d. ltb (afterSet d false) 7) tt d h)
-set-lt d true h = ltb→lt (afterSet d true) 7 (all-at 7 (λ d. ltb (afterSet d true) 7) tt d h)
-
+-- the digit after a set is not 0; nor is the one after a look
 pub set-known : (d : ℕ) (b : Bool) → d < 7 → nought (afterSet d b) ≡ 0
 unfolding all afterSet
 set-known d false h = at-digit (λ d. nought (afterSet d false)) (λ d. 0) tt d h
 set-known d true h = at-digit (λ d. nought (afterSet d true)) (λ d. 0) tt d h
-
-pub look-lt : (b : Bool) → afterLook b < 7
-unfolding afterLook
-look-lt false = omega arith
-look-lt true = omega arith
 
 pub look-known : (b : Bool) → nought (afterLook b) ≡ 0
 unfolding afterLook

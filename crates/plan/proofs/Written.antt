@@ -18,7 +18,8 @@ use Rattle.plan.specs.Plans.{System, Lawful, Outcome, after-set, after-l
 use Rattle.plan.specs.Ranks.{IsRank, Lowers, Chosen, Written}
 use Rattle.plan.proofs.Acts.{can, can-in, can-may, can-at}
 use Rattle.plan.proofs.Layers.{below, complete, layer-out}
-use Rattle.plan.proofs.Bytes.{act-of-byte, byte-of-act, byte-injective}
+use Rattle.acts.proofs.Acts.{act-of-byte}
+use Rattle.plan.proofs.Bytes.{byte-of-act, byte-injective}
 use Rattle.plan.proofs.Ranks.{first-of, rank-unique, rank-least, rank-in, rank-out}
 
 -- a plan of height 0 is a stop

@@ -7,25 +7,21 @@ use lib.Dec.{lit<}
 use lib.ListN.{length}
 use Rattle.ground.specs.Digits.{bit}
 use Rattle.acts.proofs.Seven.{first-lt}
-use Rattle.knowledge.specs.Number.{digitIn, numberOf, firstAt, firstDigits}
+use Rattle.knowledge.specs.Number.{firstAt}
 use Rattle.knowledge.proofs.Number.{sum-lt}
-use Rattle.knowledge.proofs.States.{number-state, first-state}
 use Rattle.ground.specs.Order.{only, First}
 use Rattle.ground.proofs.OrderLaws.{least-only, first-left, first-right}
 use Rattle.plan.specs.Check.{Fault, no-act, not-permitted, not-settled, too-soon, left-over, Verdict, accepted, faulty, check}
 use Rattle.question.specs.Question.{systemOf, startNumber}
 use Rattle.question.specs.Rows.{questionRows}
 use Rattle.question.specs.Rows as Q
-use Rattle.question.specs.Asks.{ValidQuestion, Asks}
+use Rattle.question.specs.Asks.{ValidQuestion}
 use Rattle.question.specs.declared.Question.{Question}
 use Rattle.question.specs.declared.Refusal as Q2
-use Rattle.question.specs.declared.Asked.{Asked}
-use Rattle.question.specs.declared.Asked.the-variants.{Valid, Not}
 use Rattle.question.proofs.RowLaws.{question-clear}
 use Rattle.plancheck.specs.Refusals.{number, place, faultNumber, refusalOf, checkRows}
 use Rattle.plancheck.specs.Checks.{questionStart, JudgedAs, Refuses, Checks}
 use Rattle.plancheck.specs.Inner.{answerOf}
-use Rattle.plancheck.specs.declared.answer.Refusal.{Refusal}
 use Rattle.plancheck.specs.declared.answer.CheckAnswer.{CheckAnswer}
 
 -- ---- the start
@@ -34,12 +30,6 @@ use Rattle.plancheck.specs.declared.answer.CheckAnswer.{CheckAnswer}
 pub start-small : (known values : ℕ) → startNumber known values < 7 ^ 7
 unfolding startNumber firstAt
 start-small known values = sum-lt (lit< tt) (firstAt known values) 7 (λ i l. first-lt (bit known i) (bit values i))
-
--- the number of the state at the start
-pub start-is : (known values : ℕ) {ds : List ℕ} {x : ℕ} → ds ≡ firstDigits known values → x ≡ numberOf 7 (digitIn ds) → x ≡ startNumber known values
-unfolding startNumber
-start-is known values e f =
-    f ∙ ap (λ (l : List ℕ). numberOf 7 (digitIn l)) (e ∙ first-state known values) ∙ number-state (numberOf 7 (firstAt known values)) (start-small known values)
 
 -- ---- the answer
 
@@ -59,14 +49,6 @@ fault-place too-soon i = refl
 fault-place left-over i = refl
 
 module _ (book : List ℕ) (q : Question) (make learn plan : List ℕ) where
-  -- what `ask` ensures of its answer, once the answer is known
-  pub as-valid : {a : Asked} {n m : ℕ} → a ≡ Valid n m → Asks book q make learn a → ValidQuestion book q make learn n m
-  as-valid e h = subst (Asks book q make learn) e h
-
-  pub as-not : {a : Asked} {why : Q2.Refusal} → a ≡ Not why → Asks book q make learn a
-      → First (questionRows book (q .team) (q .known) (q .values) make learn) (Q.number why) (Q.place why)
-  as-not e h = subst (Asks book q make learn) e h
-
   -- the question's refusals come first
   pub question-row : (x p : ℕ) → First (questionRows book (q .team) (q .known) (q .values) make learn) x p → Refuses book q make learn plan x p
   unfolding checkRows

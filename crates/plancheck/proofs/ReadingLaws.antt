@@ -5,20 +5,16 @@ use mathlib.Core.List.{List}
 use Prim.Native.Nat.{ℕ, _^_, _≤_, _<_}
 use native.Mathlib.Omega.{arith}
 use lib.Dec.{leb, ltb, ltb→lt}
-use lib.ListN.{set}
 use Rattle.ground.specs.Digits.{digit, bit}
 use Rattle.ground.proofs.Bools.{true→T, and-left}
-use Rattle.acts.specs.Seven.{afterSet, afterLook}
 use Rattle.acts.specs.Acts.{settingOf, postOf, actOf, offered, setTo, lookAt}
 use Rattle.acts.specs.declared.act.Act.{Act}
 use Rattle.acts.specs.declared.act.Act.the-variants.{Set, Look}
 use Rattle.acts.specs.declared.act.Named.{Named}
 use Rattle.acts.specs.declared.act.Named.the-variants.{One, Nothing}
-use Rattle.acts.proofs.Outcomes.{set-below, look-below}
-use Rattle.knowledge.specs.Number.{digitIn, digitsOf, numberOf}
+use Rattle.knowledge.specs.Number.{digitIn, digitsOf}
 use Rattle.knowledge.specs.Allowed.{permitted}
 use Rattle.knowledge.proofs.Number.{digits-are}
-use Rattle.knowledge.proofs.States.{number-state, set-state, look-state}
 use Rattle.plan.specs.Check.{goes-on, outcomes, readAct, readNamed, readByte}
 use Rattle.plan.proofs.Check.{read-named}
 use Rattle.knowledge.specs.Goal.{goalSettled}
@@ -28,18 +24,6 @@ use Rattle.plancheck.specs.declared.answer.Refusal.the-variants.{NoAct, 
 use Rattle.plancheck.specs.declared.reading.Reading.{Reading}
 use Rattle.plancheck.specs.declared.reading.Reading.the-variants.{Stops, Goes, Parts, Fails}
 use Rattle.judging.proofs.GoalLaws.{unguarded}
-
--- the number of the state after an act at k
-module _ (k i : ℕ) (b : Bool) (small : k < 7 ^ 7) (seven : i < 7) where
-  pub set-number : {ds es : List ℕ} {x : ℕ} → ds ≡ digitsOf k → es ≡ set ds i (afterSet (digitIn ds i) b) → x ≡ numberOf 7 (digitIn es) → x ≡ setTo k i b
-  set-number e f g =
-      g ∙ ap (λ (l : List ℕ). numberOf 7 (digitIn l)) (f ∙ ap (λ (l : List ℕ). set l i (afterSet (digitIn l i) b)) e ∙ set-state k i b seven)
-      ∙ number-state (setTo k i b) (set-below k i b 7 small seven)
-
-  pub look-number : {ds es : List ℕ} {x : ℕ} → ds ≡ digitsOf k → es ≡ set ds i (afterLook b) → x ≡ numberOf 7 (digitIn es) → x ≡ lookAt k i b
-  look-number e f g =
-      g ∙ ap (λ (l : List ℕ). numberOf 7 (digitIn l)) (f ∙ ap (λ (l : List ℕ). set l i (afterLook b)) e ∙ look-state k i b seven)
-      ∙ number-state (lookAt k i b) (look-below k i b 7 small seven)
 
 -- the outcomes of an act
 pub set-goes : (k : ℕ) {i q x : ℕ} {b : Bool} {a : Act} → a ≡ Set i q b → x ≡ setTo k i b → Goes x ≡ readingOf 0 (goes-on (outcomes k a))

@@ -1,4 +1,4 @@
--- How the table grows in a round: an entry that had a rank keeps it, and an entry below h had it before. So growing composes.
+-- How the table grows by pushes of one rank: an entry that had a rank keeps it, and an entry below h had it before. So growing composes.
 use mathlib.Core.Path.{_≡_, refl, sym, ap, _∙_}
 use mathlib.Core.Logic.{inl, inr}
 use mathlib.Core.List.{List}

@@ -1,4 +1,4 @@
--- A state's number and its present side, as one digit changes: each moves by the digit's place, in base 7 and in base 3. So both are running sums.
+-- A state's number and its present side, as one digit changes: each moves by the digit's place, in base 7 and in base 3.
 use mathlib.Core.Path.{_≡_, sym, ap, _∙_}
 use Prim.Native.Nat.{ℕ, zero, suc, _+_, _*_, _^_, _≤_, _<_}
 use native.Mathlib.Omega.{arith}

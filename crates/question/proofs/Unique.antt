@@ -3,13 +3,13 @@
 use mathlib.Core.Path.{_≡_, refl, sym, ap, ap₂, _∙_}
 use mathlib.Core.List.{List}
 use mathlib.Core.Bool.{cond}
-use Prim.Native.Nat.{ℕ, zero, suc, _^_, _≤_, _<_}
-use native.Mathlib.Nat.{two-pow-succ}
+use Prim.Native.Nat.{ℕ, _≤_, _<_}
 use lib.Pow.{pow-mono}
 use native.Mathlib.Omega.{arith}
-use lib.Dec.{eqb, lit<}
+use lib.Dec.{eqb}
 use Rattle.knowledge.specs.Fits.{known}
 use Rattle.ground.specs.Order.{First}
+use Rattle.ground.proofs.Bits.{below-power}
 use Rattle.ground.proofs.OrderLaws.{first-unique, first-clear}
 use Rattle.book.proofs.Theorems.{sound-one}
 use Rattle.book.proofs.Theorems as B
@@ -27,10 +27,6 @@ use Rattle.question.specs.declared.Refusal.the-variants.{Book, Team, Kno
 use Rattle.question.specs.declared.Asked.{Asked}
 use Rattle.question.specs.declared.Asked.the-variants.{Valid, Not}
 use Rattle.question.proofs.RowLaws.{question-clear}
-
-pub below-power : (x : ℕ) → x < 2 ^ x
-below-power zero = lit< tt
-below-power (suc x) = rw two-pow-succ (omega (arith, below-power x))
 
 -- a team of the book's posts is a byte
 team-byte : {m team : ℕ} → m ≤ 8 → TeamFits m team → team < 256

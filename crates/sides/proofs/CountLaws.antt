@@ -1,12 +1,11 @@
 -- The powers of up to seven settings: how large they are, and those that code reads from a table, by a computed test over its eight entries.
 use mathlib.Core.Path.{_≡_}
 use mathlib.Core.List.{List, [], _∷_}
-use Prim.Native.Nat.{ℕ, _^_, _%_, _*_, _≤_}
-use native.Mathlib.Nat.{mod-eq-of-lt, one-mul, pow-le-pow-right}
+use Prim.Native.Nat.{ℕ, _^_, _≤_}
+use native.Mathlib.Nat.{pow-le-pow-right}
 use native.Mathlib.Omega.{arith}
 use lib.Dec.{T, eqb, eqb→eq, lit<}
 use lib.ListN.{getD}
-use lib.Pow.{pow-mono}
 use Rattle.ground.specs.Search.{all}
 use Rattle.ground.proofs.Search.{all-at}
 
@@ -18,9 +17,6 @@ states-most n h = pow-le-pow-right (lit< {m = 0} {n = 7} tt) h
 
 pub power-of : (b : ℕ) (t : List ℕ) → T (all 8 (λ n. eqb (getD t n 0) (b ^ n))) → (n : ℕ) → n ≤ 7 → getD t n 0 ≡ b ^ n
 power-of b t test n h = eqb→eq (getD t n 0) (b ^ n) (all-at 8 (λ n. eqb (getD t n 0) (b ^ n)) test n (omega arith))
-
-pub twos : (n : ℕ) → n ≤ 7 → 1 * 2 ^ n % 256 ≡ 2 ^ n
-twos n h = rw one-mul (mod-eq-of-lt (omega (arith, pow-mono h)))
 
 abbrev pub threes : List ℕ
 threes = 1 ∷ 3 ∷ 9 ∷ 27 ∷ 81 ∷ 243 ∷ 729 ∷ 2187 ∷ []

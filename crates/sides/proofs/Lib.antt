@@ -1,9 +1,8 @@
--- Laws that callers cite: the powers of up to seven settings, the side that a knowledge number shows, a state taken apart, entries of 1 and 0, what
--- fills a table, and what settles the contracts; then what only this crate's own proofs use.
+-- Laws that callers cite: the powers of up to seven settings, the side that a knowledge number shows, a state taken apart, what fills a
+-- table, and what settles the contracts; then what only this crate's own proofs use.
 pub mod CountLaws
 pub mod Shown
 pub mod ApartLaws
-pub mod Ones
 pub mod FillLaws
 pub mod Unique
 mod ListLaws

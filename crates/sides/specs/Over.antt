@@ -11,16 +11,6 @@ use Rattle.sides.specs.Sides.{nowSideNumber, startSideNumber}
 unfoldable pub entry : List (List ℕ) → ℕ → ℕ → ℕ
 entry t i s = getD (getD t i []) s 0
 
-abbrev pub oneOf : Bool → ℕ
-oneOf true = 1
-oneOf false = 0
-
--- a table over the sides of n settings: entry s is 1 where f holds at the side s, else 0; past 3^n it is 0
-pub record SideTable (n : ℕ) (f : ℕ → Bool) (t : List ℕ) : Type 0 where
-  pub long : length t ≡ 2187
-  pub each : (s : ℕ) → s < 3 ^ n → getD t s 0 ≡ oneOf (f s)
-  pub past : (s : ℕ) → 3 ^ n ≤ s → getD t s 0 ≡ 0
-
 -- the mark of a state: 0 where its entries in both tables are not 0, else 255
 abbrev pub rankIf : Bool → ℕ
 rankIf true = 0

@@ -7,8 +7,9 @@ ghost use Rattle.acts.specs.Seven.{nowOf};
 ghost use Rattle.sides.specs.Sides.{nowSideNumber};
 ghost use Rattle.sides.specs.Apart.{Apart};
 
-// What a digit tells of the present value: 0 unknown, 1 false, 2 true. The seven answers are packed
-// into one number, since an array would be built at each use. For this repository alone.
+// What a digit tells of the present value: 0 unknown, 1 false, 2 true, as `acts::now_side` has it for any
+// byte. The seven answers are packed into one number, so that no branch is taken: this is asked for every
+// setting of every state that is pushed from. For this repository alone.
 pub fn now_of(digit: u8) -> usize
     requires { ⌜ digit < 7 ⌝ }
     ensures { λ r. ⌜ r ≡ nowOf digit ⌝ }

@@ -1,7 +1,7 @@
 // Sides. A side tells of each setting whether its value is unknown, false or true, so n settings have
 // 3^n of them, and what a team may do depends on the present side alone. The crate knows a side as a
-// number, how a table over all sides is filled, and how the states in which a goal is settled are
-// marked from two such tables.
+// number, a state taken apart into its digits and its present side, how a table over all sides is
+// filled, and how the states in which a goal is settled are marked from two such tables.
 //
 // It refuses nothing: each function is called by this repository alone, with at most seven settings,
 // and says so. The only room that is lent is that of `mark`, which says what it leaves there.
@@ -16,7 +16,6 @@ pub use apart::now_of;
 pub use apart::side_of;
 pub use apart::take_apart;
 pub use counts::numbers;
-pub use counts::valuations;
 pub use filled::fill;
 pub use marks::mark;
 

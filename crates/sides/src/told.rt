@@ -10,7 +10,7 @@ pub enum Told {
     Valuation(usize),
 }
 
-// What the side tells of the n settings; for this repository alone.
+// What the side tells of the n settings. For this crate alone: it is one of the 3^n sides.
 pub fn told_by(n: u8, side: usize) -> Told
     requires { ⌜ (n ≤ 7) × (side < 3 ^ n) ⌝ }
     ensures { λ r. ⌜ SideTells n side r ⌝ }

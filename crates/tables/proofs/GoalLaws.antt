@@ -18,10 +18,9 @@ use Rattle.ground.proofs.Bools.{T→true, lt-or-ge}
 use Rattle.knowledge.specs.Fits.{always, is, oneValue}
 use Rattle.knowledge.proofs.Fits.{always-intro, always-take}
 use Rattle.knowledge.specs.Goal.{learnTable}
-use Rattle.sides.specs.Over.{oneOf, SideTable}
-use Rattle.tables.specs.Tables.{Made, Learnt}
+use Rattle.tables.specs.Tables.{oneOf, SideTable, Made, Learnt}
 use Rattle.sides.proofs.CountLaws.{sides-most}
-use Rattle.sides.proofs.Ones.{one-lt, side-some}
+use Rattle.tables.proofs.Ones.{one-lt, side-some}
 use Rattle.sides.specs.Fill.{Filled}
 use Rattle.tables.specs.Inner.{EachColumn, MadeAt, sameOf, SettledAt, Settled, bothOf, Meets}
 

@@ -4,12 +4,11 @@ use mathlib.Core.Path.{_≡_, refl, sym, ap, _∙_}
 use mathlib.Core.Logic.{inl, inr}
 use mathlib.Core.List.{List, []}
 use mathlib.Core.Bool.{Bool, true, false, _&&_}
-use Prim.Native.Nat.{ℕ, zero, suc, _+_, _*_, _-_, _/_, _%_, _^_, _≤_, _<_}
+use Prim.Native.Nat.{ℕ, zero, suc, _+_, _*_, _-_, _^_, _≤_, _<_}
 use native.Mathlib.Nat.{pow-suc}
 use native.Mathlib.Omega.{arith}
 use lib.Arith.{digits-div, digits-mod}
 use lib.Dec.{eqb, lit<}
-use borrow.Author.Tests.{eq-eqb, ne-eqb}
 use lib.ListN.{length, getD, set, drop, replicate, length-replicate, getD-replicate, length-set, List·getD-eq-default}
 use lib.Seq.{getD-set-other}
 use Rattle.ground.specs.Digits.{digit, bit}
@@ -20,10 +19,10 @@ use Rattle.block.specs.declared.rule.Right.{Right}
 use Rattle.knowledge.specs.Fits.{always}
 use Rattle.knowledge.proofs.Fits.{always-take}
 use Rattle.tables.proofs.ListLaws.{each-more}
-use Rattle.sides.proofs.Ones.{one-lt}
+use Rattle.tables.proofs.Ones.{one-lt}
 use Rattle.sides.proofs.FillLaws.{zeros, zeros-long, zeros-at}
-use Rattle.sides.specs.Over.{entry, oneOf}
-use Rattle.tables.specs.Tables.{PostTables}
+use Rattle.sides.specs.Over.{entry}
+use Rattle.tables.specs.Tables.{oneOf, PostTables}
 use Rattle.sides.specs.Fill.{Filled}
 use Rattle.tables.specs.Inner.{doubled, PostsAt, EachColumn}
 
@@ -65,15 +64,6 @@ bits-all {f} {post} {bits} b none =
     let e : post ≡ 0 = omega arith in
     let w = rw e at b in
     (w .small, λ q h. w .tells q (omega arith) ∙ ap f (omega arith))
-
--- a bit as code tests it
-pub bit-on : (x q : ℕ) → x / 2 ^ q % 2 ≡ 1 → bit x q ≡ true
-unfolding bit digit
-bit-on x q e = eq-eqb (x / 2 ^ q % 2) 1 e
-
-pub bit-off : (x q : ℕ) → (x / 2 ^ q % 2 ≡ 1 → ⊥) → bit x q ≡ false
-unfolding bit digit
-bit-off x q e = ne-eqb (x / 2 ^ q % 2) 1 e
 
 -- one setting's table, and one that nothing was stored in
 pub record PostRow (n : ℕ) (book : List ℕ) (team : ℕ) (right : Right) (i : ℕ) (row : List ℕ) : Type 0 where

@@ -16,7 +16,7 @@ use Rattle.knowledge.proofs.Fits.{always-ext}
 use Rattle.sides.specs.Sides.{nowSideNumber, startSideNumber}
 use Rattle.sides.specs.Over.{entry, rankIf, markOf, Marks}
 use Rattle.sides.proofs.Shown.{now-number-lt, start-number-lt, now-digit, start-digit}
-use Rattle.sides.proofs.Ones.{side-some}
+use Rattle.tables.proofs.Ones.{side-some}
 use Rattle.tables.specs.Tables.{PostTables, Made, Learnt}
 
 -- a judgement at the side that a knowledge number shows

@@ -1,8 +1,8 @@
--- Two results that `posts_allowed` may give are equal: every entry is given, and every length. Those of `made` and `learnt` are, by
--- `side-table-unique` of the crate below.
+-- Two results that a function of this crate may give are equal: every entry is given, and every length.
 use mathlib.Core.Path.{_≡_, sym, _∙_}
 use mathlib.Core.Logic.{inl, inr}
 use mathlib.Core.List.{List, []}
+use mathlib.Core.Bool.{Bool}
 use Prim.Native.Nat.{ℕ, _^_, _<_}
 use native.Mathlib.Omega.{arith}
 use lib.ListN.{getD}
@@ -11,8 +11,17 @@ use Rattle.ground.proofs.Bits.{same-bits}
 use Rattle.ground.proofs.Bools.{lt-or-ge}
 use Rattle.block.specs.declared.rule.Right.{Right}
 use Rattle.sides.specs.Over.{entry}
-use Rattle.tables.specs.Tables.{PostTables}
+use Rattle.tables.specs.Tables.{PostTables, SideTable}
 
+-- `made` and `learnt`
+pub side-table-unique : {n : ℕ} {f : ℕ → Bool} {t u : List ℕ} → SideTable n f t → SideTable n f u → t ≡ u
+side-table-unique {n} {f} {t} {u} a b =
+    ext-getD 0 t u (a .long ∙ sym (b .long)) (λ s l. elim (lt-or-ge s (3 ^ n)) [
+      | inl h ↦ a .each s h ∙ sym (b .each s h)
+      | inr h ↦ a .past s h ∙ sym (b .past s h)
+    ])
+
+-- `posts_allowed`
 module _ {n team : ℕ} {book : List ℕ} {right : Right} {t u : List (List ℕ)} (a : PostTables n book team right t) (b : PostTables n book team right u) where
   same-entry : (i s : ℕ) → entry t i s ≡ entry u i s
   same-entry i s = elim (lt-or-ge i n) [

@@ -10,7 +10,7 @@ use Rattle.ground.specs.Table.{truth}
 use Rattle.block.specs.Rule.{rulePlace}
 use Rattle.block.specs.declared.rule.Right.{Right}
 use Rattle.knowledge.specs.Fits.{oneValue}
-use Rattle.sides.specs.Over.{oneOf}
+use Rattle.tables.specs.Tables.{oneOf}
 
 -- what holds of each of the first m columns
 abbrev pub EachColumn : (ℕ → ℕ → Type 0) → ℕ → List ℕ → Type 0

@@ -3,10 +3,10 @@
 use ground::Present;
 use ground::Start;
 use ground::TABLE;
+use ground::valuations;
 use sides::SIDES;
 use sides::VALUATIONS;
 use sides::fill;
-use sides::valuations;
 ghost use mathlib.Core.Path.{_≡_};
 ghost use Prim.Native.Nat.{_*_, _+_, _^_, _≤_, _<_};
 ghost use lib.ListN.{drop};

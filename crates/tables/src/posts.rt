@@ -1,10 +1,10 @@
 // Which posts of a team may act on each setting, at each present side.
 use block::Right;
 use ground::Present;
+use ground::valuations;
 use sides::SIDES;
 use sides::VALUATIONS;
 use sides::fill;
-use sides::valuations;
 ghost use mathlib.Core.Path.{_≡_};
 ghost use mathlib.Core.Bool.{_&&_};
 ghost use Prim.Native.Nat.{_^_, _≤_, _<_};

@@ -15,7 +15,7 @@ use borrow.Author.Tests.{lt-ltb, le-ltb}
 use Rattle.ground.specs.Digits.{bit, digit}
 use Rattle.ground.specs.Search.{all}
 use Rattle.ground.specs.Table.{truth, Within, TableOf}
-use Rattle.ground.proofs.Bools.{beq→eq, lt-or-ge, and-true}
+use Rattle.ground.proofs.Bools.{beq→eq, lt-or-ge, and-true, and-false}
 use Rattle.ground.proofs.Search.{all-at}
 use Rattle.ground.proofs.Bits.{bit-and, bit-or, bit-xor, bit-shr, bit-mod, bit-of-zero}
 use Rattle.truths.specs.Two.{has, Holds, wordsByte, BytesOf}
@@ -107,10 +107,6 @@ mask-test n = all 128 (λ v. Bool·beq (has (words (getD masks n 0) 0) v) (below
 mask-holds : (n : ℕ) → n < 6 → Holds (words (getD masks n 0) 0) (below n)
 unfolding masks all has bit digit mask-test
 mask-holds n h = by-test (words (getD masks n 0) 0) (below n) (all-at 6 mask-test tt n h)
-
-and-false : (x : Bool) → x && false ≡ false
-and-false true = refl
-and-false false = refl
 
 -- the low word through a mask, the high one gone
 pub within-low : (a : Truths) (n : ℕ) → n < 6 → Holds (words (bitAnd (a .low) (getD masks n 0)) 0) (λ v. has a v && below n v)

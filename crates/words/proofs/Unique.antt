@@ -2,21 +2,15 @@
 use mathlib.Core.Path.{_≡_, refl, sym, ap, ap₂, _∙_}
 use mathlib.Core.Bool.{Bool, true, false}
 use mathlib.Core.List.{List}
-use Prim.Native.Nat.{ℕ, zero, suc, _+_, _^_, _<_}
+use Prim.Native.Nat.{ℕ, _+_}
 use native.Mathlib.Omega.{arith}
-use lib.Dec.{lit<}
-use native.Mathlib.Nat.{two-pow-succ}
 use lib.Pow.{pow-mono}
 use Rattle.ground.specs.Digits.{bit}
-use Rattle.ground.proofs.Bits.{same-bits}
+use Rattle.ground.proofs.Bits.{same-bits, below-power}
 use Rattle.words.specs.Marks.{Marked, Names}
 use Rattle.words.specs.declared.names.Marks.{Marks}
 use Rattle.words.specs.declared.names.Naming.{Naming}
 use Rattle.words.specs.declared.names.Naming.the-variants.{Stray, Of}
-
-below-power : (x : ℕ) → x < 2 ^ x
-below-power zero = lit< tt
-below-power (suc x) = rw two-pow-succ (omega (arith, below-power x))
 
 pub mask-one : (a b : ℕ) → ((i : ℕ) → bit a i ≡ bit b i) → a ≡ b
 mask-one a b f =

@@ -17,7 +17,8 @@ use Rattle.plan.specs.Ranks.{IsRank, Chosen, Written}
 use Rattle.plan.specs.Bytes.{encode}
 use Rattle.plan.specs.Certificate.{Leads}
 use Rattle.plan.proofs.Ranks.{rank-unique}
-use Rattle.plan.proofs.Certificate.{setTo-lt, lookAt-lt, numbers-closed}
+use Rattle.acts.proofs.Outcomes.{set-below, look-below}
+use Rattle.plan.proofs.Certificate.{numbers-closed}
 use Rattle.plan.proofs.Table.{lowers-out}
 use Rattle.plan.proofs.Written.{written-exists}
 use Rattle.plan.proofs.Accepted.{written-most}
@@ -50,7 +51,7 @@ module _ {n : ℕ} {sets′ looks : List (List ℕ)} {ranks : List ℕ} where
         let l : getD ranks (setTo k i b) 0 < getD ranks k 0 = chosen-lower (from .told) (from .state) c .lower (setTo k i b) (after-set i q b) in (
           record {
             few = from .few;
-            state = setTo-lt n k i b (from .state) (chosen-setting (from .told) c);
+            state = set-below k i b n (from .state) (chosen-setting (from .told) c);
             size = from .size;
             finite = omega (arith, from .finite);
             system = from .system;
@@ -64,7 +65,7 @@ module _ {n : ℕ} {sets′ looks : List (List ℕ)} {ranks : List ℕ} where
         let l : getD ranks (lookAt k i b) 0 < getD ranks k 0 = chosen-lower (from .told) (from .state) c .lower (lookAt k i b) (after-look i q b) in (
           record {
             few = from .few;
-            state = lookAt-lt n k i b (from .state) (chosen-setting (from .told) c);
+            state = look-below k i b n (from .state) (chosen-setting (from .told) c);
             size = from .size;
             finite = omega (arith, from .finite);
             system = from .system;
@@ -141,7 +142,7 @@ module _ {n : ℕ} {sets′ looks : List (List ℕ)} {ranks : List ℕ} {k : ℕ
   module _ {i q : ℕ} (c : (S : System) → Told n sets′ looks ranks S → Chosen S k (Look i q)) where
     other : (S : System) → Told n sets′ looks ranks S → (p : Plan) × Written S (lookAt k i true) p
     other S t =
-        let h = lookAt-lt n k i true (from .state) (chosen-setting t (c S t)) in
+        let h = look-below k i true n (from .state) (chosen-setting t (c S t)) in
         let l : getD ranks (lookAt k i true) 0 < getD ranks k 0 = chosen-lower t (from .state) (c S t) .lower (lookAt k i true) (after-look i q true) in
         written-exists (t .law) (t .few) (lookAt k i true) (getD ranks (lookAt k i true) 0) (t .ranked (lookAt k i true) h) (omega (arith, from .finite))
 

@@ -3,57 +3,36 @@ use mathlib.Core.Path.{_≡_, refl, sym, ap, ap₂, _∙_, subst}
 use mathlib.Core.Logic.{inl, inr}
 use mathlib.Core.List.{List, []}
 use mathlib.Core.Bool.{Bool, true, false}
-use Prim.Native.Nat.{ℕ, zero, suc, _+_, _*_, _/_, _%_, _^_, _≤_, _<_}
+use Prim.Native.Nat.{ℕ, _+_, _*_, _/_, _%_, _^_, _≤_, _<_}
 use native.Mathlib.Omega.{arith}
 use lib.Dec.{T, lit<}
-use lib.ListN.{getD, set}
-use borrow.Author.Tests.{eq-eqb, ne-eqb}
+use lib.ListN.{getD}
 use Rattle.ground.specs.Digits.{digit, bit}
 use Rattle.ground.specs.Search.{Least}
 use Rattle.ground.proofs.Bools.{T→false, true→T, false→T, both, decide, lt-or-ge}
 use Rattle.ground.proofs.Bits.{same-bits, bit-of-zero}
-use Rattle.acts.specs.Seven.{afterSet, afterLook}
 use Rattle.acts.specs.Acts.{setTo, lookAt, byteOf, ofKind, settingOf, postOf, kindOf}
 use Rattle.acts.specs.declared.act.Act.{Act}
 use Rattle.acts.specs.declared.act.Act.the-variants.{Set, Look}
-use Rattle.acts.proofs.Acts.{of-kind-of, byte-of-kind}
-use Rattle.knowledge.specs.Number.{digitIn, digitsOf, numberOf}
+use Rattle.acts.proofs.Acts.{of-kind-of, byte-of-kind, setting-of-kind, post-of-kind}
+use Rattle.knowledge.specs.Number.{digitIn, digitsOf}
 use lib.Arith.{digits-div, digits-mod}
 use Rattle.knowledge.proofs.Number.{digits-are}
 use Rattle.writer.specs.declared.steps.Step.{Step}
-use Rattle.knowledge.proofs.States.{number-state, set-state, look-state}
 use Rattle.plan.specs.Plans.{System, may, after-set, after-look}
 use Rattle.plan.specs.Ranks.{Chosen}
 use native.Mathlib.Nat.{pow-le-pow-right}
-use Rattle.sides.proofs.Shown.{now-number-lt}
 use Rattle.plan.proofs.Acts.{after-a-set, after-a-look}
-use Rattle.plan.proofs.Certificate.{setTo-lt, lookAt-lt, numbers-closed}
+use Rattle.plan.proofs.Certificate.{numbers-closed}
 use Rattle.plan.proofs.Table.{chosen}
 use Rattle.sides.specs.Sides.{nowSideNumber}
 use Rattle.sides.specs.Over.{entry}
 use Rattle.writer.specs.Told.{Told, Lower, Tries, family}
 
--- ---- the state after an act, as the knowledge type computes it
-
-pub set-number : (k i : ℕ) (b : Bool) {ds es : List ℕ} {r : ℕ} → k < 7 ^ 7 → i < 7 → ds ≡ digitsOf k → es ≡ set ds i (afterSet (digitIn ds i) b)
-    → r ≡ numberOf 7 (digitIn es) → r ≡ setTo k i b
-set-number k i b {ds} {es} hk hi d e r =
-    r ∙ ap (λ (xs : List ℕ). numberOf 7 (digitIn xs)) (e ∙ ap (λ (xs : List ℕ). set xs i (afterSet (digitIn xs i) b)) d ∙ set-state k i b hi)
-    ∙ number-state (setTo k i b) (setTo-lt 7 k i b hk hi)
-
-pub look-number : (k i : ℕ) (b : Bool) {ds es : List ℕ} {r : ℕ} → k < 7 ^ 7 → i < 7 → ds ≡ digitsOf k → es ≡ set ds i (afterLook b)
-    → r ≡ numberOf 7 (digitIn es) → r ≡ lookAt k i b
-look-number k i b {ds} {es} hk hi d e r =
-    r ∙ ap (λ (xs : List ℕ). numberOf 7 (digitIn xs)) (e ∙ ap (λ (xs : List ℕ). set xs i (afterLook b)) d ∙ look-state k i b hi)
-    ∙ number-state (lookAt k i b) (lookAt-lt 7 k i b hk hi)
-
 -- ---- bounds
 
 pub number-small : (n k : ℕ) → n ≤ 7 → k < 7 ^ n → k < 7 ^ 7
 number-small n k h l = omega (arith, pow-le-pow-right {n = 7} (lit< tt) {i = n} {j = 7} h)
-
-pub side-small : (n k : ℕ) → n ≤ 7 → nowSideNumber n k < 2187
-side-small n k h = omega (arith, now-number-lt n k, pow-le-pow-right {n = 3} (lit< tt) {i = n} {j = 7} h)
 
 -- the entry as code reads it
 pub at-side : (t : List (List ℕ)) (i : ℕ) {side s : ℕ} → side ≡ s → getD (getD t i []) side 0 ≡ entry t i s
@@ -69,15 +48,6 @@ rank-at ranks e = ap (λ (x : ℕ). getD ranks x 0) e
 -- a byte that is not 0 has a bit below 8
 pub some-bit : (x : ℕ) → x < 256 → (x ≡ 0 → ⊥) → ((q : ℕ) → q < 8 → bit x q ≡ false) → ⊥
 some-bit x h ne f = ne (same-bits 8 x 0 h (lit< tt) (λ i l. f i l ∙ sym (bit-of-zero i)))
-
--- a bit as code takes it
-pub bit-set : (x q : ℕ) → x / 2 ^ q % 2 ≡ 1 → bit x q ≡ true
-unfolding bit digit
-bit-set x q e = eq-eqb (x / 2 ^ q % 2) 1 e
-
-pub bit-clear : (x q : ℕ) → (x / 2 ^ q % 2 ≡ 1 → ⊥) → bit x q ≡ false
-unfolding bit digit
-bit-clear x q f = ne-eqb (x / 2 ^ q % 2) 1 f
 
 -- no bit of the mask stands below q
 abbrev pub NoneBelow : ℕ → ℕ → Type 0
@@ -178,11 +148,6 @@ pair-family : (a : Act) → settingOf a < 7 → family (pairOf a) (postOf a) ≡
 unfolding pairOf
 pair-family a h = ap₂ (λ (x y : ℕ). ofKind x y (postOf a)) (digits-div (kindOf a) h) (digits-mod (kindOf a) h) ∙ of-kind-of a
 
-post-of-kind : (kind i q : ℕ) → postOf (ofKind kind i q) ≡ q
-post-of-kind zero i q = refl
-post-of-kind (suc zero) i q = refl
-post-of-kind (suc (suc x)) i q = refl
-
 post-family : (p q : ℕ) → postOf (family p q) ≡ q
 post-family p q = post-of-kind (p / 7) (p % 7) q
 
@@ -225,11 +190,6 @@ module _ {n : ℕ} {sets looks : List (List ℕ)} {ranks : List ℕ} {S : System
 pub pair-past : {n : ℕ} {sets looks : List (List ℕ)} {ranks : List ℕ} {S : System} (told : Told n sets looks ranks S) (k p : ℕ) → n ≤ p % 7
     → (q : ℕ) → Lower S ranks k (family p q) → ⊥
 pair-past told k p h q l = omega (arith, told .law .setting-of k (family p q) (l .allowed), setting-of-kind (p / 7) (p % 7) q)
-  where
-    setting-of-kind : (kind i q : ℕ) → settingOf (ofKind kind i q) ≡ i
-    setting-of-kind zero i q = refl
-    setting-of-kind (suc zero) i q = refl
-    setting-of-kind (suc (suc x)) i q = refl
 
 -- the digit as the knowledge type tells it
 pub digit-at : (k i : ℕ) {ds : List ℕ} {d : ℕ} → k < 7 ^ 7 → ds ≡ digitsOf k → d ≡ digitIn ds i → d ≡ digit 7 k i

@@ -1,4 +1,5 @@
--- Inside: what the finder's tables tell of a system, and the step that the plan written takes. No public contract cites this.
+-- For this repository alone: what the finder's tables tell of a system, and the step that the plan written takes. No contract of a function that an
+-- outside caller reaches cites this.
 use mathlib.Core.Path.{_≡_}
 use mathlib.Core.Bool.{Bool}
 use mathlib.Core.List.{List}

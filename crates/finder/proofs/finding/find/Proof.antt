@@ -4,7 +4,8 @@ use mathlib.Core.Logic.{inl, inr}
 use native.Mathlib.Omega.{arith}
 use Rattle.question.specs.Rows.{number, place}
 use Rattle.question.specs.declared.Refusal.the-variants.{Ranks}
-use Rattle.finder.proofs.FindLaws.{as-valid, as-not, early, short-table}
+use Rattle.question.proofs.AskLaws.{as-valid, as-not}
+use Rattle.finder.proofs.FindLaws.{early, short-table}
 use borrow.Author.Needs.{needs}
 use Rattle.finder.proofs.finding.find.Statement.{statement}
 use Rattle.finder.proofs.finding.find.Tie as tie

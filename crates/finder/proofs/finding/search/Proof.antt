@@ -5,7 +5,8 @@ use native.Mathlib.Omega.{arith}
 use Rattle.question.specs.Question.{systemOf}
 use Rattle.finder.specs.Finds.{Answers}
 use Rattle.finder.proofs.Tables.{marks-ready, tables-tell}
-use Rattle.finder.proofs.FindLaws.{start-is, start-below, filled}
+use Rattle.question.proofs.AskLaws.{start-is}
+use Rattle.finder.proofs.FindLaws.{start-below, filled}
 use borrow.Author.Needs.{needs}
 use Rattle.finder.proofs.finding.search.Statement.{statement}
 use Rattle.finder.proofs.finding.search.Tie as tie

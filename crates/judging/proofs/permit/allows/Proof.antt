@@ -3,7 +3,7 @@ use borrow.Author.Needs.{needs}
 use mathlib.Core.Path.{sym, _∙_}
 use lib.Dec.{leb}
 use Rattle.knowledge.specs.Allowed.{allowed}
-use Rattle.knowledge.proofs.Allowed.{and-false}
+use Rattle.ground.proofs.Bools.{and-false}
 use Rattle.judging.proofs.permit.allows.Statement.{statement}
 use Rattle.judging.proofs.permit.allows.Tie as tie
 

@@ -4,7 +4,8 @@ use mathlib.Core.Bool.{true, false}
 use Prim.Native.Nat.{_<_}
 use Rattle.acts.specs.Acts.{settingOf}
 use Rattle.acts.specs.declared.act.Act.{Act}
-use Rattle.plancheck.proofs.ReadingLaws.{set-number, look-number, set-goes, look-parts}
+use Rattle.knowledge.proofs.States.{set-number, look-number}
+use Rattle.plancheck.proofs.ReadingLaws.{set-goes, look-parts}
 use borrow.Author.Needs.{needs}
 use Rattle.plancheck.proofs.reading.outcomes_of.Statement.{statement}
 use Rattle.plancheck.proofs.reading.outcomes_of.Tie as tie

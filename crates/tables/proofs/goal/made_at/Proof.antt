@@ -1,6 +1,6 @@
 -- `tables::goal::made_at` meets its contract, by what the table tells.
 use mathlib.Core.Path.{sym, ap, _∙_}
-use Rattle.sides.specs.Over.{oneOf}
+use Rattle.tables.specs.Tables.{oneOf}
 use borrow.Author.Needs.{needs}
 use Rattle.tables.proofs.goal.made_at.Statement.{statement}
 use Rattle.tables.proofs.goal.made_at.Tie as tie

@@ -1,5 +1,5 @@
 -- `tables::posts::post_at` meets its contract: the bit of the team, then the rule.
-use Rattle.tables.proofs.PostLaws.{bit-on, bit-off}
+use Rattle.ground.proofs.Bits.{bit-on, bit-off}
 use borrow.Author.Needs.{needs}
 use Rattle.tables.proofs.posts.post_at.Statement.{statement}
 use Rattle.tables.proofs.posts.post_at.Tie as tie

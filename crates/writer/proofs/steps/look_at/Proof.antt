@@ -1,5 +1,5 @@
 -- `look_at` meets its contract: the digits of the state after the look are those of its number.
-use Rattle.writer.proofs.StepLaws.{look-number}
+use Rattle.knowledge.proofs.States.{look-number}
 use borrow.Author.Needs.{needs}
 use Rattle.writer.proofs.steps.look_at.Statement.{statement}
 use Rattle.writer.proofs.steps.look_at.Tie as tie

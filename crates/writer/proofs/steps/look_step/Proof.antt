@@ -8,8 +8,9 @@ use lib.ListN.{getD}
 use native.Mathlib.Omega.{arith}
 use Rattle.ground.specs.Digits.{bit}
 use Rattle.ground.specs.Search.{Least}
-use Rattle.plan.proofs.Certificate.{lookAt-lt}
-use Rattle.writer.proofs.StepLaws.{number-small, side-small, at-side, rank-at, digit-at, look-seen, look-nobody, look-no-lower, look-do}
+use Rattle.acts.proofs.Outcomes.{look-below}
+use Rattle.sides.proofs.ApartLaws.{below-sides}
+use Rattle.writer.proofs.StepLaws.{number-small, at-side, rank-at, digit-at, look-seen, look-nobody, look-no-lower, look-do}
 use Rattle.writer.proofs.steps.look_step.Statement.{statement}
 use Rattle.writer.proofs.steps.look_step.Tie as tie
 
@@ -29,7 +30,7 @@ index-1-posts : tie.Need-index-1-posts
 index-1-posts c = omega (arith, c .before .before .before .before .pre)
 
 index-2-posts : tie.Need-index-2-posts
-index-2-posts c = omega (arith, c .before .before .before .before .pre .3, side-small (c .before .before .before .before .args .n) (c .before .before .before .before .args .k) (c .before .before .before .before .pre .0))
+index-2-posts c = omega (arith, c .before .before .before .before .pre .3, below-sides (c .before .before .before .before .args .n) (c .before .before .before .before .args .k) (c .before .before .before .before .pre .0))
 
 returns-2 : tie.Need-returns-2
 returns-2 c = λ S t. look-nobody t (c .before .before .before .before .before .before .args .k) (c .before .before .before .before .before .before .args .i) (c .before .before .before .before .before .before .pre .4) (sym (at-side (c .before .before .before .before .before .before .args .look .now) (c .before .before .before .before .before .before .args .i) (c .before .before .before .before .before .before .pre .3)) ∙ c .if2 .taken)
@@ -47,7 +48,7 @@ cast-if3 : tie.Need-cast-if3
 cast-if3 c = omega (arith, c .before .before .look-at .ok)
 
 shared-slice-read-if3 : tie.Need-shared-slice-read-if3
-shared-slice-read-if3 c = omega (arith, c .before .before .before .look-at .ensures, lookAt-lt (c .before .before .before .before .before .before .before .before .before .before .args .n) (c .before .before .before .before .before .before .before .before .before .before .args .k) (c .before .before .before .before .before .before .before .before .before .before .args .i) false (c .before .before .before .before .before .before .before .before .before .before .pre .1) (c .before .before .before .before .before .before .before .before .before .before .pre .4), c .before .before .before .before .before .before .before .before .before .before .pre .2)
+shared-slice-read-if3 c = omega (arith, c .before .before .before .look-at .ensures, look-below (c .before .before .before .before .before .before .before .before .before .before .args .k) (c .before .before .before .before .before .before .before .before .before .before .args .i) false (c .before .before .before .before .before .before .before .before .before .before .args .n) (c .before .before .before .before .before .before .before .before .before .before .pre .1) (c .before .before .before .before .before .before .before .before .before .before .pre .4), c .before .before .before .before .before .before .before .before .before .before .pre .2)
 
 returns-3 : tie.Need-returns-3
 returns-3 c = λ S t. look-no-lower t (c .before .before .before .before .before .before .before .before .before .before .before .args .k) (c .before .before .before .before .before .before .before .before .before .before .before .args .i) (c .before .before .before .before .before .before .before .before .before .before .before .pre .4) false (subst (λ (x : ℕ). getD (c .before .before .before .before .before .before .before .before .before .before .before .args .ranks .now) (c .before .before .before .before .before .before .before .before .before .before .before .args .k) 0 ≤ x) (rank-at (c .before .before .before .before .before .before .before .before .before .before .before .args .ranks .now) (c .before .before .before .before .look-at .ensures)) (c .if3 .taken))
@@ -56,7 +57,7 @@ cast-if4 : tie.Need-cast-if4
 cast-if4 c = omega (arith, c .before .before .before .look-at2 .ok)
 
 shared-slice-read-if4 : tie.Need-shared-slice-read-if4
-shared-slice-read-if4 c = omega (arith, c .before .before .before .before .look-at2 .ensures, lookAt-lt (c .before .before .before .before .before .before .before .before .before .before .before .before .args .n) (c .before .before .before .before .before .before .before .before .before .before .before .before .args .k) (c .before .before .before .before .before .before .before .before .before .before .before .before .args .i) true (c .before .before .before .before .before .before .before .before .before .before .before .before .pre .1) (c .before .before .before .before .before .before .before .before .before .before .before .before .pre .4), c .before .before .before .before .before .before .before .before .before .before .before .before .pre .2)
+shared-slice-read-if4 c = omega (arith, c .before .before .before .before .look-at2 .ensures, look-below (c .before .before .before .before .before .before .before .before .before .before .before .before .args .k) (c .before .before .before .before .before .before .before .before .before .before .before .before .args .i) true (c .before .before .before .before .before .before .before .before .before .before .before .before .args .n) (c .before .before .before .before .before .before .before .before .before .before .before .before .pre .1) (c .before .before .before .before .before .before .before .before .before .before .before .before .pre .4), c .before .before .before .before .before .before .before .before .before .before .before .before .pre .2)
 
 returns-4 : tie.Need-returns-4
 returns-4 c = λ S t. look-no-lower t (c .before .before .before .before .before .before .before .before .before .before .before .before .before .args .k) (c .before .before .before .before .before .before .before .before .before .before .before .before .before .args .i) (c .before .before .before .before .before .before .before .before .before .before .before .before .before .pre .4) true (subst (λ (x : ℕ). getD (c .before .before .before .before .before .before .before .before .before .before .before .before .before .args .ranks .now) (c .before .before .before .before .before .before .before .before .before .before .before .before .before .args .k) 0 ≤ x) (rank-at (c .before .before .before .before .before .before .before .before .before .before .before .before .before .args .ranks .now) (c .before .before .before .before .before .look-at2 .ensures)) (c .if4 .taken))

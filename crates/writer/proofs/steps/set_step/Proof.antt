@@ -6,8 +6,9 @@ use lib.ListN.{getD}
 use native.Mathlib.Omega.{arith}
 use Rattle.ground.specs.Digits.{bit}
 use Rattle.ground.specs.Search.{Least}
-use Rattle.plan.proofs.Certificate.{setTo-lt}
-use Rattle.writer.proofs.StepLaws.{number-small, side-small, at-side, rank-at, set-nobody, set-no-lower, set-do}
+use Rattle.acts.proofs.Outcomes.{set-below}
+use Rattle.sides.proofs.ApartLaws.{below-sides}
+use Rattle.writer.proofs.StepLaws.{number-small, at-side, rank-at, set-nobody, set-no-lower, set-do}
 use Rattle.writer.proofs.steps.set_step.Statement.{statement}
 use Rattle.writer.proofs.steps.set_step.Tie as tie
 
@@ -18,7 +19,7 @@ index-1-posts : tie.Need-index-1-posts
 index-1-posts c = omega (arith, c .before .pre)
 
 index-2-posts : tie.Need-index-2-posts
-index-2-posts c = omega (arith, c .before .pre .3, side-small (c .before .args .n) (c .before .args .k) (c .before .pre .0))
+index-2-posts c = omega (arith, c .before .pre .3, below-sides (c .before .args .n) (c .before .args .k) (c .before .pre .0))
 
 returns : tie.Need-returns
 returns c = λ S t. set-nobody t (c .before .before .before .args .k) (c .before .before .before .args .i) (c .before .before .before .pre .4) (c .before .before .before .args .value) (sym (at-side (c .before .before .before .args .set .now) (c .before .before .before .args .i) (c .before .before .before .pre .3)) ∙ c .if1 .taken)
@@ -30,7 +31,7 @@ cast-if2 : tie.Need-cast-if2
 cast-if2 c = omega (arith, c .set-to .ok)
 
 shared-slice-read-if2 : tie.Need-shared-slice-read-if2
-shared-slice-read-if2 c = omega (arith, c .before .set-to .ensures, setTo-lt (c .before .before .before .before .before .args .n) (c .before .before .before .before .before .args .k) (c .before .before .before .before .before .args .i) (c .before .before .before .before .before .args .value) (c .before .before .before .before .before .pre .1) (c .before .before .before .before .before .pre .4), c .before .before .before .before .before .pre .2)
+shared-slice-read-if2 c = omega (arith, c .before .set-to .ensures, set-below (c .before .before .before .before .before .args .k) (c .before .before .before .before .before .args .i) (c .before .before .before .before .before .args .value) (c .before .before .before .before .before .args .n) (c .before .before .before .before .before .pre .1) (c .before .before .before .before .before .pre .4), c .before .before .before .before .before .pre .2)
 
 shared-slice-read-if2-2 : tie.Need-shared-slice-read-if2-2
 shared-slice-read-if2-2 c = omega (arith, c .before .before .before .before .before .before .pre .1, c .before .before .before .before .before .before .pre .2)

@@ -1,5 +1,5 @@
 -- `set_to` meets its contract: the digits of the state after the set are those of its number.
-use Rattle.writer.proofs.StepLaws.{set-number}
+use Rattle.knowledge.proofs.States.{set-number}
 use borrow.Author.Needs.{needs}
 use Rattle.writer.proofs.steps.set_to.Statement.{statement}
 use Rattle.writer.proofs.steps.set_to.Tie as tie

@@ -5,7 +5,7 @@ use mathlib.Core.Bool.{Bool, true, false, not}
 use Prim.Native.Nat.{ℕ, _^_, _<_}
 use lib.Dec.{eqb, lit<}
 use lib.ListN.{getD}
-use Rattle.sides.specs.Over.{oneOf, SideTable}
+use Rattle.tables.specs.Tables.{oneOf, SideTable}
 
 pub one-lt : (b : Bool) → oneOf b < 2
 one-lt true = lit< tt

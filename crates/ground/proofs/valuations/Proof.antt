@@ -1,10 +1,10 @@
--- `judging::judge::valuations` meets its contract: 2 ^ n fits a byte.
+-- `ground::valuations` meets its contract: 2 ^ n fits a byte.
 use borrow.Author.Needs.{needs}
 use native.Mathlib.Nat.{one-mul, mod-eq-of-lt}
 use native.Mathlib.Omega.{arith}
 use lib.Pow.{pow-mono}
-use Rattle.judging.proofs.judge.valuations.Statement.{statement}
-use Rattle.judging.proofs.judge.valuations.Tie as tie
+use Rattle.ground.proofs.valuations.Statement.{statement}
+use Rattle.ground.proofs.valuations.Tie as tie
 
 shl-result : tie.Need-shl-result
 shl-result c = search needs
