@@ -35,13 +35,13 @@ use Rattle.finder.specs.Finds.{RanksFilled, Finds, findRows}
 use Rattle.question.specs.declared.Refusal.the-variants.{PlanRoom}
 use Rattle.question.specs.declared.Question.{Question}
 use Rattle.question.specs.declared.Refusal.{Refusal}
-use Rattle.finder.specs.declared.finding.Answer.{Answer}
-use Rattle.finder.specs.declared.finding.Answer.the-variants.{Reach, Cannot, Refused}
+use Rattle.answer.specs.declared.Answer.{Answer}
+use Rattle.answer.specs.declared.Answer.the-variants.{Reach, Cannot, Refused}
 use Rattle.finder.proofs.Unique.{find-unique, find-refused, find-ranks}
 use Rattle.finder.proofs.Theorems.{System-of, Start-of, reach-works, cannot-none, works-reach, none-cannot, cannot-secret}
 use Rattle.plancheck.specs.Checks.{Checks, Refuses as CheckRefuses}
-use Rattle.plancheck.specs.Refusals.{number as check-number, place as check-place}
-use Rattle.plancheck.specs.declared.answer.Refusal.{Refusal as CheckRefusal}
+use Rattle.step.specs.Refusals.{number as check-number, place as check-place}
+use Rattle.step.specs.declared.refusal.Refusal.{Refusal as CheckRefusal}
 use Rattle.plancheck.specs.declared.answer.CheckAnswer.{CheckAnswer}
 use Rattle.plancheck.specs.declared.answer.CheckAnswer.the-variants.{Yes, Refused as NotAccepted}
 use Rattle.plancheck.proofs.OneAnswer.{checks-one}

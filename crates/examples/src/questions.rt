@@ -3,7 +3,7 @@
 use crate::say::say;
 use crate::say::say_number;
 use crate::say::say_refused;
-use finder::Answer;
+use answer::Answer;
 use question::Question;
 
 // Where the rights of a post at a setting stand: its look rule's table, then its set rule's.

@@ -25,20 +25,22 @@ use Rattle.question.specs.declared.Question.{Question}
 use Rattle.question.specs.declared.Refusal.{Refusal as QuestionRefusal}
 use Rattle.question.proofs.Small as QuestionSmall
 use Rattle.finder.specs.Finds.{Finds}
-use Rattle.finder.specs.declared.finding.Answer.{Answer}
-use Rattle.finder.specs.declared.finding.Answer.the-variants.{Reach, Cannot, Refused}
+use Rattle.answer.specs.declared.Answer.{Answer}
+use Rattle.answer.specs.declared.Answer.the-variants.{Reach, Cannot, Refused}
 use Rattle.finder.proofs.Small.{place-small, reach-most}
 use Rattle.plancheck.specs.Checks.{Checks}
-use Rattle.plancheck.specs.Refusals as C
+use Rattle.step.specs.Refusals as C
 use Rattle.plancheck.specs.declared.answer.CheckAnswer.{CheckAnswer}
 use Rattle.plancheck.specs.declared.answer.CheckAnswer.the-variants.{Yes, Refused as NotAccepted}
-use Rattle.plancheck.specs.declared.answer.Refusal.{Refusal as CheckRefusal}
+use Rattle.step.specs.declared.refusal.Refusal.{Refusal as CheckRefusal}
+use Rattle.step.proofs.RefusalLaws as CheckRefusals
 use Rattle.plancheck.proofs.Small as CheckSmall
-use Rattle.exports.specs.Packed.{packed, upper, lower}
-use Rattle.exports.specs.Formula.{returned, FormulaRead}
-use Rattle.exports.specs.Book.{readReturned, writeReturned, BookRead, BookWritten}
-use Rattle.exports.specs.Find.{found, PlanFound}
-use Rattle.exports.specs.Check.{checked, PlanChecked}
+use Rattle.packing.specs.Packed.{packed, upper, lower}
+use Rattle.packing.specs.Returned.{formulaReturned, readReturned, writeReturned, findReturned, checkReturned}
+use Rattle.exports.specs.Formula.{FormulaRead}
+use Rattle.exports.specs.Book.{BookRead, BookWritten}
+use Rattle.exports.specs.Find.{PlanFound}
+use Rattle.exports.specs.Check.{PlanChecked}
 
 -- a result that is a refusal with this number and place
 pub record Refusal (result number place : ℕ) : Type 0 where
@@ -57,9 +59,9 @@ apart x p e some small = record {
 pub formula-apart : {n : ℕ} {s old new : List ℕ} {r : ℕ} (c : FormulaRead n s old r new)
     → (c .answer ≡ Accepted → upper r ≡ 0) × ((w : FormulaRefusal) → c .answer ≡ NoFormula w → Refusal r (F.number w) (F.place w))
 formula-apart {n} {s} c = (
-  λ e. ap upper (c .result-is ∙ ap returned e),
+  λ e. ap upper (c .result-is ∙ ap formulaReturned e),
   λ w e. let refuses = subst (λ (a : FormulaAnswer). F.Reads n s a (c .found)) e (c .reads) in
-      apart (F.number w) (F.place w) (c .result-is ∙ ap returned e) (FormulaSmall.number-some w) (omega (arith, FormulaSmall.place-small (refuses .0))),
+      apart (F.number w) (F.place w) (c .result-is ∙ ap formulaReturned e) (FormulaSmall.number-some w) (omega (arith, FormulaSmall.place-small (refuses .0))),
 )
 
 pub book-read-apart : {book old new : List ℕ} {r : ℕ} (c : BookRead book old r new)
@@ -87,18 +89,18 @@ pub find-apart : {book : List ℕ} {q : Question} {make learn ranks plan ranks�
 find-apart {book} {q} {make} {learn} {ranks} {plan} {ranks′} {plan′} {r} c = (
   λ h size e. let finds = subst (λ (a : Answer). Finds book q make learn ranks plan a ranks′ plan′) e (c .finds) in
       let most = reach-most book q make learn ranks plan ranks′ plan′ h size finds in
-      let is : r ≡ h * 2 ^ 16 + size = c .result-is ∙ ap found e in
+      let is : r ≡ h * 2 ^ 16 + size = c .result-is ∙ ap findReturned e in
       let small : size < 2 ^ 16 = omega (arith, most .1) in
       (ap upper is ∙ div-eq-of-lt (omega (arith, most .0, small)), ap (λ (x : ℕ). x / 2 ^ 16) is ∙ digits-div h small, ap (λ (x : ℕ). x % 2 ^ 16) is ∙ digits-mod h small),
-  λ e. c .result-is ∙ ap found e,
+  λ e. c .result-is ∙ ap findReturned e,
   λ w e. let finds = subst (λ (a : Answer). Finds book q make learn ranks plan a ranks′ plan′) e (c .finds) in
-      apart (Q.number w) (Q.place w) (c .result-is ∙ ap found e) (QuestionSmall.number-some w) (omega (arith, place-small book q make learn ranks plan ranks′ plan′ w finds)),
+      apart (Q.number w) (Q.place w) (c .result-is ∙ ap findReturned e) (QuestionSmall.number-some w) (omega (arith, place-small book q make learn ranks plan ranks′ plan′ w finds)),
 )
 
 pub plan-check-apart : {book : List ℕ} {q : Question} {make learn plan : List ℕ} {r : ℕ} (c : PlanChecked book q make learn plan r)
     → (c .answer ≡ Yes → upper r ≡ 0) × ((w : CheckRefusal) → c .answer ≡ NotAccepted w → Refusal r (C.number w) (C.place w))
 plan-check-apart {book} {q} {make} {learn} {plan} c = (
-  λ e. ap upper (c .result-is ∙ ap checked e),
+  λ e. ap upper (c .result-is ∙ ap checkReturned e),
   λ w e. let checks = subst (λ (a : CheckAnswer). Checks book q make learn plan a) e (c .checks) in
-      apart (C.number w) (C.place w) (c .result-is ∙ ap checked e) (CheckSmall.number-some w) (omega (arith, CheckSmall.place-small book q make learn plan w checks)),
+      apart (C.number w) (C.place w) (c .result-is ∙ ap checkReturned e) (CheckRefusals.number-some w) (omega (arith, CheckSmall.place-small book q make learn plan w checks)),
 )

@@ -9,15 +9,16 @@ use Rattle.book.proofs.Theorems.{reads-one, writes-one}
 use Rattle.question.specs.declared.Question.{Question}
 use Rattle.finder.proofs.Unique.{find-unique}
 use Rattle.plancheck.proofs.OneAnswer.{checks-one}
-use Rattle.exports.specs.Find.{found, PlanFound}
-use Rattle.exports.specs.Check.{checked, PlanChecked}
-use Rattle.exports.specs.Formula.{returned, onReturn, FormulaRead}
-use Rattle.exports.specs.Book.{readReturned, writeReturned, BookRead, BookWritten}
+use Rattle.packing.specs.Returned.{formulaReturned, readReturned, writeReturned, findReturned, checkReturned}
+use Rattle.exports.specs.Find.{PlanFound}
+use Rattle.exports.specs.Check.{PlanChecked}
+use Rattle.exports.specs.Formula.{onReturn, FormulaRead}
+use Rattle.exports.specs.Book.{BookRead, BookWritten}
 
 pub formula-read-unique : {n : ℕ} {s old : List ℕ} {r q : ℕ} {new other : List ℕ} → FormulaRead n s old r new → FormulaRead n s old q other → (r ≡ q) × (new ≡ other)
 formula-read-unique {n} {s} {old} a b =
     (let e = read-unique n s (a .answer) (b .answer) (a .found) (b .found) (a .reads) (b .reads) in (
-      a .result-is ∙ ap returned (e .0) ∙ sym (b .result-is),
+      a .result-is ∙ ap formulaReturned (e .0) ∙ sym (b .result-is),
       a .new-is ∙ ap (λ (x : Answer). onReturn x old (a .found)) (e .0) ∙ ap (λ (t : List ℕ). onReturn (b .answer) old t) (e .1) ∙ sym (b .new-is),
     ))
 
@@ -35,8 +36,8 @@ pub find-one : {book : List ℕ} {q : Question} {make learn ranks plan : List �
     → PlanFound book q make learn ranks plan s y v → (r ≡ s) × (x ≡ y) × (u ≡ v)
 find-one {book} {q} {make} {learn} {ranks} {plan} {x = x} {y = y} {u = u} {v = v} a b =
     let e = find-unique book q make learn ranks plan (a .answer) (b .answer) x y u v (a .finds) (b .finds) in
-    (a .result-is ∙ ap found (e .0) ∙ sym (b .result-is), e .1, e .2)
+    (a .result-is ∙ ap findReturned (e .0) ∙ sym (b .result-is), e .1, e .2)
 
 pub plan-check-one : {book : List ℕ} {q : Question} {make learn plan : List ℕ} {r s : ℕ} → PlanChecked book q make learn plan r → PlanChecked book q make learn plan s → r ≡ s
 plan-check-one {book} {q} {make} {learn} {plan} a b =
-    a .result-is ∙ ap checked (checks-one book q make learn plan (a .answer) (b .answer) (a .checks) (b .checks)) ∙ sym (b .result-is)
+    a .result-is ∙ ap checkReturned (checks-one book q make learn plan (a .answer) (b .answer) (a .checks) (b .checks)) ∙ sym (b .result-is)

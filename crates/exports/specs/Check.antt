@@ -4,17 +4,10 @@ use mathlib.Core.List.{List}
 use Prim.Native.Nat.{ℕ}
 use Rattle.question.specs.declared.Question.{Question}
 use Rattle.plancheck.specs.Checks.{Checks}
-use Rattle.plancheck.specs.Refusals.{number, place}
 use Rattle.plancheck.specs.declared.answer.CheckAnswer.{CheckAnswer}
-use Rattle.plancheck.specs.declared.answer.CheckAnswer.the-variants.{Yes, Refused}
-use Rattle.exports.specs.Packed.{packed}
-
--- yes: 0, or the refusal as one number
-abbrev pub checked : CheckAnswer → ℕ
-checked Yes = 0
-checked (Refused r) = packed (number r) (place r)
+use Rattle.packing.specs.Returned.{checkReturned}
 
 pub record PlanChecked (book : List ℕ) (q : Question) (make learn plan : List ℕ) (result : ℕ) : Type 0 where
   pub answer : CheckAnswer
   pub checks : Checks book q make learn plan answer
-  pub result-is : result ≡ checked answer
+  pub result-is : result ≡ checkReturned answer

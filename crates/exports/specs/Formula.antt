@@ -2,15 +2,10 @@
 use mathlib.Core.Path.{_≡_}
 use mathlib.Core.List.{List}
 use Prim.Native.Nat.{ℕ}
-use Rattle.formula.specs.Read.{Reads, number, place}
+use Rattle.formula.specs.Read.{Reads}
 use Rattle.formula.specs.declared.Answer.{Answer}
 use Rattle.formula.specs.declared.Answer.the-variants.{Accepted, Refused}
-use Rattle.exports.specs.Packed.{packed}
-
--- 0, or the refusal as one number
-abbrev pub returned : Answer → ℕ
-returned Accepted = 0
-returned (Refused r) = packed (number r) (place r)
+use Rattle.packing.specs.Returned.{formulaReturned}
 
 -- what the lent bytes hold on return, from what they held and what was found
 abbrev pub onReturn : Answer → List ℕ → List ℕ → List ℕ
@@ -22,5 +17,5 @@ pub record FormulaRead (n : ℕ) (s old : List ℕ) (result : ℕ) (new : List �
   pub answer : Answer
   pub found : List ℕ
   pub reads : Reads n s answer found
-  pub result-is : result ≡ returned answer
+  pub result-is : result ≡ formulaReturned answer
   pub new-is : new ≡ onReturn answer old found

@@ -1,5 +1,4 @@
 -- What the C functions return and leave in lent memory.
-pub mod Packed
 pub mod Formula
 pub mod Book
 pub mod Find

@@ -1,19 +1,12 @@
-// The C interface, and nothing else: each function hands its arguments to the crate that knows and
-// packs the answer into one number. A refusal is its number times 2^32 plus its place; a success has
-// 0 in the upper half. A slice is a pointer and a length; a table is a pointer to 16 bytes.
-ghost use mathlib.Core.Path.{_≡_};
-ghost use Prim.Native.Nat.{_<_, _^_};
-ghost use Rattle.exports.specs.Packed.{packed};
+// The C interface, and nothing else: each function hands its arguments to the crate that knows, and
+// `packing` makes one number of the answer. A refusal is its number times 2^32 plus its place; a
+// success has 0 in the upper half. A slice is a pointer and a length; a table is a pointer to 16 bytes.
 ghost use Rattle.exports.specs.Formula.{FormulaRead};
 ghost use Rattle.exports.specs.Find.{asked, PlanFound};
 ghost use Rattle.exports.specs.Check.{PlanChecked};
 ghost use Rattle.exports.specs.Book.{BookRead, BookWritten};
 ghost use Rattle.sheet.specs.Answer.{Answers};
-use book::ReadAnswer;
-use book::WriteAnswer;
-use finder::Answer as Found;
 use formula::Answer;
-use plancheck::CheckAnswer;
 use question::Question;
 
 // The table of a formula. 0, or a refusal, which leaves the 16 bytes as they were.
@@ -27,10 +20,10 @@ pub extern "C" fn pj_formula_read(n: u64, text: &[u8], table: &mut [u8; 16]) -> 
     match answer {
         Answer::Accepted => {
             *table = found;
-            0
         }
-        Answer::Refused(why) => refusal(why.number(), why.place() as u64),
+        Answer::Refused(_) => {}
     }
+    packing::of_formula(answer)
 }
 
 // A book's rights, n × 256 bytes, at the start of the lent room. n * 256 + m, or a refusal, which
@@ -39,10 +32,7 @@ pub extern "C" fn pj_formula_read(n: u64, text: &[u8], table: &mut [u8; 16]) -> 
 pub extern "C" fn pj_book_read(book: &[u8], rights: &mut [u8]) -> u64
     ensures { λ r. ⌜ BookRead (now (book .entry)) (now (rights .entry)) r (now (rights .exit)) ⌝ }
 {
-    match book::read(book, rights) {
-        ReadAnswer::Book { settings, posts } => (settings as u64) * 256 + posts as u64,
-        ReadAnswer::Refused(why) => refusal(why.number(), why.place() as u64),
-    }
+    packing::of_read(book::read(book, rights))
 }
 
 // The book of n settings and m posts with these rights, at the start of the lent room. 0, or a
@@ -51,10 +41,7 @@ pub extern "C" fn pj_book_read(book: &[u8], rights: &mut [u8]) -> u64
 pub extern "C" fn pj_book_write(n: u64, m: u64, rights: &[u8], book: &mut [u8]) -> u64
     ensures { λ r. ⌜ BookWritten n m (now (rights .entry)) (now (book .entry)) r (now (book .exit)) ⌝ }
 {
-    match book::write(n as usize, m as usize, rights, book) {
-        WriteAnswer::Written => 0,
-        WriteAnswer::Refused(why) => refusal(why.number(), why.place() as u64),
-    }
+    packing::of_write(book::write(n as usize, m as usize, rights, book))
 }
 
 // "Reach" with the least height, its plan in the plan room, and the ranks of all knowledge numbers in
@@ -77,11 +64,7 @@ pub extern "C" fn pj_find(
         known,
         values,
     };
-    match finder::find(book, question, make, learn, ranks, plan) {
-        Found::Reach { height, length } => (height as u64) * 65536 + length as u64,
-        Found::Cannot => 0,
-        Found::Refused(why) => refusal(why.number(), why.place() as u64),
-    }
+    packing::of_find(finder::find(book, question, make, learn, ranks, plan))
 }
 
 // Whether the bytes are those of a plan that works: 0, or a refusal. Nothing is written.
@@ -102,10 +85,7 @@ pub extern "C" fn pj_plan_check(
         known,
         values,
     };
-    match plancheck::check(book, question, make, learn, plan) {
-        CheckAnswer::Yes => 0,
-        CheckAnswer::Refused(why) => refusal(why.number(), why.place() as u64),
-    }
+    packing::of_check(plancheck::check(book, question, make, learn, plan))
 }
 
 // What is printed for a sheet, in the lent room as far as it fits: the length of all of it, which is at
@@ -115,12 +95,4 @@ pub extern "C" fn pj_sheet(sheet: &[u8], out: &mut [u8]) -> u64
     ensures { λ r. ⌜ Answers (now (sheet .entry)) (now (out .entry)) r (now (out .exit)) ⌝ }
 {
     sheet::answer(sheet, out) as u64
-}
-
-// A refusal as one number.
-fn refusal(number: u64, place: u64) -> u64
-    requires { ⌜ (number < 256) × (place < 2 ^ 32) ⌝ }
-    ensures { λ r. ⌜ r ≡ packed number place ⌝ }
-{
-    (number << 32) + place
 }

@@ -1,69 +1,30 @@
--- From the ranks and the plan written to what `find` answers: one law for each return.
-use mathlib.Core.Path.{_≡_, refl, sym, ap, _∙_, subst}
+-- From the tables filled to what `find` gives: the start, the rank table, and refusals 6 to 13.
+use mathlib.Core.Path.{_≡_, refl, sym, _∙_, subst}
 use mathlib.Core.Logic.{inl, inr}
-use mathlib.Core.List.{List, _++_}
-use Prim.Native.Nat.{ℕ, _+_, _^_, _≤_, _<_}
+use mathlib.Core.List.{List}
+use Prim.Native.Nat.{ℕ, _^_, _≤_, _<_}
 use native.Mathlib.Omega.{arith}
 use lib.Dec.{lit<}
-use lib.ListN.{length, getD, drop}
-use lib.Seq.{sets}
+use lib.ListN.{length}
 use Rattle.ground.specs.Digits.{bit}
-use Rattle.ground.specs.Search.{Least}
 use Rattle.ground.proofs.Bools.{T→false, decide}
 use Rattle.acts.specs.Seven.{firstDigit}
 use Rattle.acts.proofs.Seven.{first-lt}
 use Rattle.knowledge.specs.Number.{firstAt}
 use Rattle.knowledge.proofs.Number.{sum-lt, sum-short}
 use Rattle.ground.specs.Order.{First}
-use Rattle.ground.proofs.Lists.{sets-front}
 use Rattle.ground.proofs.OrderLaws.{least-only, first-left, first-right}
 use Rattle.book.proofs.SoundLaws.{sound-settings}
-use Rattle.plan.specs.Plans.{System, Plan}
-use Rattle.plan.specs.Ranks.{Reach as ReachIn, Cannot as CannotFrom, Written}
-use Rattle.plan.specs.Bytes.{encode}
-use Rattle.plan.proofs.Ranks.{rank-small}
-use Rattle.plan.proofs.Written.{written-unique}
+use Rattle.plan.specs.Plans.{System}
 use Rattle.sides.specs.Over.{Marks}
 use Rattle.spread.specs.Spread.{Spread}
 use Rattle.question.specs.Question.{startNumber}
 use Rattle.question.specs.Rows.{KnownFits, questionRows}
 use Rattle.question.specs.Asks.{ValidQuestion}
-use Rattle.finder.specs.Finds.{RanksFilled, Answers, findRows}
-use Rattle.writer.specs.Told.{Told, Room}
-use Rattle.finder.specs.declared.finding.Answer.the-variants.{Reach}
+use Rattle.finder.specs.Finds.{RanksFilled, findRows}
+use Rattle.writer.specs.Told.{Told}
 use Rattle.question.specs.declared.Question.{Question}
 use Rattle.question.proofs.RowLaws.{question-clear}
-
--- ---- the answer at a state
-
-module _ {n : ℕ} {sets′ looks : List (List ℕ)} {ranks : List ℕ} where
-  pub no-rank : {S : System} {k : ℕ} → Told n sets′ looks ranks S → k < 7 ^ n → getD ranks k 0 ≡ 255 → CannotFrom S k
-  no-rank {S} {k} t h e = elim (t .ranked k h) [
-    | inl l ↦ absurd (omega (arith, rank-small (t .law) k (getD ranks k 0) (t .few) l))
-    | inr c ↦ c .1
-  ]
-
-  a-rank : {S : System} {k : ℕ} → Told n sets′ looks ranks S → k < 7 ^ n → getD ranks k 0 < 255 → Least (ReachIn S k) (getD ranks k 0)
-  a-rank {S} {k} t h l = elim (t .ranked k h) [ inl x ↦ x | inr c ↦ absurd (omega (arith, c .0)) ]
-
-  -- a plan that was found to have r bytes is the only one
-  module _ {k r : ℕ} (f : (S : System) → Told n sets′ looks ranks S → (p : Plan) × Written S k p × (r ≡ length (encode p))) where
-    same-size : (S : System) → Told n sets′ looks ranks S → (p : Plan) → Written S k p → r ≡ length (encode p)
-    same-size S t p w = let x = f S t in x .2 ∙ ap (λ (s : Plan). length (encode s)) (written-unique (t .law) (t .few) (x .0) p k (x .1) w)
-
-    pub room-start : (end : ℕ) → r ≤ end → Room n sets′ looks ranks k 0 end
-    room-start end l S t p w = omega (arith, same-size S t p w)
-
-    pub too-long : {S : System} (old : List ℕ) → Told n sets′ looks ranks S → length old < r → (p : Plan) × Written S k p × (length old < length (encode p))
-    too-long {S} old t l = let x = f S t in (x .0, x .1, omega (arith, x .2))
-
-    pub reached : {old new : List ℕ} {x : ℕ} → k < 7 ^ n → getD ranks k 0 < 255 → r ≤ length old
-        → ((S : System) → Told n sets′ looks ranks S → (p : Plan) × Written S k p × (new ≡ sets old 0 (encode p)) × (x ≡ 0 + length (encode p)))
-        → (S : System) → Told n sets′ looks ranks S → Answers S k old (Reach (getD ranks k 0) r) new
-    reached {old} h l fits g S t =
-        let y = g S t in
-        let e = same-size S t (y .0) (y .1) in
-        (a-rank t h l, (y .0, y .1, e, fits, y .2 ∙ sets-front old (encode (y .0)) (omega (arith, e)) ∙ ap (λ (j : ℕ). encode (y .0) ++ drop j old) (sym e)))
 
 -- ---- the start
 

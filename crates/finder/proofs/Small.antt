@@ -4,7 +4,6 @@ use mathlib.Core.Logic.{inl, inr}
 use mathlib.Core.List.{List}
 use Prim.Native.Nat.{ℕ, _≤_}
 use native.Mathlib.Omega.{arith}
-use lib.ListN.{length}
 use Rattle.ground.specs.Order.{First}
 use Rattle.ground.proofs.OrderLaws.{first-split}
 use Rattle.plan.specs.Plans.{System, height}
@@ -15,11 +14,12 @@ use Rattle.question.specs.Question.{systemOf, startNumber}
 use Rattle.question.proofs.Unique.{lawful, few}
 use Rattle.question.specs.Rows.{number, place, questionRows}
 use Rattle.question.proofs.Small.{zero-small, question-most}
-use Rattle.finder.specs.Finds.{Answers, Finds, findRows}
+use Rattle.answer.specs.Answers.{Answers}
+use Rattle.finder.specs.Finds.{Finds, findRows}
 use Rattle.question.specs.declared.Question.{Question}
 use Rattle.question.specs.declared.Refusal.{Refusal}
 use Rattle.question.specs.declared.Refusal.the-variants.{Book, Team, Known, Goal, Ranks, PlanRoom}
-use Rattle.finder.specs.declared.finding.Answer.the-variants.{Reach, Refused}
+use Rattle.answer.specs.declared.Answer.the-variants.{Reach, Refused}
 
 find-most : (book : List ℕ) (team known values : ℕ) (make learn ranks : List ℕ) (x p : ℕ) → First (findRows book team known values make learn ranks) x p → p ≤ 8
 unfolding findRows
@@ -43,11 +43,6 @@ module _ (book : List ℕ) (q : Question) (make learn ranks plan ranks′ plan�
       let e : r ≡ u .why = cc (u .answered) in
       subst (λ (x : Refusal). place x ≤ 8) (sym e) (find-most book (q .team) (q .known) (q .values) make learn ranks (number (u .why)) (place (u .why)) (u .first))
   place-small r (inr (n, m, v, l, f, a)) = late r _ _ a
-
-  -- a plan that was written fits its room
-  pub plan-fits : (h size : ℕ) → Finds book q make learn ranks plan (Reach h size) ranks′ plan′ → size ≤ length plan
-  plan-fits h size (inl u) = let e : Reach h size ≡ Refused (u .why) = u .answered in let z : _≡_ {A = ℕ} 0 1 = cc in absurd (omega arith)
-  plan-fits h size (inr (n, m, v, l, f, a)) = a .1 .3
 
   -- a height is below 255, and a plan no longer than one that may be checked
   pub reach-most : (h size : ℕ) → Finds book q make learn ranks plan (Reach h size) ranks′ plan′ → (h ≤ 254) × (size ≤ 32640)

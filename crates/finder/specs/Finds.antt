@@ -3,20 +3,18 @@ use mathlib.Core.Path.{_≡_}
 use mathlib.Core.Logic.{_⊎_}
 use mathlib.Core.List.{List, [], _∷_, _++_}
 use Prim.Native.Nat.{ℕ, _^_, _≤_, _<_}
-use lib.ListN.{length, getD, drop}
-use Rattle.ground.specs.Search.{Least}
+use lib.ListN.{length, getD}
 use Rattle.ground.specs.Order.{Row, only, First}
 use Rattle.book.specs.Refusals.{settingsOf}
-use Rattle.plan.specs.Plans.{System, Plan}
-use Rattle.plan.specs.Ranks.{Reach as ReachIn, Cannot as CannotFrom, IsRank, Written}
-use Rattle.plan.specs.Bytes.{encode}
+use Rattle.plan.specs.Plans.{System}
+use Rattle.plan.specs.Ranks.{IsRank}
 use Rattle.question.specs.Question.{systemOf, startNumber}
 use Rattle.question.specs.Rows.{number, place, questionRows}
 use Rattle.question.specs.Asks.{ValidQuestion}
 use Rattle.question.specs.declared.Refusal.{Refusal}
-use Rattle.question.specs.declared.Refusal.the-variants.{Book, Team, Known, Goal, Ranks, PlanRoom}
-use Rattle.finder.specs.declared.finding.Answer.{Answer}
-use Rattle.finder.specs.declared.finding.Answer.the-variants.{Reach, Cannot, Refused}
+use Rattle.answer.specs.declared.Answer.{Answer}
+use Rattle.answer.specs.declared.Answer.the-variants.{Refused}
+use Rattle.answer.specs.Answers.{Answers}
 use Rattle.question.specs.declared.Question.{Question}
 
 -- "13 rank table under 7^n bytes" after them
@@ -29,20 +27,6 @@ pub record RanksFilled (n : ℕ) (S : System) (old new : List ℕ) : Type 0 wher
   pub size : length new ≡ length old
   pub ranks : (k : ℕ) → k < 7 ^ n → IsRank S k (getD new k 0)
   pub later : (j : ℕ) → 7 ^ n ≤ j → getD new j 0 ≡ getD old j 0
-
--- the answer to a valid question, from its start, with the plan room before and after. The height named is the least, and the plan written is such a
--- plan (demand 2); "for "cannot" and 14, the plan room keep[s] what [it] held. A success writes only the plan's bytes there"
-abbrev pub Answers : System → ℕ → List ℕ → Answer → List ℕ → Type 0
-Answers S start old (Reach h size) new =
-    Least (ReachIn S start) h × ((p : Plan) × Written S start p × (size ≡ length (encode p)) × (size ≤ length old) × (new ≡ encode p ++ drop size old))
-Answers S start old Cannot new = CannotFrom S start × (new ≡ old)
-Answers S start old (Refused (Book r)) new = ⊥
-Answers S start old (Refused Team) new = ⊥
-Answers S start old (Refused Known) new = ⊥
-Answers S start old (Refused Goal) new = ⊥
-Answers S start old (Refused Ranks) new = ⊥
--- 14: "plan longer than the lent plan room"
-Answers S start old (Refused PlanRoom) new = ((p : Plan) × Written S start p × (length old < length (encode p))) × (new ≡ old)
 
 -- a question that is refused before it is looked into
 pub record Unmet (book : List ℕ) (q : Question) (make learn ranks plan : List ℕ) (answer : Answer) (ranks′ plan′ : List ℕ) : Type 0 where

@@ -1,57 +1,18 @@
 // The finder: refusals 6 to 13, the ranks of all knowledge numbers, then the answer and its plan.
+use answer::Answer;
+use answer::from_start;
 use block::Right;
-use ground::SETTINGS_MOST;
 use knowledge::Knowledge;
 use question::Asked;
 use question::Question;
 use question::Refusal;
 use question::ask;
-use sides::SIDES;
-use writer::length;
-use writer::write;
 ghost use Prim.Native.Nat.{_^_, _≤_, _<_};
 ghost use lib.ListN.{length as size};
-ghost use Rattle.plan.specs.Plans.{System};
-ghost use Rattle.writer.specs.Told.{Told};
 ghost use Rattle.question.specs.Rows.{KnownFits};
-ghost use Rattle.finder.specs.Finds.{RanksFilled, Answers, Finds};
+ghost use Rattle.answer.specs.Answers.{Answers};
+ghost use Rattle.finder.specs.Finds.{RanksFilled, Finds};
 ghost use Rattle.question.specs.Question.{systemOf, startNumber};
-
-pub enum Answer {
-    // A plan of this height, the least, stands in the first `length` bytes of the plan room.
-    Reach { height: u8, length: usize },
-    // No plan brings it about.
-    Cannot,
-    // The question is not answered.
-    Refused(Refusal),
-}
-
-// The answer at the start, by the ranks; a plan is written only where it fits.
-fn from_start(
-    n: u8,
-    set: &[[u8; SIDES]; SETTINGS_MOST],
-    look: &[[u8; SIDES]; SETTINGS_MOST],
-    ranks: &[u8],
-    start: u32,
-    plan: &mut [u8],
-) -> Answer
-    requires { ⌜ (start < 7 ^ n) × (7 ^ n ≤ size (now ranks)) × ((S : System) × Told n (now set) (now look) (now ranks) S) ⌝ }
-    ensures { λ r. ⌜ ((S : System) → Told n (now (set .entry)) (now (look .entry)) (now (ranks .entry)) S → Answers S start (now (plan .entry)) r (now (plan .exit))) ⌝ }
-{
-    let height = ranks[start as usize];
-    if height == 255 {
-        return Answer::Cannot;
-    }
-    let bytes = length(n, set, look, ranks, start);
-    if plan.len() < bytes {
-        return Answer::Refused(Refusal::PlanRoom);
-    }
-    write(n, set, look, ranks, start, plan, 0);
-    Answer::Reach {
-        height,
-        length: bytes,
-    }
-}
 
 // Fills the ranks of a question over n settings, and answers it.
 fn search(

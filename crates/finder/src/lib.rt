@@ -5,5 +5,4 @@
 // numbers, and a success the first bytes of the plan room with the plan; no other byte is touched.
 mod finding;
 
-pub use finding::Answer;
 pub use finding::find;

@@ -10,7 +10,7 @@ use Rattle.book.specs.Written.{bookOf, settingBlocks}
 use Rattle.block.specs.Sealed.{headBlock, settingBlock, sealed, bytes16}
 use Rattle.acts.specs.Acts.{byteOf}
 use Rattle.plan.specs.Plans.{stop, set-then, look-then}
-use Rattle.plancheck.specs.declared.answer.Refusal.the-variants.{NotSettled}
+use Rattle.step.specs.declared.refusal.Refusal.the-variants.{NotSettled}
 use Rattle.plancheck.specs.declared.answer.CheckAnswer.the-variants.{Refused as No}
 use Rattle.plancheck.proofs.Examples.{not-a, is-a, p10}
 use Rattle.plancheck.proofs.OneAnswer.{checks-one}

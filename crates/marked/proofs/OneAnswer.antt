@@ -24,10 +24,11 @@ use Rattle.plan.proofs.Team.{team-lawful}
 use Rattle.knowledge.specs.Goal.{goalSettled}
 use Rattle.question.specs.Question.{systemOf, startNumber}
 use Rattle.question.specs.Rows.{number, place, questionRows}
-use Rattle.finder.specs.Finds.{RanksFilled, Answers, Finds, findRows}
+use Rattle.finder.specs.Finds.{RanksFilled, Finds, findRows}
+use Rattle.answer.specs.Answers.{Answers}
 use Rattle.question.specs.declared.Refusal.the-variants.{Book, Team, Known, Goal, Ranks, PlanRoom}
-use Rattle.finder.specs.declared.finding.Answer.{Answer}
-use Rattle.finder.specs.declared.finding.Answer.the-variants.{Reach, Cannot, Refused}
+use Rattle.answer.specs.declared.Answer.{Answer}
+use Rattle.answer.specs.declared.Answer.the-variants.{Reach, Cannot, Refused}
 use Rattle.question.proofs.RowLaws.{question-clear}
 use Rattle.marked.specs.Row.{Case, bookFor, first, tables}
 use Rattle.marked.proofs.Valid.{Well, Valid}

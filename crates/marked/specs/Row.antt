@@ -11,11 +11,11 @@ use Rattle.book.specs.Written.{bookOf}
 use Rattle.block.specs.declared.sums.Sums.{Sums}
 use Rattle.finder.specs.Finds.{Finds}
 use Rattle.question.specs.declared.Question.{Question}
-use Rattle.finder.specs.declared.finding.Answer as F
-use Rattle.finder.specs.declared.finding.Answer.the-variants.{Reach, Cannot}
+use Rattle.answer.specs.declared.Answer as F
+use Rattle.answer.specs.declared.Answer.the-variants.{Reach, Cannot}
 use Rattle.plancheck.specs.Checks.{Checks}
-use Rattle.plancheck.specs.Refusals as P
-use Rattle.plancheck.specs.declared.answer.Refusal as N
+use Rattle.step.specs.Refusals as P
+use Rattle.step.specs.declared.refusal.Refusal as N
 use Rattle.plancheck.specs.declared.answer.CheckAnswer.{CheckAnswer}
 use Rattle.plancheck.specs.declared.answer.CheckAnswer.the-variants.{Refused as No}
 use Rattle.printing.specs.Printed.{fitted}

@@ -11,16 +11,14 @@ use Rattle.knowledge.specs.Number.{firstAt}
 use Rattle.knowledge.proofs.Number.{sum-lt}
 use Rattle.ground.specs.Order.{only, First}
 use Rattle.ground.proofs.OrderLaws.{least-only, first-left, first-right}
-use Rattle.plan.specs.Check.{Fault, no-act, not-permitted, not-settled, too-soon, left-over, Verdict, accepted, faulty, check}
+use Rattle.plan.specs.Check.{Verdict, accepted, faulty, check}
 use Rattle.question.specs.Question.{systemOf, startNumber}
 use Rattle.question.specs.Rows.{questionRows}
-use Rattle.question.specs.Rows as Q
 use Rattle.question.specs.Asks.{ValidQuestion}
 use Rattle.question.specs.declared.Question.{Question}
-use Rattle.question.specs.declared.Refusal as Q2
 use Rattle.question.proofs.RowLaws.{question-clear}
-use Rattle.plancheck.specs.Refusals.{number, place, faultNumber, refusalOf, checkRows}
-use Rattle.plancheck.specs.Checks.{questionStart, JudgedAs, Refuses, Checks}
+use Rattle.step.proofs.RefusalLaws.{fault-number, fault-place}
+use Rattle.plancheck.specs.Checks.{checkRows, questionStart, JudgedAs, Refuses, Checks}
 use Rattle.plancheck.specs.Inner.{answerOf}
 use Rattle.plancheck.specs.declared.answer.CheckAnswer.{CheckAnswer}
 
@@ -32,21 +30,6 @@ unfolding startNumber firstAt
 start-small known values = sum-lt (lit< tt) (firstAt known values) 7 (λ i l. first-lt (bit known i) (bit values i))
 
 -- ---- the answer
-
--- the number and the place of a fault's refusal
-pub fault-number : (f : Fault) (i : ℕ) → number (refusalOf f i) ≡ faultNumber f
-fault-number no-act i = refl
-fault-number not-permitted i = refl
-fault-number not-settled i = refl
-fault-number too-soon i = refl
-fault-number left-over i = refl
-
-pub fault-place : (f : Fault) (i : ℕ) → place (refusalOf f i) ≡ i
-fault-place no-act i = refl
-fault-place not-permitted i = refl
-fault-place not-settled i = refl
-fault-place too-soon i = refl
-fault-place left-over i = refl
 
 module _ (book : List ℕ) (q : Question) (make learn plan : List ℕ) where
   -- the question's refusals come first

@@ -17,10 +17,11 @@ use Rattle.plan.specs.Check.{readByte, judge, check}
 use Rattle.plan.specs.Check as C
 use Rattle.plan.proofs.Check.{judge-on, judge-fails}
 use Rattle.plan.proofs.Pending.{pending-first, pending-most, pending-stop, pending-set, pending-look}
-use Rattle.plancheck.proofs.ByteLaws.{Step, stops, sets, looks, faults, step}
-use Rattle.plancheck.specs.Inner.{answerOf, readingOf, down, firstDesk, stoppedDesk, standingDesk, afterDesk, HasRoom, endedAt, Held, HeldAt, Ready, answerAt, answerFrom, Turned}
-use Rattle.plancheck.specs.declared.answer.Refusal.{Refusal}
-use Rattle.plancheck.specs.declared.answer.Refusal.the-variants.{LeftOver}
+use Rattle.step.specs.Reading.{readingOf}
+use Rattle.step.proofs.ByteLaws.{Step, stops, sets, looks, faults, step}
+use Rattle.plancheck.specs.Inner.{answerOf, down, firstDesk, stoppedDesk, standingDesk, afterDesk, HasRoom, endedAt, Held, HeldAt, Ready, answerAt, answerFrom, Turned}
+use Rattle.step.specs.declared.refusal.Refusal.{Refusal}
+use Rattle.step.specs.declared.refusal.Refusal.the-variants.{LeftOver}
 use Rattle.plancheck.specs.declared.answer.CheckAnswer.{CheckAnswer}
 use Rattle.plancheck.specs.declared.desk.Stands.{Stands}
 use Rattle.plancheck.specs.declared.desk.Stands.the-variants.{Open, Whole, Fails as Failed}

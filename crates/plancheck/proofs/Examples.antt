@@ -26,7 +26,7 @@ use Rattle.question.specs.Question.{systemOf, startNumber}
 use Rattle.question.specs.Asks.{ValidQuestion}
 use Rattle.question.specs.declared.Question.{Question}
 use Rattle.plancheck.specs.Checks.{Checks}
-use Rattle.plancheck.specs.declared.answer.Refusal.the-variants.{NotSettled}
+use Rattle.step.specs.declared.refusal.Refusal.the-variants.{NotSettled}
 use Rattle.plancheck.specs.declared.answer.CheckAnswer.the-variants.{Refused}
 
 -- the tables over one setting of `1`, `~a` and `a`

@@ -1,7 +1,5 @@
 -- Laws that this crate's proofs cite, one file for each idea; then what is proved of `check`, and a marked example.
 pub mod SystemLaws
-pub mod ReadingLaws
-pub mod ByteLaws
 pub mod EndLaws
 pub mod DeskLaws
 pub mod AnswerLaws

@@ -1,95 +1,27 @@
--- The contract of `check` allows one answer alone: a refusal is known by its number and place, the rows give one refusal, and the judgement on
--- the bytes is a function.
+-- The contract of `check` allows one answer alone: the rows give one refusal, and the judgement on the bytes is a function.
 use mathlib.Core.Path.{_≡_, refl, sym, ap, ap₂, _∙_}
 use mathlib.Core.Logic.{inl, inr}
-use mathlib.Core.Bool.{cond}
 use mathlib.Core.List.{List, [], _∷_}
-use Prim.Native.Nat.{ℕ, _≤_, _<_}
+use Prim.Native.Nat.{ℕ, _<_}
 use lib.ListN.{length}
 use native.Mathlib.Omega.{arith}
-use lib.Dec.{eqb, lit<, lit≤}
 use Rattle.ground.specs.Order.{First, Clear, only}
-use Rattle.book.specs.declared.refusal.Refusal as B
-use Rattle.book.specs.declared.refusal.Refusal.the-variants.{Settings, Length, Check, Head, StrayBit, Room}
 use Rattle.ground.proofs.OrderLaws.{none-only, first-unique, first-clear, clear-append, first-split}
 use Rattle.book.proofs.Theorems.{sound-one}
-use Rattle.plan.specs.Check.{Fault, no-act, not-permitted, not-settled, too-soon, left-over, Verdict, accepted, faulty, check}
+use Rattle.plan.specs.Check.{Fault, Verdict, accepted, faulty, check}
 use Rattle.question.specs.Rows.{questionRows}
 use Rattle.question.specs.Rows as Q
 use Rattle.question.specs.declared.Question.{Question}
 use Rattle.question.specs.declared.Refusal as R
-use Rattle.question.specs.declared.Refusal.the-variants.{Book, Team, Known, Goal, Ranks, PlanRoom}
 use Rattle.question.proofs.RowLaws.{question-clear}
-use Rattle.plancheck.specs.Refusals.{number, place, faultNumber, refusalOf, checkRows}
-use Rattle.plancheck.specs.Checks.{systemFor, questionStart, JudgedAs, Checks}
+use Rattle.step.specs.Refusals.{number, place, faultNumber, refusalOf}
+use Rattle.step.specs.declared.refusal.Refusal.{Refusal}
+use Rattle.step.specs.declared.refusal.Refusal.the-variants.{Question as OfQuestion, TooLong}
+use Rattle.step.proofs.RefusalLaws.{fault-number, fault-place, refusal-one, fault-one, fault-past, question-number}
+use Rattle.plancheck.specs.Checks.{checkRows, systemFor, questionStart, JudgedAs, Checks}
 use Rattle.plancheck.specs.Inner.{answerOf}
-use Rattle.plancheck.specs.declared.answer.Refusal.{Refusal}
-use Rattle.plancheck.specs.declared.answer.Refusal.the-variants.{Question as OfQuestion, TooLong, NoAct, NotPermitted, NotSettled, TooSoon, LeftOver}
 use Rattle.plancheck.specs.declared.answer.CheckAnswer.{CheckAnswer}
 use Rattle.plancheck.specs.declared.answer.CheckAnswer.the-variants.{Yes, Refused}
-use Rattle.plancheck.proofs.AnswerLaws.{fault-number, fault-place}
-
--- ---- a refusal by its number and place
-
-book-named : ℕ → ℕ → B.Refusal
-book-named x p =
-    cond (eqb x 5) Settings (cond (eqb x 6) Length (cond (eqb x 7) (Check p) (cond (eqb x 8) Head (cond (eqb x 9) (StrayBit p) Room))))
-
-question-named : ℕ → ℕ → R.Refusal
-question-named x p =
-    cond (eqb x 10) Team (cond (eqb x 11) Known (cond (eqb x 12) Goal (cond (eqb x 13) Ranks (cond (eqb x 14) PlanRoom (Book (book-named x p))))))
-
-named : ℕ → ℕ → Refusal
-named x p =
-    cond (eqb x 16) TooLong (cond (eqb x 17) (NoAct p) (cond (eqb x 18) (NotPermitted p) (cond (eqb x 19) (NotSettled p)
-    (cond (eqb x 20) (TooSoon p) (cond (eqb x 21) (LeftOver p) (OfQuestion (question-named x p)))))))
-
-named-back : (r : Refusal) → named (number r) (place r) ≡ r
-unfolding named question-named book-named
-named-back (OfQuestion (Book Settings)) = refl
-named-back (OfQuestion (Book Length)) = refl
-named-back (OfQuestion (Book (Check k))) = refl
-named-back (OfQuestion (Book Head)) = refl
-named-back (OfQuestion (Book (StrayBit k))) = refl
-named-back (OfQuestion (Book Room)) = refl
-named-back (OfQuestion Team) = refl
-named-back (OfQuestion Known) = refl
-named-back (OfQuestion Goal) = refl
-named-back (OfQuestion Ranks) = refl
-named-back (OfQuestion PlanRoom) = refl
-named-back TooLong = refl
-named-back (NoAct i) = refl
-named-back (NotPermitted i) = refl
-named-back (NotSettled i) = refl
-named-back (TooSoon i) = refl
-named-back (LeftOver i) = refl
-
-pub refusal-one : (r s : Refusal) → number r ≡ number s → place r ≡ place s → r ≡ s
-refusal-one r s x p = sym (named-back r) ∙ ap₂ named x p ∙ named-back s
-
--- ---- a fault by its refusal
-
-fault-named : ℕ → Fault
-fault-named x = cond (eqb x 17) no-act (cond (eqb x 18) not-permitted (cond (eqb x 19) not-settled (cond (eqb x 20) too-soon left-over)))
-
-fault-back : (f : Fault) → fault-named (faultNumber f) ≡ f
-unfolding fault-named
-fault-back no-act = refl
-fault-back not-permitted = refl
-fault-back not-settled = refl
-fault-back too-soon = refl
-fault-back left-over = refl
-
-pub fault-one : (f g : Fault) → faultNumber f ≡ faultNumber g → f ≡ g
-fault-one f g e = sym (fault-back f) ∙ ap fault-named e ∙ fault-back g
-
--- a fault's number is past those of the rows
-pub fault-past : (f : Fault) → 16 < faultNumber f
-fault-past no-act = lit< tt
-fault-past not-permitted = lit< tt
-fault-past not-settled = lit< tt
-fault-past too-soon = lit< tt
-fault-past left-over = lit< tt
 
 -- the judgement behind an answer
 pub answer-fault : (v : Verdict) (f : Fault) (i : ℕ) → answerOf v ≡ Refused (refusalOf f i) → v ≡ faulty f i
@@ -139,20 +71,6 @@ module _ (book : List ℕ) (q : Question) (make learn plan : List ℕ) where
       ap Refused (refusal-one r s (a .1 ∙ ap faultNumber f ∙ sym (b .1)) p)
 
 -- ---- 6 to 12
-
--- no number of a question's refusal is 16 or more
-pub question-number : (w : R.Refusal) → Q.number w ≤ 15
-question-number (Book Settings) = lit≤ tt
-question-number (Book Length) = lit≤ tt
-question-number (Book (Check k)) = lit≤ tt
-question-number (Book Head) = lit≤ tt
-question-number (Book (StrayBit k)) = lit≤ tt
-question-number (Book Room) = lit≤ tt
-question-number Team = lit≤ tt
-question-number Known = lit≤ tt
-question-number Goal = lit≤ tt
-question-number Ranks = lit≤ tt
-question-number PlanRoom = lit≤ tt
 
 not-sixteen : (plan : List ℕ) (w : R.Refusal) → First (record { number = 16; given = only (32640 < length plan) } ∷ []) (Q.number w) (Q.place w) → ⊥
 not-sixteen plan w (inl a) = omega (arith, a .0, question-number w)

@@ -1,9 +1,9 @@
--- How large a refusal's number and place are: for those who pack the two into one number. A place is a block of the book, the index of a
--- byte, or the plan's length.
+-- How large a refusal's place is: for those who pack it and the number into one number. A place is a block of the book, the index of a byte,
+-- or the plan's length.
 use mathlib.Core.Path.{ap}
 use mathlib.Core.Logic.{inl, inr}
 use mathlib.Core.List.{List}
-use Prim.Native.Nat.{ℕ, _≤_, _<_}
+use Prim.Native.Nat.{ℕ, _≤_}
 use native.Mathlib.Omega.{arith}
 use lib.ListN.{length, length-append}
 use Rattle.ground.specs.Order.{First}
@@ -12,30 +12,10 @@ use Rattle.plan.proofs.Faults.{fault-out}
 use Rattle.question.specs.Rows.{questionRows}
 use Rattle.question.specs.declared.Question.{Question}
 use Rattle.question.proofs.Small as Q
-use Rattle.plancheck.specs.Refusals.{number, place, checkRows}
-use Rattle.plancheck.specs.Checks.{systemFor, Checks}
-use Rattle.plancheck.specs.declared.answer.Refusal.{Refusal}
-use Rattle.plancheck.specs.declared.answer.Refusal.the-variants.{Question as OfQuestion, TooLong, NoAct, NotPermitted, NotSettled, TooSoon, LeftOver}
+use Rattle.step.specs.Refusals.{number, place}
+use Rattle.plancheck.specs.Checks.{checkRows, systemFor, Checks}
+use Rattle.step.specs.declared.refusal.Refusal.{Refusal}
 use Rattle.plancheck.specs.declared.answer.CheckAnswer.the-variants.{Refused}
-use Rattle.plancheck.proofs.OneAnswer.{question-number}
-
-pub number-small : (r : Refusal) → number r < 256
-number-small (OfQuestion w) = omega (arith, question-number w)
-number-small TooLong = omega arith
-number-small (NoAct i) = omega arith
-number-small (NotPermitted i) = omega arith
-number-small (NotSettled i) = omega arith
-number-small (TooSoon i) = omega arith
-number-small (LeftOver i) = omega arith
-
-pub number-some : (r : Refusal) → 0 < number r
-number-some (OfQuestion w) = Q.number-some w
-number-some TooLong = omega arith
-number-some (NoAct i) = omega arith
-number-some (NotPermitted i) = omega arith
-number-some (NotSettled i) = omega arith
-number-some (TooSoon i) = omega arith
-number-some (LeftOver i) = omega arith
 
 row-place : (book : List ℕ) (q : Question) (make learn plan : List ℕ) (x p : ℕ) → First (checkRows book q make learn plan) x p → p ≤ 8
 unfolding checkRows

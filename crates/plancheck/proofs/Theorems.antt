@@ -27,10 +27,10 @@ use Rattle.question.specs.Rows as Q
 use Rattle.question.specs.Asks.{ValidQuestion}
 use Rattle.question.specs.declared.Question.{Question}
 use Rattle.question.specs.declared.Refusal as R
-use Rattle.plancheck.specs.Refusals.{refusalOf}
+use Rattle.step.specs.Refusals.{refusalOf}
 use Rattle.plancheck.specs.Checks.{systemFor, questionStart, JudgedAs, Checks}
 use Rattle.plancheck.specs.Inner.{answerOf}
-use Rattle.plancheck.specs.declared.answer.Refusal.the-variants.{Question as OfQuestion, TooLong, TooSoon, LeftOver}
+use Rattle.step.specs.declared.refusal.Refusal.the-variants.{Question as OfQuestion, TooLong, TooSoon, LeftOver}
 use Rattle.plancheck.specs.declared.answer.CheckAnswer.{CheckAnswer}
 use Rattle.plancheck.specs.declared.answer.CheckAnswer.the-variants.{Yes, Refused}
 use Rattle.plancheck.proofs.SystemLaws.{valid-lawful}
@@ -38,19 +38,11 @@ use Rattle.plancheck.proofs.EndLaws.{ends, over, whole-plan}
 use Rattle.plancheck.proofs.AnswerLaws.{question-row, long-row, judged-checks}
 use Rattle.plancheck.proofs.OneAnswer.{checks-one, question-out, answer-fault, answer-short}
 use Rattle.plancheck.proofs.walk.check.Reads as check-reads
-use Rattle.plancheck.proofs.answer.Refusal.number.Reads as number-reads
-use Rattle.plancheck.proofs.answer.Refusal.place.Reads as place-reads
 
--- ---- one result alone: any two that a public function's contract allows are the same; nothing that is lent is written to
+-- ---- one result alone: any two that the contract of `check` allows are the same; nothing that is lent is written to
 
 pub check-unique : (κs : _) (a : _) (x y : _) (s : _) → check-reads.Post κs a x s → check-reads.Post κs a y s → x ≡ y
 check-unique κs a x y s p q = checks-one _ _ _ _ _ x y p q
-
-pub number-unique : (κs : _) (a : _) (x y : _) (s : _) → number-reads.Post κs a x s → number-reads.Post κs a y s → x ≡ y
-number-unique κs a x y s p q = p ∙ sym q
-
-pub place-unique : (κs : _) (a : _) (x y : _) (s : _) → place-reads.Post κs a x s → place-reads.Post κs a y s → x ≡ y
-place-unique κs a x y s p q = p ∙ sym q
 
 -- ---- 6 to 12: the question's own, whatever the plan
 

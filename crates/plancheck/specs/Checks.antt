@@ -1,19 +1,25 @@
 -- "Plan check: the same through 12, then 16, then the first fault in reading order, 17 before 18; acceptance is a bare yes." What `check`
 -- answers, for every book, question, goal and plan; it writes nothing.
 use mathlib.Core.Path.{_≡_}
-use mathlib.Core.List.{List}
+use mathlib.Core.List.{List, [], _∷_, _++_}
 use mathlib.Core.Logic.{_⊎_}
-use Prim.Native.Nat.{ℕ, _≤_}
+use Prim.Native.Nat.{ℕ, _≤_, _<_}
 use lib.ListN.{length}
-use Rattle.ground.specs.Order.{First}
+use Rattle.ground.specs.Order.{Row, First, only}
 use Rattle.plan.specs.Plans.{System}
 use Rattle.plan.specs.Check.{Fault, Verdict, accepted, faulty, check}
 use Rattle.question.specs.Question.{systemOf, startNumber}
+use Rattle.question.specs.Rows.{questionRows}
 use Rattle.question.specs.Asks.{ValidQuestion}
 use Rattle.question.specs.declared.Question.{Question}
-use Rattle.plancheck.specs.Refusals.{number, place, faultNumber, checkRows}
+use Rattle.step.specs.Refusals.{number, place, faultNumber}
 use Rattle.plancheck.specs.declared.answer.CheckAnswer.{CheckAnswer}
 use Rattle.plancheck.specs.declared.answer.CheckAnswer.the-variants.{Yes, Refused}
+
+-- "Plan check: the same through 12, then 16": "plan to check over 32,640 bytes"
+unfoldable pub checkRows : List ℕ → Question → List ℕ → List ℕ → List ℕ → List Row
+checkRows book q make learn plan =
+    questionRows book (q .team) (q .known) (q .values) make learn ++ (record { number = 16; given = only (32640 < length plan) } ∷ [])
 
 -- the acts and the goal of a question over n settings, and the knowledge number that it starts from
 abbrev pub systemFor : ℕ → List ℕ → Question → List ℕ → List ℕ → System

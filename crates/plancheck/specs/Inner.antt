@@ -7,13 +7,12 @@ use lib.ListN.{length, getD, set, replicate}
 use Rattle.plan.specs.Plans.{System}
 use Rattle.plan.specs.Pending.{Pending}
 use Rattle.plan.specs.Check.{Verdict, accepted, faulty, judge}
-use Rattle.plan.specs.Check as C
-use Rattle.plancheck.specs.Refusals.{refusalOf}
-use Rattle.plancheck.specs.declared.answer.Refusal.the-variants.{TooSoon}
+use Rattle.step.specs.Refusals.{refusalOf}
+use Rattle.step.specs.declared.refusal.Refusal.the-variants.{TooSoon}
 use Rattle.plancheck.specs.declared.answer.CheckAnswer.{CheckAnswer}
 use Rattle.plancheck.specs.declared.answer.CheckAnswer.the-variants.{Yes, Refused}
-use Rattle.plancheck.specs.declared.reading.Reading.{Reading}
-use Rattle.plancheck.specs.declared.reading.Reading.the-variants.{Stops, Goes, Parts, Fails}
+use Rattle.step.specs.declared.reading.Reading.{Reading}
+use Rattle.step.specs.declared.reading.Reading.the-variants.{Stops, Goes, Parts, Fails}
 use Rattle.plancheck.specs.declared.desk.Stands.{Stands}
 use Rattle.plancheck.specs.declared.desk.Stands.the-variants.{Open, Whole, Fails as Failed}
 use Rattle.plancheck.specs.declared.desk.Desk.{Desk}
@@ -22,13 +21,6 @@ use Rattle.plancheck.specs.declared.desk.Desk.{Desk}
 abbrev pub answerOf : Verdict → CheckAnswer
 answerOf accepted = Yes
 answerOf (faulty f i) = Refused (refusalOf f i)
-
--- what the byte with index at comes to: no byte leaves more than two states
-abbrev pub readingOf : ℕ → C.Reading → Reading
-readingOf at (C.goes-on []) = Stops
-readingOf at (C.goes-on (x ∷ [])) = Goes x
-readingOf at (C.goes-on (x ∷ y ∷ more)) = Parts x y
-readingOf at (C.fails f) = Fails (refusalOf f at)
 
 -- the first c entries, the last of them first
 abbrev pub down : List ℕ → ℕ → List ℕ

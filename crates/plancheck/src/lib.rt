@@ -4,10 +4,8 @@
 // this crate alone: up to seven settings, and numbers of seven digits.
 mod answer;
 mod desk;
-mod reading;
 mod walk;
 
 pub use answer::CheckAnswer;
-pub use answer::Refusal;
 pub use walk::PLAN_MOST;
 pub use walk::check;

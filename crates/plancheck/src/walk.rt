@@ -1,13 +1,13 @@
 // The plan's bytes, one after the other: a loop and a desk with room for seven numbers that wait, so
 // that a plan of 32,640 sets in a row takes no more of the machine's stack than a stop.
 use crate::answer::CheckAnswer;
-use crate::answer::Refusal;
 use crate::desk::Desk;
 use crate::desk::Stands;
-use crate::reading::read_byte;
 use knowledge::Knowledge;
 use question::Asked;
 use question::Question;
+use step::Refusal;
+use step::read_byte;
 ghost use mathlib.Core.Path.{_≡_};
 ghost use Prim.Native.Nat.{_^_, _≤_, _<_};
 ghost use Rattle.plan.specs.Check.{check};

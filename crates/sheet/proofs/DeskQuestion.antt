@@ -26,12 +26,13 @@ use Rattle.printing.proofs.Theorems.{permitted-lettered}
 use Rattle.question.specs.Question.{systemOf, startNumber}
 use Rattle.question.specs.Rows.{number, place}
 use Rattle.question.specs.Asks.{ValidQuestion}
-use Rattle.finder.specs.Finds.{Answers, Finds, findRows}
+use Rattle.finder.specs.Finds.{Finds, findRows}
+use Rattle.answer.specs.Answers.{Answers}
 use Rattle.question.specs.declared.Question.{Question as Asking}
 use Rattle.question.specs.declared.Refusal.{Refusal}
 use Rattle.question.specs.declared.Refusal.the-variants.{Book, Team, Known, Goal, Ranks, PlanRoom}
-use Rattle.finder.specs.declared.finding.Answer.{Answer}
-use Rattle.finder.specs.declared.finding.Answer.the-variants.{Reach, Cannot, Refused}
+use Rattle.answer.specs.declared.Answer.{Answer}
+use Rattle.answer.specs.declared.Answer.the-variants.{Reach, Cannot, Refused}
 use Rattle.question.proofs.Unique.{lawful}
 use Rattle.finder.proofs.Unique.{find-clear}
 use Rattle.desk.specs.declared.desk.Desk.{Desk}

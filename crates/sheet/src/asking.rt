@@ -1,12 +1,12 @@
 // The question that a whole sheet asks, through the same book and the same finder as stored books. For
 // this crate alone: a whole sheet is on the desk.
+use answer::Answer;
 use desk::Desk;
-use finder::Answer;
 use question::Question;
 ghost use mathlib.Core.Path.{_≡_};
 ghost use Prim.Native.Nat.{_+_, _*_};
 ghost use lib.ListN.{length, take};
-ghost use Rattle.finder.specs.Finds.{Answers};
+ghost use Rattle.answer.specs.Answers.{Answers};
 ghost use Rattle.sheet.specs.Answer.{PrintsFound};
 ghost use Rattle.sheet.specs.Inner.{Whole, bookIn, systemIn, startIn};
 

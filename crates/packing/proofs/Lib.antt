@@ -1,0 +1,2 @@
+-- Every answer that a function gives fits one number.
+pub mod Fitting
