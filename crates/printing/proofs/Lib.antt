@@ -1,6 +1,3 @@
--- What others cite: what settles the contracts. Then the laws that this crate's own proofs use.
+-- What others cite: what settles the contracts. Then the law that this crate's own proofs use.
 pub mod Theorems
 mod Fitted
-mod Shown
-mod Lined
-mod Lengths

@@ -1,4 +1,2 @@
--- What a reader must believe of printed answers: the three answers as text, and what a lent room holds. `Inner` is inside: no public
--- contract cites it.
+-- What a reader must believe of printed answers: the three answers as text, and what a lent room holds.
 pub mod Printed
-pub mod Inner

@@ -1,14 +1,13 @@
 // How an answer of the sheet program is written out: one of its three forms, line by line, into a room
 // that the caller lends. It refuses nothing: a room shorter than the answer holds as much of it as fits,
 // and the length given is the whole answer's. Nothing past the answer is touched.
-mod lines;
-
 ghost use mathlib.Core.Path.{_≡_};
 ghost use Prim.Native.Nat.{_≤_};
 ghost use lib.ListN.{length};
 ghost use Rattle.plan.specs.Plans.{Plan};
 ghost use Rattle.plan.specs.Bytes.{encode};
-ghost use Rattle.printing.specs.Printed.{refusedText, cannotText, reachText, Lettered, Prints};
+ghost use Rattle.listing.specs.Listed.{Lettered};
+ghost use Rattle.printing.specs.Printed.{refusedText, cannotText, reachText, Prints};
 
 // The answer `refused NUMBER PLACE`, and its length.
 pub fn refused(number: u64, place: usize, out: &mut [u8]) -> usize
@@ -37,6 +36,6 @@ pub fn reach(height: u8, plan: &[u8], out: &mut [u8]) -> usize
     let to = text::word(b"reach ", out, 0);
     let to = text::number(height as u64, out, to);
     let to = text::put(b'\n', out, to);
-    let end = lines::lines(plan, 0, 0, out, to);
+    let end = listing::lines(plan, 0, 0, out, to);
     end.to
 }

@@ -21,8 +21,9 @@ use Rattle.plan.specs.Ranks.{Written}
 use Rattle.plan.specs.Bytes.{encode}
 use Rattle.plan.proofs.Size.{works-permitted}
 use Rattle.plan.proofs.Written.{written-works}
-use Rattle.printing.specs.Printed.{cannotText, reachText, Lettered, Prints}
-use Rattle.printing.proofs.Theorems.{permitted-lettered}
+use Rattle.listing.specs.Listed.{Lettered}
+use Rattle.listing.proofs.Theorems.{permitted-lettered}
+use Rattle.printing.specs.Printed.{cannotText, reachText, Prints}
 use Rattle.question.specs.Question.{systemOf, startNumber}
 use Rattle.question.specs.Rows.{number, place}
 use Rattle.question.specs.Asks.{ValidQuestion}

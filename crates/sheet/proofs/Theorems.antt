@@ -19,7 +19,8 @@ use Rattle.plan.proofs.Ranks.{rank-least}
 use Rattle.plan.proofs.Written.{written-works, written-height}
 use Rattle.plan.proofs.Secret.{secret}
 use Rattle.text.specs.Decimal.{decimal}
-use Rattle.printing.specs.Printed.{line, numbered, actText, planText, cannotText, reachText, Prints}
+use Rattle.listing.specs.Listed.{line, numbered, actText, planText}
+use Rattle.printing.specs.Printed.{cannotText, reachText, Prints}
 use Rattle.printing.proofs.Theorems.{prints-unique, refused-length, reach-length}
 use Rattle.knowledge.specs.Goal.{learnTable}
 use Rattle.question.specs.Question.{systemOf, startNumber, NoMaking}

@@ -3,8 +3,8 @@ use borrow.Author.Needs.{needs}
 use native.Mathlib.Omega.{arith}
 use Rattle.text.proofs.Decimals.{decimal-length}
 use Rattle.text.proofs.Writing.{wrote-then}
+use Rattle.listing.proofs.Lengths.{whole-shown, whole-readable}
 use Rattle.printing.proofs.Fitted.{prints}
-use Rattle.printing.proofs.Lengths.{whole-shown, whole-readable}
 use Rattle.printing.proofs.reach.Statement.{statement}
 use Rattle.printing.proofs.reach.Tie as tie
 

@@ -1,4 +1,4 @@
--- How long an answer is: a plan's lines have at most a fixed number of bytes for each of its bytes, by induction on the plan.
+-- How long a plan's lines are: they have at most a fixed number of bytes for each of its bytes, by induction on the plan.
 use mathlib.Core.Path.{_≡_, sym, ap, _∙_}
 use mathlib.Core.List.{List, [], _++_, append-nil}
 use Prim.Native.Nat.{ℕ, suc, _+_, _*_, _^_, _≤_, _<_}
@@ -9,10 +9,10 @@ use Rattle.ground.specs.Text.{bytes}
 use Rattle.acts.specs.declared.act.Act.the-variants.{Set, Look}
 use Rattle.plan.specs.Plans.{Plan, stop, set-then, look-then, height}
 use Rattle.plan.specs.Bytes.{encode}
-use Rattle.printing.specs.Printed.{actText, numbered, planText, Lettered}
-use Rattle.printing.specs.Inner.{Shows, Readable}
 use Rattle.text.proofs.Decimals.{decimal-length}
-use Rattle.printing.proofs.Lined.{numbered-length}
+use Rattle.listing.specs.Listed.{actText, numbered, planText, Lettered}
+use Rattle.listing.specs.Inner.{Shows, Readable}
+use Rattle.listing.proofs.Lined.{numbered-length}
 
 -- depths of at most k + 1 digits: a line has those and at most 11 bytes more
 pub plan-length : (k depth : ℕ) (p : Plan) → depth + height p < 10 ^ suc k → length (planText depth p) ≤ (12 + k) * length (encode p)

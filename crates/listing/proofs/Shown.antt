@@ -15,7 +15,7 @@ use Rattle.acts.specs.declared.act.Named.the-variants.{One, Nothing}
 use Rattle.acts.proofs.Acts.{act-of-byte}
 use Rattle.plan.specs.Plans.{Plan, stop, set-then, look-then}
 use Rattle.plan.specs.Bytes.{encode}
-use Rattle.printing.specs.Inner.{Shows}
+use Rattle.listing.specs.Inner.{Shows}
 
 abbrev pub namedBy : Plan → Named
 namedBy stop = Nothing

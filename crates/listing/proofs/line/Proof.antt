@@ -2,9 +2,9 @@
 use borrow.Author.Needs.{needs}
 use native.Mathlib.Omega.{arith}
 use Rattle.text.proofs.Writing.{wrote-then}
-use Rattle.printing.proofs.Lined.{numbered-length}
-use Rattle.printing.proofs.lines.line.Statement.{statement}
-use Rattle.printing.proofs.lines.line.Tie as tie
+use Rattle.listing.proofs.Lined.{numbered-length}
+use Rattle.listing.proofs.line.Statement.{statement}
+use Rattle.listing.proofs.line.Tie as tie
 
 number-requires : tie.Need-number-requires
 number-requires c κs = record { below = omega (arith, c .before .before .before .pre .below, numbered-length (c .before .before .before .args .depth) (c .before .before .before .args .text .now)) }

@@ -8,18 +8,18 @@ use lib.ListN.{length}
 use Rattle.acts.specs.declared.act.Named.the-variants.{One}
 use Rattle.acts.proofs.Acts.{byte-of-act}
 use Rattle.text.proofs.Writing.{wrote-length}
-use Rattle.printing.proofs.Shown.{shown-here}
-use Rattle.printing.proofs.Lined.{wrote-act, stop-ends, stop-lined, act-ends, set-next, set-lined, false-next, true-next, look-lined}
+use Rattle.listing.proofs.Shown.{shown-here}
+use Rattle.listing.proofs.Lined.{wrote-act, stop-ends, stop-lined, act-ends, set-next, set-lined, false-next, true-next, look-lined}
 use borrow.Fn.Kinds.{In}
 use borrow.Fn.PlainCycle.{Measures, is, falls, and}
-use Rattle.printing.proofs.lines.lines.Reads as lines
-use Rattle.printing.proofs.lines.lines.Kinds as lines-kinds
-use Rattle.printing.proofs.lines.+lines.Lts-lines as lines-lts
+use Rattle.listing.proofs.lines.Reads as lines
+use Rattle.listing.proofs.lines.Kinds as lines-kinds
+use Rattle.listing.proofs.+lines.Lts-lines as lines-lts
 use Rattle.acts.proofs.act.Act.of_byte.Reads as of-byte-reads
-use Rattle.printing.proofs.lines.act_line.Reads as act-line-reads
-use Rattle.printing.proofs.lines.line.Reads as line-reads
-use Rattle.printing.proofs.lines.+lines.{statement}
-use Rattle.printing.proofs.lines.+lines.Tie.{close}
+use Rattle.listing.proofs.act_line.Reads as act-line-reads
+use Rattle.listing.proofs.line.Reads as line-reads
+use Rattle.listing.proofs.+lines.{statement}
+use Rattle.listing.proofs.+lines.Tie.{close}
 
 abbrev μ-lines : Measures 2 lines-kinds.ps ℕ
 μ-lines κs a = length (a .0 .now) - a .1 .0

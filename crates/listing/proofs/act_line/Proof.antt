@@ -1,8 +1,8 @@
 -- `act_line` meets its contract: the letter and the digits are bytes, and the array is the act's text.
 use borrow.Author.Needs.{needs}
 use native.Mathlib.Omega.{arith}
-use Rattle.printing.proofs.lines.act_line.Statement.{statement}
-use Rattle.printing.proofs.lines.act_line.Tie as tie
+use Rattle.listing.proofs.act_line.Statement.{statement}
+use Rattle.listing.proofs.act_line.Tie as tie
 
 enum-known-act : tie.Need-enum-known-act
 enum-known-act c = c .match .keys1

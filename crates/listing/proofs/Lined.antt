@@ -10,15 +10,15 @@ use Rattle.acts.specs.Acts.{actOf}
 use Rattle.acts.specs.declared.act.Act.{Act}
 use Rattle.acts.specs.declared.act.Act.the-variants.{Set, Look}
 use Rattle.acts.specs.declared.act.Named.the-variants.{One, Nothing}
-use Rattle.plan.specs.Plans.{Plan, stop}
+use Rattle.plan.specs.Plans.{Plan}
 use Rattle.plan.specs.Bytes.{encode}
 use Rattle.text.specs.Decimal.{decimal}
-use Rattle.printing.specs.Printed.{actText, numbered, planText}
 use Rattle.text.specs.Wrote.{Ends, Wrote}
-use Rattle.printing.specs.Inner.{Shows, Readable, Lined, Lines}
-use Rattle.printing.specs.declared.lines.Next.{Next}
-use Rattle.printing.proofs.Shown.{parts}
 use Rattle.text.proofs.Writing.{ends-left, ends-right, wrote-then}
+use Rattle.listing.specs.Listed.{actText, numbered, planText}
+use Rattle.listing.specs.Inner.{Shows, Readable, Lined, Lines}
+use Rattle.listing.specs.declared.Next.{Next}
+use Rattle.listing.proofs.Shown.{parts}
 
 pub numbered-length : (depth : ℕ) (text : List ℕ) → length (numbered depth text) ≡ length (decimal depth) + length text + 2
 numbered-length depth text = simp length-append (omega arith)

@@ -1,12 +1,14 @@
-// A line for each byte of a plan: the depth, then the act by its setting's letter and its post's digit.
+// A line for each byte of a plan, into a lent room from a place on: the depth, then the act by its setting's
+// letter and its post's digit. A place past the room is counted and not written. It refuses nothing: `lines`
+// has a `requires`, for this repository alone, and gives the places after the plan's bytes and its lines.
 use acts::Act;
 use acts::Named;
 ghost use mathlib.Core.Path.{_≡_};
 ghost use Prim.Native.Nat.{_<_};
 ghost use Rattle.acts.specs.Acts.{settingOf, postOf};
-ghost use Rattle.printing.specs.Printed.{valueDigit, actText, numbered};
 ghost use Rattle.text.specs.Wrote.{Ends, Wrote};
-ghost use Rattle.printing.specs.Inner.{Readable, Lines};
+ghost use Rattle.listing.specs.Listed.{valueDigit, actText, numbered};
+ghost use Rattle.listing.specs.Inner.{Readable, Lines};
 
 // The places after a plan's bytes and after its lines.
 pub struct Next {
@@ -75,8 +77,8 @@ fn act_line(depth: u64, act: Act, out: &mut [u8], to: usize) -> usize
     }
 }
 
-// The lines of the plan whose bytes begin at `at`, each depth counted from this one. For this crate alone:
-// such a plan is there, and places stay below 2^64. It is as deep as the plan.
+// The lines of the plan whose bytes begin at `at`, each depth counted from this one. For this repository
+// alone: such a plan is there, and places stay below 2^64. It is as deep as the plan.
 pub fn lines(plan: &[u8], at: usize, depth: u64, out: &mut [u8], to: usize) -> Next
     requires { ⌜ Readable (now plan) at depth to ⌝ }
     ensures { λ r. ⌜ Lines (now (plan .entry)) at depth (now (out .entry)) to r (now (out .exit)) ⌝ }

@@ -1,4 +1,4 @@
--- What the inner functions promise one another. Inside: no public contract cites it.
+-- What `lines` asks of a plan's bytes, and what it gives. Inside: no contract of a function that an outside caller reaches cites it.
 use mathlib.Core.Path.{_≡_}
 use mathlib.Core.List.{List, _++_}
 use Prim.Native.Nat.{ℕ, _+_, _^_, _<_}
@@ -6,8 +6,8 @@ use lib.ListN.{length, drop}
 use Rattle.plan.specs.Plans.{Plan}
 use Rattle.plan.specs.Bytes.{encode}
 use Rattle.text.specs.Wrote.{Ends, Wrote}
-use Rattle.printing.specs.Printed.{planText, Lettered}
-use Rattle.printing.specs.declared.lines.Next.{Next}
+use Rattle.listing.specs.Listed.{planText, Lettered}
+use Rattle.listing.specs.declared.Next.{Next}
 
 -- the bytes of a plan that can be printed begin at this place
 pub record Shows (plan : List ℕ) (at : ℕ) (p : Plan) : Type 0 where
