@@ -85,7 +85,7 @@ fn is_right(bytes: &[u8], from: usize) -> bool
 }
 
 // The lowest of the first `count` blocks whose check is wrong; `count` where none is. For this
-// repository alone: a book has at most 8 blocks, and `book::sound` has seen to that.
+// repository alone: a book has at most 8 blocks, and `sound::sound` has seen to that.
 pub fn first_wrong(book: &[u8], count: usize) -> usize
     requires { ⌜ count ≤ 8 ⌝ }
     ensures { λ r. ⌜ Lowest count (λ k. RightCheck (block (now (book .entry)) k)) r ⌝ }

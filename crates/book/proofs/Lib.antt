@@ -1,10 +1,6 @@
 -- Laws that belong to no one function, and the theorems that others cite.
-pub mod InOrder
-pub mod BookLaws
 pub mod WriteLaws
-pub mod RefusalLaws
-pub mod SoundLaws
+pub mod RoomLaws
 pub mod RoundTrip
 pub mod RuleLaws
 pub mod Theorems
-pub mod Small

@@ -7,15 +7,15 @@ use lib.ListN.{length, getD, take, drop, take-append-drop, length-drop}
 use lib.Seq.{take-all, take-at, drop-drop, drop-append-add, getD-take}
 use Rattle.block.specs.Block.{block, RightCheck}
 use Rattle.block.specs.Kinds.{Head, Tables, SettingBlock}
-use Rattle.book.specs.Sound.{Sound, rightsOf, tablesOf}
+use Rattle.sound.specs.Sound.{Sound, rightsOf, tablesOf}
 use Rattle.block.specs.Sealed.{headBlock, settingBlock}
 use Rattle.book.specs.Written.{settingBlocks, bookOf, Writable}
 use Rattle.ground.proofs.Lists.{getD-part, length-part}
-use Rattle.book.proofs.InOrder.{part-inOrder, inOrder-same, inOrder-parts}
+use Rattle.sound.proofs.InOrder.{part-inOrder, inOrder-same, inOrder-parts}
 use Rattle.block.proofs.SealLaws.{length-head, length-setting}
-use Rattle.book.proofs.WriteLaws.{length-tables, length-rights, tables-block}
+use Rattle.sound.proofs.RightsLaws.{length-tables, length-rights, tables-block}
 use Rattle.block.proofs.BlockLaws.{head-sealed, setting-sealed, tables-same, head-right, head-head, setting-right, setting-setting, setting-tables}
-use Rattle.book.proofs.SoundLaws.{length-book}
+use Rattle.book.proofs.WriteLaws.{length-book}
 
 -- ---- a book, its rights, and the book again
 

@@ -7,13 +7,13 @@ use lib.ListN.{length}
 use Rattle.block.specs.declared.rule.Right.{Right}
 use Rattle.block.specs.Rule.{tablePlace, table, rule}
 use Rattle.block.specs.Sealed.{settingBlock}
-use Rattle.book.specs.Sound.{tablesOf}
+use Rattle.sound.specs.Sound.{tablesOf}
 use Rattle.book.specs.Written.{bookOf, Writable}
 use Rattle.ground.proofs.Lists.{part-same}
 use Rattle.block.proofs.SealLaws.{length-setting}
 use Rattle.block.proofs.BlockLaws.{setting-byte}
 use Rattle.block.proofs.RuleLaws.{place-most, rule-table}
-use Rattle.book.proofs.WriteLaws.{length-tables}
+use Rattle.sound.proofs.RightsLaws.{length-tables}
 use Rattle.book.proofs.RoundTrip.{written-setting, written-sound}
 
 -- a written book has the rules that the rights have

@@ -1,63 +1,28 @@
--- What is promised of the book, in one place: for each public function, that any two results that its contract allows are the same, the room
--- included; how far the places of refusals go; and the two round trips. All for every n at once.
+-- What is promised of reading and writing a book, in one place: for each public function, that any two results that its contract allows are the
+-- same, the room included; and the two round trips. All for every n at once.
 use mathlib.Core.Path.{_≡_, refl, sym, ap, ap₂, _∙_, subst}
-use mathlib.Core.Bool.{cond}
 use mathlib.Core.List.{List, _++_}
-use mathlib.Core.Logic.{inl, inr, ⊎-elim}
 use Prim.Native.Nat.{ℕ, _+_, _*_, _≤_, _<_}
 use native.Mathlib.Omega.{arith}
-use lib.Dec.{eqb}
 use lib.ListN.{length, getD, take, drop}
 use lib.Seq.{take-at}
-use Rattle.ground.proofs.Bools.{lt-or-ge}
-use Rattle.book.specs.declared.refusal.Refusal.{Refusal}
-use Rattle.book.specs.declared.refusal.Refusal.the-variants.{Settings, Length, Check, Head, StrayBit, Room}
-use Rattle.book.specs.declared.reading.ReadAnswer.{ReadAnswer}
-use Rattle.book.specs.declared.reading.ReadAnswer.the-variants.{Book, Refused}
+use Rattle.sound.specs.declared.ReadAnswer.{ReadAnswer}
+use Rattle.sound.specs.declared.ReadAnswer.the-variants.{Book, Refused}
 use Rattle.book.specs.declared.writing.WriteAnswer.{WriteAnswer}
 use Rattle.book.specs.declared.writing.WriteAnswer.the-variants.{Written, Refused as NotWritten}
-use Rattle.ground.specs.Bounds.{SettingsFit}
-use Rattle.book.specs.Sound.{Sound, rightsOf}
+use Rattle.sound.specs.Sound.{Sound, rightsOf}
 use Rattle.book.specs.Written.{bookOf, Writable}
-use Rattle.ground.specs.Order.{only, First}
-use Rattle.book.specs.Refusals.{number, place, blocks, Whole, settingsOf, bookRows, readRows, writeRows}
-use Rattle.book.specs.Promise.{Judges, Reads, Writes}
+use Rattle.sound.specs.Refusals.{number, place, readRows, writeRows}
+use Rattle.book.specs.Promise.{Reads, Writes}
 use Rattle.ground.proofs.OrderLaws.{first-unique, first-clear}
-use Rattle.book.proofs.WriteLaws.{length-rights}
-use Rattle.book.proofs.SoundLaws.{sound-settings, sound-posts, sound-clear, length-book, writable-clear, read-clear}
+use Rattle.sound.proofs.RightsLaws.{length-rights}
+use Rattle.sound.proofs.SoundLaws.{read-clear}
+use Rattle.sound.proofs.Theorems.{refusal-one, sound-one}
+use Rattle.book.proofs.WriteLaws.{length-book}
+use Rattle.book.proofs.RoomLaws.{writable-clear}
 use Rattle.book.proofs.RoundTrip.{book-again, read-writable, written-sound, rights-again}
 
 -- ---- one result alone
-
--- a refusal is known by its number and place
-unfoldable pub named : ℕ → ℕ → Refusal
-named x p =
-    cond (eqb x 5) Settings (cond (eqb x 6) Length (cond (eqb x 7) (Check p) (cond (eqb x 8) Head (cond (eqb x 9) (StrayBit p) Room))))
-
-named-back : (r : Refusal) → named (number r) (place r) ≡ r
-unfolding named
-named-back Settings = refl
-named-back Length = refl
-named-back (Check k) = refl
-named-back Head = refl
-named-back (StrayBit k) = refl
-named-back Room = refl
-
-pub refusal-one : (r s : Refusal) → number r ≡ number s → place r ≡ place s → r ≡ s
-refusal-one r s x p = sym (named-back r) ∙ ap₂ named x p ∙ named-back s
-
--- a book's two numbers
-pub sound-one : {book : List ℕ} {n m k l : ℕ} → Sound book n m → Sound book k l → (n ≡ k) × (m ≡ l)
-sound-one s t = (sym (sound-settings s) ∙ sound-settings t, sym (sound-posts s) ∙ sound-posts t)
-
--- `sound`
-pub judges-one : (book : List ℕ) (a b : ReadAnswer) → Judges book a → Judges book b → a ≡ b
-judges-one book (Book n m) (Book k l) s t = let e = sound-one s t in ap₂ Book (e .0) (e .1)
-judges-one book (Book n m) (Refused r) s f = absurd (first-clear (bookRows book) (number r) (place r) f (sound-clear s))
-judges-one book (Refused r) (Book n m) f s = absurd (first-clear (bookRows book) (number r) (place r) f (sound-clear s))
-judges-one book (Refused r) (Refused s) f g =
-    let e = first-unique (bookRows book) (number r) (number s) (place r) (place s) f g in
-    ap Refused (refusal-one r s (e .0) (e .1))
 
 -- `read`
 pub reads-one : (book room : List ℕ) (a b : ReadAnswer) (x y : List ℕ) → Reads book room a x → Reads book room b y → (a ≡ b) × (x ≡ y)
@@ -80,32 +45,6 @@ writes-one n m rights room (NotWritten r) Written x y p q =
 writes-one n m rights room (NotWritten r) (NotWritten s) x y p q =
     let e = first-unique (writeRows n m rights room) (number r) (number s) (place r) (place s) (p .0) (q .0) in
     (ap NotWritten (refusal-one r s (e .0) (e .1)), p .1 ∙ sym (q .1))
-
--- ---- how far a place goes: the C interface packs it beside the number
-
-blocks-most : {book : List ℕ} → ((q : ℕ) → only (Whole book → ⊥) q → ⊥) → blocks book ≤ 8
-blocks-most {book} none = ⊎-elim (λ (h : 8 < blocks book). absurd (none 0 ((λ w. omega (arith, w .most)), refl))) (λ h. h) (lt-or-ge 8 (blocks book))
-
-settings-most : {n : ℕ} → ((q : ℕ) → only (SettingsFit n → ⊥) q → ⊥) → n ≤ 7
-settings-most {n} none = ⊎-elim (λ (h : 7 < n). absurd (none 0 ((λ s. omega (arith, s .most)), refl))) (λ h. h) (lt-or-ge 7 n)
-
-pub read-place-most : (book room : List ℕ) (x p : ℕ) → First (readRows book room) x p → p ≤ 8
-unfolding readRows bookRows settingsOf
-read-place-most book room x p (inl a) = omega (arith, a .1 .here .1)
-read-place-most book room x p (inr (none, inl a)) = omega (arith, a .1 .here .0, blocks-most none)
-read-place-most book room x p (inr (none, inr (c, inl a))) = omega (arith, a .1 .here .1)
-read-place-most book room x p (inr (none, inr (c, inr (d, inl a)))) = omega (arith, a .1 .here .1, blocks-most none)
-read-place-most book room x p (inr (none, inr (c, inr (d, inr (e, inl a))))) = omega (arith, a .1 .here .1)
-read-place-most book room x p (inr (none, inr (c, inr (d, inr (e, inr f))))) = absurd (f .1)
-
-pub write-place-most : (n m : ℕ) (rights room : List ℕ) (x p : ℕ) → First (writeRows n m rights room) x p → p ≤ 7
-unfolding writeRows
-write-place-most n m rights room x p (inl a) = omega (arith, a .1 .here .1)
-write-place-most n m rights room x p (inr (none, inl a)) = omega (arith, a .1 .here .1)
-write-place-most n m rights room x p (inr (none, inr (c, inl a))) = omega (arith, a .1 .here .1)
-write-place-most n m rights room x p (inr (none, inr (c, inr (d, inl a)))) = omega (arith, a .1 .here .1, settings-most none)
-write-place-most n m rights room x p (inr (none, inr (c, inr (d, inr (e, inl a))))) = omega (arith, a .1 .here .1)
-write-place-most n m rights room x p (inr (none, inr (c, inr (d, inr (e, inr f))))) = absurd (f .1)
 
 -- ---- the round trips
 

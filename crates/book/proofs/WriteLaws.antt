@@ -1,26 +1,22 @@
--- What the stores of the writer and the copies of the reader add up to: each is a run of bytes that goes on where the last one ended.
+-- What the stores of the writer and the copies of the reader add up to: each is a run of bytes that goes on where the last one ended. And how
+-- long a written book is.
 use mathlib.Core.Path.{_≡_, sym, ap, _∙_}
 use mathlib.Core.List.{List}
 use Prim.Native.Nat.{ℕ, _+_, _*_, _≤_}
 use native.Mathlib.Nat.{zero-add}
 use native.Mathlib.Numerals.{add-one}
 use native.Mathlib.Omega.{arith}
-use lib.Dec.{lit≤}
-use lib.ListN.{length, take, drop}
-use lib.Seq.{sets, take-take}
+use lib.ListN.{length, take, drop, length-append}
+use lib.Seq.{sets}
 use Rattle.block.specs.Block.{block}
-use Rattle.block.specs.Sealed.{settingBlock}
-use Rattle.book.specs.Sound.{inOrder, rightsOf, tablesOf}
-use Rattle.book.specs.Written.{settingBlocks}
-use Rattle.ground.proofs.Lists.{length-part}
-use Rattle.block.proofs.SealLaws.{run-on, length-setting}
-use Rattle.book.proofs.InOrder.{length-inOrder}
+use Rattle.block.specs.Sealed.{headBlock, settingBlock}
+use Rattle.sound.specs.Sound.{inOrder, rightsOf, tablesOf}
+use Rattle.book.specs.Written.{settingBlocks, bookOf}
+use Rattle.block.proofs.SealLaws.{run-on, length-head, length-setting}
+use Rattle.sound.proofs.InOrder.{length-inOrder}
+use Rattle.sound.proofs.RightsLaws.{length-tables, tables-block, length-rights}
 
 -- ---- the settings, one after the other
-
-pub length-tables : (rights : List ℕ) (i : ℕ) → 256 * (1 + i) ≤ length rights → length (tablesOf rights i) ≡ 256
-unfolding tablesOf
-length-tables rights i h = length-part rights (256 * i) 256 (omega arith)
 
 pub length-settings : (rights : List ℕ) (n : ℕ) → 256 * n ≤ length rights → length (settingBlocks rights n) ≡ 512 * n
 unfolding settingBlocks
@@ -35,16 +31,14 @@ settings-step rights l r₁ r₂ i h p q =
     (run-on l r₁ r₂ (settingBlocks rights i) (settingBlock (tablesOf rights i)) 512 (512 * (1 + i))
     (let e : length (settingBlocks rights i) ≡ 512 * i = length-settings rights i h in omega arith) p q)
 
+pub length-book : (n m : ℕ) (rights : List ℕ) → length rights ≡ 256 * n → length (bookOf n m rights) ≡ 512 * (1 + n)
+unfolding bookOf
+length-book n m rights e =
+    let a : length (headBlock n m) ≡ 512 = length-head n m in
+    let b : length (settingBlocks rights n) ≡ 512 * n = length-settings rights n (omega arith) in
+    simp length-append (omega arith)
+
 -- ---- the rights of a book
-
-pub tables-block : (book : List ℕ) (k : ℕ) → take 256 (block book k) ≡ take 256 (drop (512 * k) book)
-unfolding block
-tables-block book k = take-take 256 512 (drop (512 * k) book) (lit≤ tt)
-
-pub length-rights : (book : List ℕ) (n : ℕ) → 512 * (1 + n) ≤ length book → length (rightsOf book n) ≡ 256 * n
-unfolding rightsOf
-length-rights book n h =
-    length-inOrder _ 256 n (λ i k. ap length (tables-block book (1 + i)) ∙ length-part book (512 * (1 + i)) 256 (omega arith))
 
 pub rights-step : (book l r₁ r₂ : List ℕ) (i : ℕ) → 512 * (1 + i) ≤ length book → r₁ ≡ sets l 0 (rightsOf book i)
     → r₂ ≡ sets r₁ (256 * i) (take 256 (drop (512 * (1 + i)) book)) → r₂ ≡ sets l 0 (rightsOf book (i + 1))

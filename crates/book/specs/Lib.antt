@@ -1,7 +1,5 @@
--- What a reader must believe of a book, in this order: what a sound book and its rights are, the bytes that the writer makes, the refusals and
--- their order, and the promises of the public functions. Its blocks are those of crate block. `Inner` is for a private function.
-pub mod Sound
+-- What a reader must believe of reading and writing a book, in this order: the bytes that the writer makes, and the promises of the public
+-- functions. What a sound book, its rights and the refusals are is crate sound's. `Inner` is for a private function.
 pub mod Written
-pub mod Refusals
 pub mod Promise
 pub mod Inner

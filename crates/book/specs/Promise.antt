@@ -3,19 +3,14 @@ use mathlib.Core.Path.{_≡_}
 use mathlib.Core.List.{List, _++_}
 use Prim.Native.Nat.{ℕ, _+_, _*_, _≤_}
 use lib.ListN.{length, drop}
-use Rattle.book.specs.declared.reading.ReadAnswer.{ReadAnswer}
-use Rattle.book.specs.declared.reading.ReadAnswer.the-variants.{Book, Refused}
+use Rattle.sound.specs.declared.ReadAnswer.{ReadAnswer}
+use Rattle.sound.specs.declared.ReadAnswer.the-variants.{Book, Refused}
 use Rattle.book.specs.declared.writing.WriteAnswer.{WriteAnswer}
 use Rattle.book.specs.declared.writing.WriteAnswer.the-variants.{Written, Refused as NotWritten}
-use Rattle.book.specs.Sound.{Sound, rightsOf}
+use Rattle.sound.specs.Sound.{Sound, rightsOf}
 use Rattle.book.specs.Written.{bookOf, Writable}
 use Rattle.ground.specs.Order.{First}
-use Rattle.book.specs.Refusals.{number, place, bookRows, readRows, writeRows}
-
--- `sound`: the book's n and m, or the first of "the book's 6 to 9"
-abbrev pub Judges : List ℕ → ReadAnswer → Type 0
-Judges book (Book n m) = Sound book n m
-Judges book (Refused r) = First (bookRows book) (number r) (place r)
+use Rattle.sound.specs.Refusals.{number, place, readRows, writeRows}
 
 -- `read`: "a book read [..] fills the first 256 × n [..] bytes of its room and no others"; a refusal "writes nothing"
 abbrev pub Reads : List ℕ → List ℕ → ReadAnswer → List ℕ → Type 0

@@ -6,7 +6,7 @@ use lib.ListN.{length}
 use Rattle.ground.specs.Bounds.{SettingsFit, PostsFit}
 use Rattle.block.specs.Kinds.{Tables}
 use Rattle.block.specs.Sealed.{headBlock, settingBlock}
-use Rattle.book.specs.Sound.{inOrder, tablesOf}
+use Rattle.sound.specs.Sound.{inOrder, tablesOf}
 
 -- "one per setting in order": the blocks of the first n settings
 unfoldable pub settingBlocks : List ℕ → ℕ → List ℕ

@@ -1,25 +1,16 @@
 // The book of rights as it is stored: blocks of 512 bytes, each with its check, one head and one
 // block for each setting. It knows how a book becomes rights in memory and how rights become a book.
 //
-// A book or rights that break a rule of the format are refused with one of the cases of `Refusal`,
+// A book or rights that break a rule of the format are refused with one of the cases of `sound::Refusal`,
 // the first in the written order and at the lowest block; so is a room that is too short. A refusal
 // leaves the lent room as it was. A success fills the first 256 bytes a setting of the room for
 // rights, or the first 512 bytes a block of the room for a book, and no other byte.
 mod reading;
-mod refusal;
 mod writing;
 
-pub use reading::ReadAnswer;
 pub use reading::read;
-pub use reading::sound;
-pub use refusal::Refusal;
 pub use writing::WriteAnswer;
 pub use writing::write;
-
-// The fewest and most blocks of a book: the head and 1 to 7 settings.
-pub const BLOCKS_LEAST: usize = 2;
-
-pub const BLOCKS_MOST: usize = 8;
 
 // The bytes of a setting's tables: 8 posts, two tables of 16 bytes each.
 pub const TABLES: usize = 256;

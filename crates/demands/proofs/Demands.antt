@@ -15,11 +15,11 @@ use Rattle.formula.specs.declared.Answer.the-variants.{Refused as NoFormula}
 use Rattle.formula.specs.declared.Refusal.{Refusal as FormulaRefusal}
 use Rattle.formula.proofs.Unique.{read-unique}
 use Rattle.ground.specs.Order.{First}
-use Rattle.book.specs.Refusals.{readRows, writeRows, number as book-number, place as book-place}
+use Rattle.sound.specs.Refusals.{readRows, writeRows, number as book-number, place as book-place}
 use Rattle.book.specs.Promise.{Reads as ReadsBook, Writes as WritesBook}
-use Rattle.book.specs.declared.refusal.Refusal.{Refusal as BookRefusal}
-use Rattle.book.specs.declared.reading.ReadAnswer.{ReadAnswer}
-use Rattle.book.specs.declared.reading.ReadAnswer.the-variants.{Book, Refused as NoBook}
+use Rattle.sound.specs.declared.refusal.Refusal.{Refusal as BookRefusal}
+use Rattle.sound.specs.declared.ReadAnswer.{ReadAnswer}
+use Rattle.sound.specs.declared.ReadAnswer.the-variants.{Book, Refused as NoBook}
 use Rattle.book.specs.declared.writing.WriteAnswer.{WriteAnswer}
 use Rattle.book.specs.declared.writing.WriteAnswer.the-variants.{Written, Refused as NotWritten}
 use Rattle.book.proofs.Theorems.{reads-one, writes-one, read-then-write, write-then-read}

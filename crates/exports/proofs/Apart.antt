@@ -12,14 +12,14 @@ use Rattle.formula.specs.declared.Answer.the-variants.{Accepted, Refused as NoF
 use Rattle.formula.specs.declared.Refusal.{Refusal as FormulaRefusal}
 use Rattle.formula.proofs.Small as FormulaSmall
 use Rattle.book.specs.Promise.{Reads, Writes}
-use Rattle.book.specs.Refusals as B
-use Rattle.book.specs.declared.reading.ReadAnswer.{ReadAnswer}
-use Rattle.book.specs.declared.reading.ReadAnswer.the-variants.{Book, Refused as NoBook}
+use Rattle.sound.specs.Refusals as B
+use Rattle.sound.specs.declared.ReadAnswer.{ReadAnswer}
+use Rattle.sound.specs.declared.ReadAnswer.the-variants.{Book, Refused as NoBook}
 use Rattle.book.specs.declared.writing.WriteAnswer.{WriteAnswer}
 use Rattle.book.specs.declared.writing.WriteAnswer.the-variants.{Written, Refused as NotWritten}
-use Rattle.book.specs.declared.refusal.Refusal.{Refusal as BookRefusal}
-use Rattle.book.proofs.Small as BookSmall
-use Rattle.book.proofs.Theorems.{read-place-most, write-place-most}
+use Rattle.sound.specs.declared.refusal.Refusal.{Refusal as BookRefusal}
+use Rattle.sound.proofs.Small as BookSmall
+use Rattle.sound.proofs.Theorems.{read-place-most, write-place-most}
 use Rattle.question.specs.Rows as Q
 use Rattle.question.specs.declared.Question.{Question}
 use Rattle.question.specs.declared.Refusal.{Refusal as QuestionRefusal}

@@ -3,7 +3,7 @@ use mathlib.Core.Path.{_≡_}
 use mathlib.Core.List.{List}
 use Prim.Native.Nat.{ℕ}
 use Rattle.book.specs.Promise.{Reads, Writes}
-use Rattle.book.specs.declared.reading.ReadAnswer.{ReadAnswer}
+use Rattle.sound.specs.declared.ReadAnswer.{ReadAnswer}
 use Rattle.book.specs.declared.writing.WriteAnswer.{WriteAnswer}
 use Rattle.packing.specs.Returned.{readReturned, writeReturned}
 

@@ -14,7 +14,7 @@ use Rattle.knowledge.specs.Number.{firstAt}
 use Rattle.knowledge.proofs.Number.{sum-lt, sum-short}
 use Rattle.ground.specs.Order.{First}
 use Rattle.ground.proofs.OrderLaws.{least-only, first-left, first-right}
-use Rattle.book.proofs.SoundLaws.{sound-settings}
+use Rattle.sound.proofs.SoundLaws.{sound-settings}
 use Rattle.plan.specs.Plans.{System}
 use Rattle.sides.specs.Over.{Marks}
 use Rattle.spread.specs.Spread.{Spread}

@@ -14,7 +14,7 @@ use Rattle.ground.proofs.Bools.{and-in, true→T}
 use Rattle.knowledge.specs.Fits.{known, learnSettled}
 use Rattle.knowledge.proofs.Known.{known-intro}
 use Rattle.ground.proofs.OrderLaws.{first-clear}
-use Rattle.book.proofs.Theorems.{sound-one}
+use Rattle.sound.proofs.Theorems.{sound-one}
 use Rattle.plan.specs.Plans.{System, Plan, Permitted, Works, height}
 use Rattle.plan.specs.Ranks.{Cannot as CannotFrom}
 use Rattle.plan.specs.Bytes.{encode}

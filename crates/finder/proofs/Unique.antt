@@ -10,8 +10,8 @@ use Rattle.ground.proofs.Bools.{lt-or-ge}
 use Rattle.knowledge.specs.Fits.{known}
 use Rattle.ground.specs.Order.{First, Clear}
 use Rattle.ground.proofs.OrderLaws.{first-unique, first-clear, clear-append, none-only}
-use Rattle.book.proofs.SoundLaws.{sound-settings}
-use Rattle.book.proofs.Theorems.{sound-one}
+use Rattle.sound.proofs.SoundLaws.{sound-settings}
+use Rattle.sound.proofs.Theorems.{sound-one}
 use Rattle.plan.specs.Plans.{System, Plan}
 use Rattle.plan.specs.Ranks.{Written}
 use Rattle.plan.specs.Bytes.{encode}

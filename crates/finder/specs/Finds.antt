@@ -5,7 +5,7 @@ use mathlib.Core.List.{List, [], _∷_, _++_}
 use Prim.Native.Nat.{ℕ, _^_, _≤_, _<_}
 use lib.ListN.{length, getD}
 use Rattle.ground.specs.Order.{Row, only, First}
-use Rattle.book.specs.Refusals.{settingsOf}
+use Rattle.sound.specs.Refusals.{settingsOf}
 use Rattle.plan.specs.Plans.{System}
 use Rattle.plan.specs.Ranks.{IsRank}
 use Rattle.question.specs.Question.{systemOf, startNumber}

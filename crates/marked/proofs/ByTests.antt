@@ -9,7 +9,7 @@ use Rattle.ground.specs.Digits.{digit, put, bit}
 use Rattle.ground.specs.Search.{Least, all}
 use Rattle.ground.specs.Table.{truth}
 use Rattle.ground.proofs.Bools.{and-left, and-right}
-use Rattle.book.specs.Sound.{inOrder, tablesOf}
+use Rattle.sound.specs.Sound.{inOrder, tablesOf}
 use Rattle.block.specs.Rule.{tablePlace, rule, rulePlace}
 use Rattle.book.specs.Written.{bookOf, settingBlocks}
 use Rattle.block.specs.Sealed.{headBlock, settingBlock, sealed, bytes16}

@@ -4,7 +4,7 @@ use mathlib.Core.List.{List, [], _∷_}
 use mathlib.Core.Bool.{true, false}
 use Prim.Native.Nat.{ℕ}
 use lib.Dec.{T}
-use Rattle.book.specs.Sound.{inOrder, tablesOf}
+use Rattle.sound.specs.Sound.{inOrder, tablesOf}
 use Rattle.block.specs.Rule.{tablePlace, rule, rulePlace}
 use Rattle.book.specs.Written.{bookOf, settingBlocks}
 use Rattle.block.specs.Sealed.{headBlock, settingBlock, sealed, bytes16}

@@ -13,8 +13,8 @@ use Rattle.ground.proofs.Bools.{lt-or-ge}
 use Rattle.ground.proofs.Search.{least-unique}
 use Rattle.ground.specs.Order.{Clear}
 use Rattle.ground.proofs.OrderLaws.{first-clear, clear-append, none-only}
-use Rattle.book.proofs.SoundLaws.{sound-settings}
-use Rattle.book.proofs.Theorems.{sound-one}
+use Rattle.sound.proofs.SoundLaws.{sound-settings}
+use Rattle.sound.proofs.Theorems.{sound-one}
 use Rattle.plan.specs.Plans.{System, Lawful, Plan}
 use Rattle.plan.specs.Ranks.{Reach as ReachIn, Cannot as CannotFrom, IsRank, Written}
 use Rattle.plan.specs.Bytes.{encode}

@@ -21,7 +21,7 @@ use Rattle.formula.specs.Read.{Accepts}
 use Rattle.formula.specs.Numbered.{sentenceNumber, foreignNumber, formulaNumber}
 use Rattle.formula.proofs.Computed.{foreign, bounds, clean, tabled, accepted}
 use Rattle.block.specs.Rule.{table, tablePlace}
-use Rattle.book.specs.Sound.{tablesOf}
+use Rattle.sound.specs.Sound.{tablesOf}
 use Rattle.block.specs.declared.rule.Right.{Right}
 use Rattle.block.specs.declared.rule.Right.the-variants.{Look, Set}
 use Rattle.text.specs.Decimal.{decimal}

@@ -15,13 +15,13 @@ use Rattle.ground.proofs.Bools.{and-left, and-right, or-out, T→false}
 use Rattle.ground.proofs.Search.{all-at}
 use Rattle.block.specs.Block.{Zeros}
 use Rattle.block.specs.Kinds.{Tables}
-use Rattle.book.specs.Sound.{tablesOf}
+use Rattle.sound.specs.Sound.{tablesOf}
 use Rattle.block.specs.Rule.{table, tablePlace}
 use Rattle.block.specs.declared.rule.Right.{Right}
 use Rattle.block.specs.declared.rule.Right.the-variants.{Look as look-rule, Set as set-rule}
 use Rattle.ground.proofs.Lists.{length-part}
 use Rattle.block.proofs.RuleLaws.{place-most}
-use Rattle.book.proofs.WriteLaws.{length-tables}
+use Rattle.sound.proofs.RightsLaws.{length-tables}
 use Rattle.book.proofs.RoundTrip.{written-sound}
 use Rattle.knowledge.specs.Goal.{learnTable}
 use Rattle.question.specs.Asks.{ValidQuestion}

@@ -7,12 +7,12 @@ use Rattle.formula.specs.declared.Answer.{Answer as FormulaAnswer}
 use Rattle.formula.specs.declared.Answer.the-variants.{Accepted, Refused as NoFormula}
 use Rattle.formula.proofs.Small as FormulaSmall
 use Rattle.book.specs.Promise.{Reads, Writes}
-use Rattle.book.specs.Refusals as B
-use Rattle.book.specs.declared.reading.ReadAnswer.{ReadAnswer}
-use Rattle.book.specs.declared.reading.ReadAnswer.the-variants.{Book, Refused as NoBook}
+use Rattle.sound.specs.Refusals as B
+use Rattle.sound.specs.declared.ReadAnswer.{ReadAnswer}
+use Rattle.sound.specs.declared.ReadAnswer.the-variants.{Book, Refused as NoBook}
 use Rattle.book.specs.declared.writing.WriteAnswer.{WriteAnswer}
 use Rattle.book.specs.declared.writing.WriteAnswer.the-variants.{Written, Refused as NotWritten}
-use Rattle.book.proofs.Theorems.{read-place-most, write-place-most}
+use Rattle.sound.proofs.Theorems.{read-place-most, write-place-most}
 use Rattle.question.specs.declared.Question.{Question}
 use Rattle.finder.specs.Finds.{Finds}
 use Rattle.answer.specs.declared.Answer.{Answer}

@@ -2,10 +2,10 @@
 // success has 0 in the upper half. For this repository alone: the `requires` say that the answer fits,
 // which is so of any that its function gives.
 use answer::Answer as Found;
-use book::ReadAnswer;
 use book::WriteAnswer;
 use formula::Answer;
 use plancheck::CheckAnswer;
+use sound::ReadAnswer;
 ghost use mathlib.Core.Path.{_≡_};
 ghost use Prim.Native.Nat.{_<_, _^_};
 ghost use Rattle.packing.specs.Packed.{packed};

@@ -7,7 +7,7 @@ use lib.ListN.{length}
 use native.Mathlib.Omega.{arith}
 use Rattle.ground.specs.Order.{First, Clear, only}
 use Rattle.ground.proofs.OrderLaws.{none-only, first-unique, first-clear, clear-append, first-split}
-use Rattle.book.proofs.Theorems.{sound-one}
+use Rattle.sound.proofs.Theorems.{sound-one}
 use Rattle.plan.specs.Check.{Fault, Verdict, accepted, faulty, check}
 use Rattle.question.specs.Rows.{questionRows}
 use Rattle.question.specs.Rows as Q

@@ -11,7 +11,7 @@ use lib.Dec.{lit≤}
 use lib.ListN.{length}
 use Rattle.ground.proofs.Bools.{lt-or-ge}
 use Rattle.ground.specs.Order.{First}
-use Rattle.book.proofs.Theorems.{sound-one}
+use Rattle.sound.proofs.Theorems.{sound-one}
 use Rattle.plan.specs.Plans.{Lawful, Plan, Works, height}
 use Rattle.plan.specs.Ranks.{IsRank, Written}
 use Rattle.plan.specs.Bytes.{encode}

@@ -6,10 +6,10 @@ use native.Mathlib.Omega.{arith}
 use lib.Dec.{lit<}
 use Rattle.ground.specs.Search.{Least}
 use Rattle.ground.specs.Order.{First, only}
-use Rattle.book.specs.Refusals.{bookRows, readRows}
+use Rattle.sound.specs.Refusals.{bookRows, readRows}
 use Rattle.ground.proofs.OrderLaws.{first-left, first-split}
-use Rattle.book.proofs.Theorems.{read-place-most}
-use Rattle.book.proofs.Small as B
+use Rattle.sound.proofs.Theorems.{read-place-most}
+use Rattle.sound.proofs.Small as B
 use Rattle.question.specs.Rows.{number, questionRows}
 use Rattle.question.specs.declared.Refusal.{Refusal}
 use Rattle.question.specs.declared.Refusal.the-variants.{Book, Team, Known, Goal, Ranks, PlanRoom}

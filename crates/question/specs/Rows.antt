@@ -8,8 +8,8 @@ use lib.ListN.{length}
 use Rattle.ground.specs.Digits.{bit}
 use Rattle.ground.specs.Table.{Within}
 use Rattle.ground.specs.Order.{Row, only}
-use Rattle.book.specs.Refusals.{settingsOf, postsOf, bookRows}
-use Rattle.book.specs.Refusals as B
+use Rattle.sound.specs.Refusals.{settingsOf, postsOf, bookRows}
+use Rattle.sound.specs.Refusals as B
 use Rattle.knowledge.specs.Goal.{learnCount, learnTable}
 use Rattle.question.specs.declared.Refusal.{Refusal}
 use Rattle.question.specs.declared.Refusal.the-variants.{Book, Team, Known, Goal, Ranks, PlanRoom}

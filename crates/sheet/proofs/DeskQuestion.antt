@@ -14,8 +14,9 @@ use Rattle.book.specs.Promise.{Writes}
 use Rattle.book.specs.declared.writing.WriteAnswer.{WriteAnswer}
 use Rattle.book.specs.declared.writing.WriteAnswer.the-variants.{Written as BookWritten}
 use Rattle.ground.proofs.OrderLaws.{first-clear}
-use Rattle.book.proofs.SoundLaws.{length-book}
-use Rattle.book.proofs.Theorems.{sound-one, writes-one}
+use Rattle.book.proofs.WriteLaws.{length-book}
+use Rattle.sound.proofs.Theorems.{sound-one}
+use Rattle.book.proofs.Theorems.{writes-one}
 use Rattle.plan.specs.Plans.{Lawful, Plan}
 use Rattle.plan.specs.Ranks.{Written}
 use Rattle.plan.specs.Bytes.{encode}

@@ -14,11 +14,11 @@ use Rattle.ground.proofs.Bools.{decide, and-right, T→false}
 use Rattle.grammar.specs.Grammar.{text}
 use Rattle.formula.specs.Read.{Accepts}
 use Rattle.block.specs.Rule.{tablePlace, table}
-use Rattle.book.specs.Sound.{tablesOf}
+use Rattle.sound.specs.Sound.{tablesOf}
 use Rattle.block.specs.declared.rule.Right.{Right}
 use Rattle.block.specs.declared.rule.Right.the-variants.{Look, Set}
 use Rattle.ground.proofs.Lists.{getD-part, part-same}
-use Rattle.book.proofs.WriteLaws.{length-tables}
+use Rattle.sound.proofs.RightsLaws.{length-tables}
 use Rattle.block.proofs.RuleLaws.{place-most}
 use Rattle.desk.specs.Sheet.{Rule, Sheet, concerns, isStated, ruleText}
 use Rattle.desk.specs.Desk.{TablesOf, slotOf, tableIn, Slot, Holds}

@@ -10,7 +10,7 @@ use lib.Seq.{ext-getD}
 use Rattle.ground.proofs.Bools.{lt-or-ge}
 use Rattle.ground.proofs.Search.{least-unique}
 use Rattle.block.specs.Rule.{tablePlace, table}
-use Rattle.book.specs.Sound.{tablesOf}
+use Rattle.sound.specs.Sound.{tablesOf}
 use Rattle.book.specs.Written.{bookOf}
 use Rattle.block.specs.declared.rule.Right.{Right}
 use Rattle.block.specs.declared.rule.Right.the-variants.{Look, Set}

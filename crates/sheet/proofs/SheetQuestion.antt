@@ -17,7 +17,7 @@ use Rattle.ground.proofs.Bools.{or-left, or-right, or-out, both, false→T, lt-
 use Rattle.ground.proofs.Bits.{bit-of-zero}
 use Rattle.block.specs.Block.{Zeros}
 use Rattle.block.specs.Rule.{table}
-use Rattle.book.specs.Sound.{tablesOf}
+use Rattle.sound.specs.Sound.{tablesOf}
 use Rattle.book.specs.Written.{bookOf, Writable}
 use Rattle.block.specs.declared.rule.Right.{Right}
 use Rattle.book.proofs.RoundTrip.{written-sound}

@@ -9,7 +9,7 @@ use Rattle.ground.specs.Digits.{bit}
 use Rattle.ground.specs.Search.{Least}
 use Rattle.formula.specs.Read.{Accepts}
 use Rattle.block.specs.Rule.{table}
-use Rattle.book.specs.Sound.{tablesOf}
+use Rattle.sound.specs.Sound.{tablesOf}
 use Rattle.book.specs.Written.{bookOf}
 use Rattle.block.specs.declared.rule.Right.{Right}
 use Rattle.plan.specs.Plans.{System, Plan}

@@ -4,7 +4,7 @@ use native.Mathlib.Omega.{arith}
 use Rattle.packing.specs.Packed.{packed}
 use Rattle.packing.specs.Returned.{readReturned}
 use Rattle.packing.specs.Fits.{ReadFits}
-use Rattle.book.proofs.Small.{number-small}
+use Rattle.sound.proofs.Small.{number-small}
 use borrow.Author.Needs.{needs}
 use Rattle.packing.proofs.of_read.Statement.{statement}
 use Rattle.packing.proofs.of_read.Tie as tie

@@ -2,8 +2,9 @@
 use native.Mathlib.Omega.{arith}
 use mathlib.Core.Path.{refl}
 use denote.Ref.{now}
-use Rattle.book.specs.Sound.{Sound}
-use Rattle.book.proofs.SoundLaws.{judged-book, judged-refused, no-room, read-room}
+use Rattle.sound.specs.Sound.{Sound}
+use Rattle.sound.proofs.SoundLaws.{judged-book, judged-refused, no-room}
+use Rattle.book.proofs.RoomLaws.{read-room}
 use borrow.Author.Needs.{needs}
 use Rattle.book.proofs.reading.read.Statement.{statement}
 use Rattle.book.proofs.reading.read.Tie as tie

@@ -5,7 +5,7 @@ use Prim.Native.Nat.{_+_, _*_, _≤_}
 use denote.Ref.{now}
 use lib.ListN.{length}
 use Rattle.book.specs.Written.{Writable}
-use Rattle.book.proofs.SoundLaws.{may-write, may-not-write, write-room}
+use Rattle.book.proofs.RoomLaws.{may-write, may-not-write, write-room}
 use borrow.Author.Needs.{needs}
 use Rattle.book.proofs.writing.write.Statement.{statement}
 use Rattle.book.proofs.writing.write.Tie as tie

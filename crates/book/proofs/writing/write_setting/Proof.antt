@@ -5,10 +5,10 @@ use mathlib.Core.List.{_++_}
 use Prim.Native.Nat.{_+_, _*_}
 use denote.Ref.{now}
 use lib.ListN.{length, length-append, length-replicate, replicate}
-use Rattle.book.specs.Sound.{tablesOf}
+use Rattle.sound.specs.Sound.{tablesOf}
 use Rattle.block.specs.Sealed.{settingBlock}
 use Rattle.block.proofs.SealLaws.{run-on, seal-on}
-use Rattle.book.proofs.WriteLaws.{length-tables}
+use Rattle.sound.proofs.RightsLaws.{length-tables}
 use borrow.Author.Needs.{needs}
 use Rattle.book.proofs.writing.write_setting.Statement.{statement}
 use Rattle.book.proofs.writing.write_setting.Tie as tie

@@ -1,6 +1,6 @@
 // Why a book, rights or a room are not taken.
 ghost use mathlib.Core.Path.{_≡_};
-ghost use Rattle.book.specs.Refusals.{number, place};
+ghost use Rattle.sound.specs.Refusals.{number, place};
 
 pub enum Refusal {
     // The number of settings handed to the writer is outside 1 to 7.

@@ -1,9 +1,9 @@
--- `book::reading::is_head` meets its contract: each test is one part of `RightHead`.
+-- `is_head` meets its contract: each test is one part of `RightHead`.
 use native.Mathlib.Omega.{arith}
 use Rattle.ground.proofs.Answers.{tells-iff}
-use Rattle.book.proofs.BookLaws.{whole-length, right-head, head-settings, head-posts, head-rest}
-use Rattle.book.proofs.reading.is_head.Statement.{statement}
-use Rattle.book.proofs.reading.is_head.Tie as tie
+use Rattle.sound.proofs.BookLaws.{whole-length, right-head, head-settings, head-posts, head-rest}
+use Rattle.sound.proofs.is_head.Statement.{statement}
+use Rattle.sound.proofs.is_head.Tie as tie
 
 shared-slice-read-n : tie.Need-shared-slice-read-n
 shared-slice-read-n c = omega (arith, whole-length (c .before .before .pre))

@@ -1,8 +1,8 @@
--- `book::reading::is_whole` meets its contract: each test is one field of `Whole`.
+-- `is_whole` meets its contract: each test is one field of `Whole`.
 use native.Mathlib.Omega.{arith}
-use Rattle.book.specs.Refusals.{blocks}
-use Rattle.book.proofs.reading.is_whole.Statement.{statement}
-use Rattle.book.proofs.reading.is_whole.Tie as tie
+use Rattle.sound.specs.Refusals.{blocks}
+use Rattle.sound.proofs.is_whole.Statement.{statement}
+use Rattle.sound.proofs.is_whole.Tie as tie
 
 returns : tie.Need-returns
 returns c = λ w. c .if1 .taken (w .whole)

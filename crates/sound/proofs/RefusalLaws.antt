@@ -9,11 +9,11 @@ use lib.Dec.{lit<}
 use lib.ListN.{length, getD, drop}
 use lib.Seq.{getD-take}
 use Rattle.ground.specs.Search.{Least, Lowest}
-use Rattle.book.specs.Refusals.{blocks, Whole, settingsOf, postsOf, RightHead, bookRows, writeRows}
+use Rattle.sound.specs.Refusals.{blocks, Whole, settingsOf, postsOf, RightHead, bookRows, writeRows}
 use Rattle.block.specs.Block.{block, RightCheck}
 use Rattle.ground.specs.Bounds.{SettingsFit, PostsFit}
 use Rattle.block.specs.Kinds.{Tables, SettingBlock}
-use Rattle.book.specs.Sound.{Sound, tablesOf}
+use Rattle.sound.specs.Sound.{Sound, tablesOf}
 use Rattle.ground.specs.Order.{First}
 use Rattle.block.specs.Live.{Clean}
 use Rattle.ground.proofs.Lists.{getD-part}
@@ -21,7 +21,7 @@ use Rattle.ground.proofs.Answers.{lowest-map}
 use Rattle.ground.proofs.OrderLaws.{least-only, none-only}
 use Rattle.block.proofs.CheckLaws.{block-byte}
 use Rattle.block.proofs.StrayLaws.{tables-clean, clean-tables, block-clean, clean-block, clean-same}
-use Rattle.book.proofs.BookLaws.{whole-length, first-byte, head-settings, head-posts}
+use Rattle.sound.proofs.BookLaws.{whole-length, first-byte, head-settings, head-posts}
 
 -- ---- the lowest stray bit: byte by byte in the code, table by table in the meaning
 

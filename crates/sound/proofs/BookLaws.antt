@@ -5,7 +5,7 @@ use Prim.Native.Nat.{ℕ, _-_, _*_, _/_, _≤_, _<_}
 use native.Mathlib.Omega.{arith}
 use lib.Dec.{lit<}
 use lib.ListN.{length, getD}
-use Rattle.book.specs.Refusals.{blocks, Whole, settingsOf, postsOf, RightHead}
+use Rattle.sound.specs.Refusals.{blocks, Whole, settingsOf, postsOf, RightHead}
 use Rattle.block.specs.Block.{block, Zeros}
 use Rattle.block.proofs.CheckLaws.{block-byte}
 

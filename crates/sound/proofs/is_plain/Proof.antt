@@ -1,4 +1,4 @@
--- `book::reading::is_plain` meets its contract: the bytes from 2 up to j are zero.
+-- `is_plain` meets its contract: the bytes from 2 up to j are zero.
 use borrow.Author.Needs.{needs}
 use mathlib.Core.Path.{_≡_}
 use Prim.Native.Nat.{ℕ, _≤_, _<_, _-_}
@@ -6,8 +6,8 @@ use native.Mathlib.Omega.{arith}
 use lib.ListN.{getD}
 use borrow.Author.Count.{below-more}
 use Rattle.block.specs.Block.{Zeros}
-use Rattle.book.proofs.reading.is_plain.Statement.{statement}
-use Rattle.book.proofs.reading.is_plain.Tie as tie
+use Rattle.sound.proofs.is_plain.Statement.{statement}
+use Rattle.sound.proofs.is_plain.Tie as tie
 
 abbrev Inv-loop : tie.InvT-loop
 Inv-loop book j₀ j = (2 ≤ j) × (j ≤ 508) × ((k : ℕ) → k < j → 2 ≤ k → getD book k 0 ≡ 0)

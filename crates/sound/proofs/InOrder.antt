@@ -7,7 +7,7 @@ use native.Mathlib.Nat.{mul-zero, mul-suc, mul-le-mul-left, le-of-eq, not-suc-le
 use native.Mathlib.Omega.{arith}
 use lib.ListN.{length, take, drop, length-drop, length-append}
 use lib.Seq.{take-all, take-add, take-append-le, drop-append-le, drop-at}
-use Rattle.book.specs.Sound.{inOrder}
+use Rattle.sound.specs.Sound.{inOrder}
 use Rattle.ground.proofs.Bools.{lt-or-ge}
 
 module _ (f : ℕ → List ℕ) (w : ℕ) where

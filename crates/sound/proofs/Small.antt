@@ -1,9 +1,9 @@
 -- A refusal's number is small: for those who pack it with its place (Theorems has the places).
 use Prim.Native.Nat.{_<_}
 use lib.Dec.{lit<}
-use Rattle.book.specs.declared.refusal.Refusal.{Refusal}
-use Rattle.book.specs.declared.refusal.Refusal.the-variants.{Settings, Length, Check, Head, StrayBit, Room}
-use Rattle.book.specs.Refusals.{number}
+use Rattle.sound.specs.declared.refusal.Refusal.{Refusal}
+use Rattle.sound.specs.declared.refusal.Refusal.the-variants.{Settings, Length, Check, Head, StrayBit, Room}
+use Rattle.sound.specs.Refusals.{number}
 
 pub number-small : (r : Refusal) → number r < 256
 number-small Settings = lit< tt

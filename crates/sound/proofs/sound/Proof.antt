@@ -1,18 +1,18 @@
--- `book::sound` meets its contract: each way out is the first refusal in the order, or none, by what was tested before it.
+-- `sound` meets its contract: each way out is the first refusal in the order, or none, by what was tested before it.
 use mathlib.Core.Path.{subst}
 use Prim.Native.Nat.{ℕ, _+_, _≤_, _<_}
 use native.Mathlib.Omega.{arith}
 use denote.Ref.{now}
-use Rattle.book.specs.Refusals.{blocks, Whole, settingsOf, postsOf, RightHead}
+use Rattle.sound.specs.Refusals.{blocks, Whole, settingsOf, postsOf, RightHead}
 use Rattle.block.specs.Block.{block, RightCheck}
 use Rattle.block.specs.Kinds.{SettingBlock}
 use Rattle.ground.specs.Search.{Lowest}
 use Rattle.ground.proofs.Answers.{told, untold, lowest-all}
-use Rattle.book.proofs.BookLaws.{whole-length}
-use Rattle.book.proofs.RefusalLaws.{refuse-length, refuse-check, refuse-head, refuse-stray, is-sound, stray-blocks, sound-head, head-n, head-n-most}
+use Rattle.sound.proofs.BookLaws.{whole-length}
+use Rattle.sound.proofs.RefusalLaws.{refuse-length, refuse-check, refuse-head, refuse-stray, is-sound, stray-blocks, sound-head, head-n, head-n-most}
 use borrow.Author.Needs.{needs}
-use Rattle.book.proofs.reading.sound.Statement.{statement}
-use Rattle.book.proofs.reading.sound.Tie as tie
+use Rattle.sound.proofs.sound.Statement.{statement}
+use Rattle.sound.proofs.sound.Tie as tie
 
 -- past the first test: 2 to 8 whole blocks
 whole : (c : tie.Else1) → Whole (now (c .before .before .before .args .book))

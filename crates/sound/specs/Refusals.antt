@@ -3,12 +3,12 @@ use mathlib.Core.Path.{_≡_}
 use mathlib.Core.List.{List, [], _∷_, _++_}
 use Prim.Native.Nat.{ℕ, _+_, _-_, _*_, _/_, _%_, _≤_, _<_}
 use lib.ListN.{length, getD}
-use Rattle.book.specs.declared.refusal.Refusal.{Refusal}
-use Rattle.book.specs.declared.refusal.Refusal.the-variants.{Settings, Length, Check, Head as WrongHead, StrayBit, Room}
+use Rattle.sound.specs.declared.refusal.Refusal.{Refusal}
+use Rattle.sound.specs.declared.refusal.Refusal.the-variants.{Settings, Length, Check, Head as WrongHead, StrayBit, Room}
 use Rattle.block.specs.Block.{block, RightCheck}
 use Rattle.ground.specs.Bounds.{SettingsFit, PostsFit}
 use Rattle.block.specs.Kinds.{Head, Tables, SettingBlock}
-use Rattle.book.specs.Sound.{tablesOf}
+use Rattle.sound.specs.Sound.{tablesOf}
 use Rattle.ground.specs.Order.{Row, only}
 
 -- "A refusal gives a number and a place. [..] Place is 0 unless named."
