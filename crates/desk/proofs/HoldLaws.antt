@@ -12,7 +12,7 @@ use Rattle.ground.specs.Table.{truth, Within}
 use Rattle.ground.proofs.Bools.{lt-or-ge}
 use Rattle.ground.proofs.Bits.{bit-of-zero}
 use Rattle.grammar.specs.Grammar.{nought, one-unit, one-product, text, meaning}
-use Rattle.grammar.specs.Signs.{Foreign, isStray, isPast, isLetter, isSign}
+use Rattle.signs.specs.Signs.{Foreign, isStray, isPast, isLetter, isSign}
 use Rattle.formula.specs.Read.{Accepts}
 use Rattle.block.specs.declared.rule.Right.{Right}
 use Rattle.block.specs.declared.rule.Right.the-variants.{Look, Set}

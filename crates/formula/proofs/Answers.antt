@@ -7,13 +7,13 @@ use native.Mathlib.Omega.{arith}
 use lib.ListN.{length, replicate}
 use Rattle.grammar.specs.Grammar.{sum}
 use Rattle.ground.specs.Bounds.{SettingsFit}
-use Rattle.grammar.specs.Signs.{Foreign}
+use Rattle.signs.specs.Signs.{Foreign}
 use Rattle.formula.specs.Read.{number, place, LengthFits, Refuses, two, three, four, Reads}
 use Rattle.truths.specs.Two.{Holds, BytesOf, has}
 use Rattle.grammar.specs.Automaton.{wants, breaks, verdict, Parsed}
-use Rattle.grammar.specs.Scans.{Scans}
-use Rattle.grammar.specs.declared.signs.Scanned.{Scanned}
-use Rattle.grammar.specs.declared.signs.Scanned.the-variants.{Clean, Stray, Past}
+use Rattle.signs.specs.Scans.{Scans}
+use Rattle.signs.specs.declared.Scanned.{Scanned}
+use Rattle.signs.specs.declared.Scanned.the-variants.{Clean, Stray, Past}
 use Rattle.formula.specs.declared.Refusal.{Refusal}
 use Rattle.formula.specs.declared.Answer.{Answer}
 use Rattle.formula.specs.declared.Answer.the-variants.{Accepted, Refused}

@@ -15,7 +15,7 @@ use Rattle.ground.proofs.Bools.{and-left, and-right, or-right, beq→eq, both, 
 use Rattle.ground.proofs.Search.{all-at}
 use Rattle.grammar.specs.Grammar.{Sentence, sum, text, meaning}
 use Rattle.ground.specs.Bounds.{SettingsFit}
-use Rattle.grammar.specs.Signs.{isStray, isPast, Foreign}
+use Rattle.signs.specs.Signs.{isStray, isPast, Foreign}
 use Rattle.grammar.specs.Automaton.{wants, breaks, verdict}
 use Rattle.formula.specs.Read.{LengthFits, Refuses, three, four, Accepts}
 use Rattle.formula.proofs.Broken.{broken-place, broken-no-sentence}

@@ -11,7 +11,7 @@ use Rattle.ground.specs.Search.{Least}
 use Rattle.ground.proofs.Bools.{decide, T→true, T→false, and-in, and-left, and-right, or-left, or-right}
 use Rattle.grammar.specs.Grammar.{text, IsSentence}
 use Rattle.ground.specs.Bounds.{SettingsFit}
-use Rattle.grammar.specs.Signs.{isStray, isPast, Foreign}
+use Rattle.signs.specs.Signs.{isStray, isPast, Foreign}
 use Rattle.grammar.specs.Automaton.{wants, Verdict, whole, breaks, verdict}
 use Rattle.grammar.proofs.Automaton.{verdict-text}
 use Rattle.grammar.proofs.Begins.{whole-sentence}

@@ -5,7 +5,7 @@ use mathlib.Core.List.{List, [], _∷_}
 use Prim.Native.Nat.{ℕ}
 use lib.Dec.{leb}
 use lib.ListN.{length}
-use Rattle.grammar.specs.Signs.{isStray, isPast}
+use Rattle.signs.specs.Signs.{isStray, isPast}
 use Rattle.grammar.specs.Automaton.{wants, verdict, whole, breaks}
 use Rattle.formula.specs.Read.{number}
 use Rattle.formula.specs.declared.Answer.{Answer}

@@ -5,10 +5,10 @@ ghost use mathlib.Core.Path.{_≡_};
 ghost use Prim.Native.Nat.{ℕ};
 ghost use lib.ListN.{replicate};
 ghost use Rattle.ground.specs.Bounds.{SettingsFit};
-ghost use Rattle.grammar.specs.Signs.{Foreign};
+ghost use Rattle.signs.specs.Signs.{Foreign};
 ghost use Rattle.formula.specs.Read.{number, place, Reads, LengthFits};
 use grammar::Part;
-use grammar::Scanned;
+use signs::Scanned;
 
 // Why a text is no formula of n settings.
 pub enum Refusal {
@@ -96,7 +96,7 @@ pub fn read(n: usize, text: &[u8]) -> Reading
     if LENGTH_MOST < text.len() {
         return refused(Refusal::Length);
     }
-    match grammar::scan(n, text) {
+    match signs::scan(n, text) {
         Scanned::Stray(i) => refused(Refusal::StrayByte(i)),
         Scanned::Past(i) => refused(Refusal::LetterPast(i)),
         Scanned::Clean => sentence(n, text),

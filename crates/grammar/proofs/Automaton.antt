@@ -8,7 +8,7 @@ use native.Mathlib.Omega.{arith}
 use lib.Dec.{T}
 use lib.ListN.{length, take}
 use Rattle.grammar.specs.Grammar.{Kind, Sentence, letter, nought, one, negated, bracketed, one-unit, unit-and, one-product, product-or, text}
-use Rattle.grammar.specs.Signs.{isLetter}
+use Rattle.signs.specs.Signs.{isLetter}
 use Rattle.grammar.specs.Automaton.{State, wants, has, dead, isAtom, step, Verdict, whole, breaks, verdict}
 
 -- the state after the text

@@ -9,7 +9,7 @@ use native.Mathlib.Omega.{arith}
 use lib.Dec.{T, eqb, eqb→eq, leb, leb→le}
 use Rattle.ground.proofs.Bools.{decide, T→true, T→false, or-out, and-left, and-right}
 use Rattle.grammar.specs.Grammar.{sum, product, unit, Sentence, letter, nought, one, negated, bracketed, one-unit, unit-and, one-product, product-or, text, Begins, IsSentence}
-use Rattle.grammar.specs.Signs.{isLetter}
+use Rattle.signs.specs.Signs.{isLetter}
 use Rattle.grammar.specs.Automaton.{State, wants, has, dead, isAtom, close, step, whole, verdict}
 use Rattle.grammar.proofs.Automaton.{run, run-append, run-dead, run-text, alive, whole-run}
 

@@ -13,7 +13,7 @@ use borrow.Author.Tests.{ne-eqb}
 use Rattle.ground.specs.Digits.{bit}
 use Rattle.ground.proofs.Bools.{T→false, lt-or-ge}
 use Rattle.grammar.specs.Grammar.{Kind, sum, product, unit, Sentence, letter, nought, one, negated, bracketed, one-unit, unit-and, one-product, product-or, text, meaning}
-use Rattle.grammar.specs.Signs.{isLetter}
+use Rattle.signs.specs.Signs.{isLetter}
 use Rattle.truths.specs.Two.{has, Holds}
 use Rattle.grammar.specs.Automaton as A
 use Rattle.grammar.specs.Automaton.{State, wants, dead, step, isAtom, breaks, ends, verdict, stops, Parsed, Parses}

@@ -8,7 +8,7 @@ use lib.Dec.{T, eqb}
 use lib.ListN.{length, getD, drop}
 use Rattle.ground.specs.Text.{byte}
 use Rattle.grammar.specs.Grammar.{Kind, sum, product, unit, Sentence, text, meaning}
-use Rattle.grammar.specs.Signs.{isLetter}
+use Rattle.signs.specs.Signs.{isLetter}
 use Rattle.truths.specs.Two.{Holds}
 use Rattle.truths.specs.declared.Truths.{Truths}
 use Rattle.grammar.specs.declared.parts.Part.{Part}

@@ -5,8 +5,8 @@ ghost use lib.ListN.{getD};
 ghost use Rattle.ground.specs.Text.{byte};
 ghost use Rattle.grammar.specs.Grammar.{sum, product, unit};
 ghost use Rattle.grammar.specs.Automaton.{Parses};
-use crate::signs::is_letter;
 use ground::peek;
+use signs::is_letter;
 use truths::Truths;
 
 pub enum Part {

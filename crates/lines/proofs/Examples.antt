@@ -3,7 +3,7 @@ use mathlib.Core.Path.{_≡_, refl}
 use mathlib.Core.List.{[], _∷_}
 use mathlib.Core.Bool.{false}
 use Rattle.ground.specs.Text.{bytes}
-use Rattle.grammar.specs.Signs.{isLetter, isSign, isStray, isPast}
+use Rattle.signs.specs.Signs.{isLetter, isSign, isStray, isPast}
 use Rattle.grammar.specs.Automaton.{isAtom, step, verdict}
 use Rattle.formula.specs.Numbered.{sentenceNumber, foreignNumber, formulaNumber}
 use Rattle.block.specs.declared.rule.Right.the-variants.{Look, Set}

@@ -10,7 +10,7 @@ use lib.Dec.{T, leb, ltb, lt→ltb}
 use lib.ListN.{length, length-append}
 use Rattle.ground.specs.Text.{bytes}
 use Rattle.ground.proofs.Bools.{T→true}
-use Rattle.grammar.specs.Signs.{isStray, isPast}
+use Rattle.signs.specs.Signs.{isStray, isPast}
 use Rattle.grammar.specs.Automaton.{Verdict, whole, breaks, wants, verdict}
 use Rattle.formula.specs.Numbered.{sentenceNumber, foreignNumber, formulaNumber}
 use Rattle.block.specs.declared.rule.Right.{Right}

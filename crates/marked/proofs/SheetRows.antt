@@ -15,7 +15,7 @@ use Rattle.ground.specs.Table.{truth}
 use Rattle.ground.specs.Text.{bytes}
 use Rattle.ground.proofs.Bits.{bit-suc, bit-of-zero, below-2}
 use Rattle.grammar.specs.Grammar.{letter, one, negated, one-unit, one-product, text, meaning as truthOf}
-use Rattle.grammar.specs.Signs.{isLetter, isSign, isStray, isPast}
+use Rattle.signs.specs.Signs.{isLetter, isSign, isStray, isPast}
 use Rattle.grammar.specs.Automaton.{isAtom, step, verdict}
 use Rattle.formula.specs.Read.{Accepts}
 use Rattle.formula.specs.Numbered.{sentenceNumber, foreignNumber, formulaNumber}

@@ -2,8 +2,8 @@
 use borrow.Author.Needs.{needs}
 use mathlib.Core.Path.{sym, ap, _∙_}
 use native.Mathlib.Omega.{arith}
-use Rattle.grammar.specs.Signs.{isLetter}
-use Rattle.grammar.proofs.ScanLaws.{letter-low, letter-small}
+use Rattle.signs.specs.Signs.{isLetter}
+use Rattle.signs.proofs.ScanLaws.{letter-low, letter-small}
 use Rattle.grammar.proofs.PartLaws.{inside, beyond, nought-read, one-read, letter-read, no-atom}
 use Rattle.grammar.proofs.parts.atom.Statement.{statement}
 use Rattle.grammar.proofs.parts.atom.Tie as tie

@@ -10,7 +10,7 @@ use lib.ListN.{length, getD}
 use borrow.Author.Tests.{ne-eqb, le-leb, lt-leb}
 use Rattle.ground.specs.Search.{Least}
 use Rattle.ground.proofs.Bools.{true→T, false→T, T→true, or-out, or-left, or-right, both, and-left, and-right, lt-or-ge}
-use Rattle.grammar.specs.Signs.{isLetter, isSign, isStray, isPast, Foreign}
+use Rattle.signs.specs.Signs.{isLetter, isSign, isStray, isPast, Foreign}
 
 pub no-letter : (c : ℕ) → c < 97 → false ≡ isLetter c
 unfolding isLetter

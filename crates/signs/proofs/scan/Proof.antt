@@ -4,9 +4,9 @@ use Prim.Native.Nat.{_-_}
 use mathlib.Core.Path.{sym, _∙_}
 use lib.ListN.{length}
 use native.Mathlib.Omega.{arith}
-use Rattle.grammar.proofs.ScanLaws.{CleanTo, stray-first, past-first, clean-more}
-use Rattle.grammar.proofs.signs.scan.Statement.{statement}
-use Rattle.grammar.proofs.signs.scan.Tie as tie
+use Rattle.signs.proofs.ScanLaws.{CleanTo, stray-first, past-first, clean-more}
+use Rattle.signs.proofs.scan.Statement.{statement}
+use Rattle.signs.proofs.scan.Tie as tie
 
 abbrev Inv-loop : tie.InvT-loop
 Inv-loop n text i₀ i = CleanTo n text i

@@ -1,7 +1,7 @@
 -- `is_letter` meets its contract: the two bounds, one after the other.
-use Rattle.grammar.proofs.ScanLaws.{no-letter, letter-high}
-use Rattle.grammar.proofs.signs.is_letter.Statement.{statement}
-use Rattle.grammar.proofs.signs.is_letter.Tie as tie
+use Rattle.signs.proofs.ScanLaws.{no-letter, letter-high}
+use Rattle.signs.proofs.is_letter.Statement.{statement}
+use Rattle.signs.proofs.is_letter.Tie as tie
 
 returns : tie.Need-returns
 returns c = no-letter (c .before .args .c) (c .if1 .taken)

@@ -1,8 +1,8 @@
 -- `is_sign` meets its contract: one sign after the other.
-use Rattle.grammar.specs.Signs.{isSign}
-use Rattle.grammar.proofs.ScanLaws.{a-sign, last-sign}
-use Rattle.grammar.proofs.signs.is_sign.Statement.{statement}
-use Rattle.grammar.proofs.signs.is_sign.Tie as tie
+use Rattle.signs.specs.Signs.{isSign}
+use Rattle.signs.proofs.ScanLaws.{a-sign, last-sign}
+use Rattle.signs.proofs.is_sign.Statement.{statement}
+use Rattle.signs.proofs.is_sign.Tie as tie
 
 returns : tie.Need-returns
 unfolding isSign

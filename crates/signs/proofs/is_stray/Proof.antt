@@ -1,10 +1,10 @@
 -- `is_stray` meets its contract: no letter and no sign.
 use mathlib.Core.Path.{sym, ap, _∙_}
 use mathlib.Core.Bool.{not}
-use Rattle.grammar.proofs.ScanLaws.{letter-not-stray, sign-not-stray}
+use Rattle.signs.proofs.ScanLaws.{letter-not-stray, sign-not-stray}
 use borrow.Author.Needs.{needs}
-use Rattle.grammar.proofs.signs.is_stray.Statement.{statement}
-use Rattle.grammar.proofs.signs.is_stray.Tie as tie
+use Rattle.signs.proofs.is_stray.Statement.{statement}
+use Rattle.signs.proofs.is_stray.Tie as tie
 
 is-letter-requires : tie.Need-is-letter-requires
 is-letter-requires c κs = search needs

@@ -1,8 +1,9 @@
-// The first look over a text: the lowest place of a byte that no formula has, or of a letter past
-// the settings.
+// The bytes of a formula, and the first look over a text: the lowest place of a byte that no formula
+// has, or of a letter past the settings. For this repository alone, though every function takes any
+// byte or text; nothing is refused, and nothing is written to what a caller lends.
 ghost use mathlib.Core.Path.{_≡_};
-ghost use Rattle.grammar.specs.Signs.{isLetter, isSign, isStray, isPast};
-ghost use Rattle.grammar.specs.Scans.{Scans};
+ghost use Rattle.signs.specs.Signs.{isLetter, isSign, isStray, isPast};
+ghost use Rattle.signs.specs.Scans.{Scans};
 
 pub enum Scanned {
     // Every byte is one that a formula over n settings may have.

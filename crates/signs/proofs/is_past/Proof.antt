@@ -1,9 +1,9 @@
 -- `is_past` meets its contract: of a letter, its distance from `a`.
 use mathlib.Core.Path.{sym, _∙_}
-use Rattle.grammar.proofs.ScanLaws.{letter-low, past-letter, past-none}
+use Rattle.signs.proofs.ScanLaws.{letter-low, past-letter, past-none}
 use borrow.Author.Needs.{needs}
-use Rattle.grammar.proofs.signs.is_past.Statement.{statement}
-use Rattle.grammar.proofs.signs.is_past.Tie as tie
+use Rattle.signs.proofs.is_past.Statement.{statement}
+use Rattle.signs.proofs.is_past.Tie as tie
 
 is-letter-requires : tie.Need-is-letter-requires
 is-letter-requires c κs = search needs

@@ -4,9 +4,9 @@ use Prim.Native.Nat.{ℕ}
 use lib.Dec.{T}
 use lib.ListN.{getD}
 use Rattle.ground.specs.Search.{Least}
-use Rattle.grammar.specs.Signs.{isStray, isPast, Foreign}
-use Rattle.grammar.specs.declared.signs.Scanned.{Scanned}
-use Rattle.grammar.specs.declared.signs.Scanned.the-variants.{Clean, Stray, Past}
+use Rattle.signs.specs.Signs.{isStray, isPast, Foreign}
+use Rattle.signs.specs.declared.Scanned.{Scanned}
+use Rattle.signs.specs.declared.Scanned.the-variants.{Clean, Stray, Past}
 
 -- no foreign byte, or the lowest place of one and of which kind it is
 abbrev pub Scans : ℕ → List ℕ → Scanned → Type 0
