@@ -1,23 +1,23 @@
--- A block with a right check is its first 508 bytes, sealed; and what is sealed has a right check. The two ways between a block and its bytes.
+-- Each kind of block and its bytes: a block of either kind with a right check is what stands in it, sealed; and sealed so, it is one. The two ways
+-- between a block and what stands in it.
 use mathlib.Core.Path.{_≡_, sym, ap, ap₂, _∙_, subst}
 use mathlib.Core.List.{List, [], _∷_, _++_}
 use Prim.Native.Nat.{ℕ, zero, suc, _+_, _*_, _-_, _/_, _%_, _≤_, _<_}
 use native.Mathlib.Omega.{arith}
 use lib.Dec.{lit<, lit≤}
-use lib.ListN.{length, getD, take, drop, replicate, take-append-drop, length-append, length-replicate, getD-replicate, drop-of-length-le, List·getD-append}
-use lib.Seq.{ext-getD, drop-cons, take-suc, take-add, getD-take, getD-append-add, length-take-le}
+use lib.ListN.{length, getD, take, drop, replicate, length-append, length-replicate, getD-replicate, List·getD-append}
+use lib.Seq.{ext-getD, take-suc, take-add, getD-take, getD-append-add, length-take-le}
 use Rattle.ground.specs.Digits.{bit}
 use Rattle.ground.specs.Table.{truth, Within}
 use Rattle.block.specs.declared.rule.Right.{Right}
-use Rattle.block.specs.declared.sums.Sums.{Sums}
-use Rattle.block.specs.Block.{Zeros, check, number16, RightCheck}
+use Rattle.sums.specs.Block.{RightCheck}
+use Rattle.sums.specs.Sealed.{sealed}
 use Rattle.block.specs.Rule.{tablePlace, table}
-use Rattle.block.specs.Kinds.{Head, Tables, SettingBlock}
-use Rattle.block.specs.Sealed.{bytes16, sealed, headBlock, settingBlock}
+use Rattle.block.specs.Kinds.{Zeros, Head, Tables, SettingBlock}
+use Rattle.block.specs.Sealed.{headBlock, settingBlock}
 use Rattle.ground.proofs.Lists.{getD-part, length-part}
-use Rattle.block.proofs.CheckLaws.{check-same}
+use Rattle.sums.proofs.SealLaws.{length-sealed, right-sealed, sealed-byte, sealed-right}
 use Rattle.block.proofs.StrayLaws.{table-byte, place-post}
-use Rattle.block.proofs.SealLaws.{length-setting}
 
 -- bytes that are zero, as a list
 zeros-run : (l : List ℕ) (from n : ℕ) → from + n ≤ length l → Zeros from (from + n) l → take n (drop from l) ≡ replicate n 0
@@ -31,33 +31,6 @@ zeros-run l from n h z =
 -- ---- from a block to its bytes
 
 module _ (x : List ℕ) (e : length x ≡ 512) where
-  last-four : drop 508 x ≡ getD x 508 0 ∷ getD x 509 0 ∷ getD x 510 0 ∷ getD x 511 0 ∷ []
-  last-four =
-      drop-cons x 508 0 (omega arith)
-      ∙ ap (λ l. getD x 508 0 ∷ l)
-      (drop-cons x 509 0 (omega arith)
-      ∙ ap (λ l. getD x 509 0 ∷ l)
-      (drop-cons x 510 0 (omega arith)
-      ∙ ap (λ l. getD x 510 0 ∷ l)
-      (drop-cons x 511 0 (omega arith) ∙ ap (λ l. getD x 511 0 ∷ l) (drop-of-length-le x {i = 512} (omega arith)))))
-
-  check-front : check x ≡ check (take 508 x)
-  check-front = check-same x (take 508 x) (λ j h. sym (getD-take 508 x j 0 h))
-
-  two-bytes : (a b s : ℕ) → a < 256 → a + 256 * b ≡ s → bytes16 s ≡ a ∷ b ∷ []
-  unfolding bytes16
-  two-bytes a b s h k = ap₂ (λ u v. u ∷ v ∷ []) (omega arith) (omega arith)
-
-  pub right-sealed : ((j : ℕ) → j < 512 → getD x j 0 < 256) → RightCheck x → x ≡ sealed (take 508 x)
-  unfolding sealed number16
-  right-sealed byte right =
-      sym (take-append-drop 508 x)
-      ∙ ap (λ l. take 508 x ++ l)
-      (last-four
-      ∙ ap₂ _++_
-      (sym (two-bytes (getD x 508 0) (getD x 509 0) (check (take 508 x) .s) (byte 508 (lit< tt)) (right .holds-s ∙ ap (λ (c : Sums). c .s) check-front)))
-      (sym (two-bytes (getD x 510 0) (getD x 511 0) (check (take 508 x) .t) (byte 510 (lit< tt)) (right .holds-t ∙ ap (λ (c : Sums). c .t) check-front))))
-
   head-bytes : {n m : ℕ} → Head n m x → take 508 x ≡ n ∷ m ∷ replicate 506 0
   head-bytes h =
       take-add 2 506 x
@@ -68,38 +41,15 @@ module _ (x : List ℕ) (e : length x ≡ 512) where
 
   pub head-sealed : {n m : ℕ} → ((j : ℕ) → j < 512 → getD x j 0 < 256) → RightCheck x → Head n m x → x ≡ headBlock n m
   unfolding headBlock
-  head-sealed byte right h = right-sealed byte right ∙ ap sealed (head-bytes h)
+  head-sealed byte right h = right-sealed x e byte right ∙ ap sealed (head-bytes h)
 
   pub setting-sealed : {n m : ℕ} → ((j : ℕ) → j < 512 → getD x j 0 < 256) → RightCheck x → SettingBlock n m x → x ≡ settingBlock (take 256 x)
   unfolding settingBlock
   setting-sealed byte right b =
-      right-sealed byte right
+      right-sealed x e byte right
       ∙ ap sealed (take-add 256 252 x ∙ ap (λ l. take 256 x ++ l) (zeros-run x 256 252 (omega arith) (b .rest)))
 
 -- ---- from bytes to a block
-
-module _ (body : List ℕ) (e : length body ≡ 508) where
-  pub sealed-byte : (j : ℕ) → j < 508 → getD (sealed body) j 0 ≡ getD body j 0
-  unfolding sealed
-  sealed-byte j h = List·getD-append body _ 0 j (omega arith)
-
-  check-sealed : check (sealed body) ≡ check body
-  check-sealed = check-same (sealed body) body sealed-byte
-
-  after : (k : ℕ) → getD (sealed body) (508 + k) 0 ≡ getD (bytes16 (check body .s) ++ bytes16 (check body .t)) k 0
-  unfolding sealed
-  after k = ap (λ n. getD (sealed body) (n + k) 0) (sym e) ∙ getD-append-add body _ k 0
-
-  halves : (x : ℕ) → x % 256 + 256 * (x / 256) ≡ x
-  halves x = omega arith
-
-  pub sealed-right : RightCheck (sealed body)
-  unfolding number16 bytes16
-  sealed-right =
-      record {
-        holds-s = ap₂ (λ a b. a + 256 * b) (after 0) (after 1) ∙ halves (check body .s) ∙ sym (ap (λ (c : Sums). c .s) check-sealed);
-        holds-t = ap₂ (λ a b. a + 256 * b) (after 2) (after 3) ∙ halves (check body .t) ∙ sym (ap (λ (c : Sums). c .t) check-sealed);
-      }
 
 -- tables that agree in their 256 bytes
 pub tables-same : (n m : ℕ) (a b : List ℕ) → ((j : ℕ) → j < 256 → getD a j 0 ≡ getD b j 0) → Tables n m a → Tables n m b
@@ -117,6 +67,10 @@ tables-same n m a b same t =
 
 head-length : (n m : ℕ) → length (n ∷ m ∷ replicate 506 0) ≡ 508
 head-length n m = ap (λ k. suc (suc k)) (length-replicate {A = ℕ} 506 0)
+
+pub length-head : (n m : ℕ) → length (headBlock n m) ≡ 512
+unfolding headBlock
+length-head n m = length-sealed _ (head-length n m)
 
 pub head-right : (n m : ℕ) → RightCheck (headBlock n m)
 unfolding headBlock
@@ -139,6 +93,10 @@ head-head n m =
 module _ (tables : List ℕ) (e : length tables ≡ 256) where
   body-length : length (tables ++ replicate 252 0) ≡ 508
   body-length = simp (length-append, length-replicate) (omega arith)
+
+  pub length-setting : length (settingBlock tables) ≡ 512
+  unfolding settingBlock
+  length-setting = length-sealed _ body-length
 
   pub setting-right : RightCheck (settingBlock tables)
   unfolding settingBlock
@@ -167,6 +125,6 @@ module _ (tables : List ℕ) (e : length tables ≡ 256) where
 
   pub setting-tables : take 256 (settingBlock tables) ≡ tables
   setting-tables =
-      let l : length (take 256 (settingBlock tables)) ≡ 256 = length-take-le 256 (settingBlock tables) (rw (length-setting tables e) (lit≤ tt)) in
+      let l : length (take 256 (settingBlock tables)) ≡ 256 = length-take-le 256 (settingBlock tables) (rw length-setting (lit≤ tt)) in
       ext-getD 0 _ _ (l ∙ sym e)
       (λ j h. getD-take 256 (settingBlock tables) j 0 (rw l at h) ∙ setting-byte j (rw l at h))

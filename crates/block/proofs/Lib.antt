@@ -1,7 +1,5 @@
 -- Laws that belong to no one function, and the theorems that others cite.
-pub mod CheckLaws
 pub mod StrayLaws
-pub mod SealLaws
 pub mod BlockLaws
 pub mod RuleLaws
 pub mod Theorems

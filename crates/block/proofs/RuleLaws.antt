@@ -5,9 +5,9 @@ use Prim.Native.Nat.{ℕ, _+_, _*_, _≤_, _<_}
 use native.Mathlib.Nat.{add-assoc}
 use native.Mathlib.Omega.{arith}
 use lib.ListN.{length, getD, take, drop}
+use Rattle.sums.specs.Block.{block}
 use Rattle.block.specs.declared.rule.Right.{Right}
 use Rattle.block.specs.declared.rule.Right.the-variants.{Look, Set}
-use Rattle.block.specs.Block.{block}
 use Rattle.block.specs.Rule.{tablePlace, table, rulePlace, rule}
 use Rattle.ground.proofs.Lists.{getD-part, length-part, part-same}
 

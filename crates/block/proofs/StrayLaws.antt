@@ -16,9 +16,8 @@ use Rattle.ground.specs.Digits.{bit}
 use Rattle.ground.specs.Table.{truth, Within}
 use Rattle.block.specs.declared.rule.Right.{Right}
 use Rattle.block.specs.declared.rule.Right.the-variants.{Look, Set}
-use Rattle.block.specs.Block.{Zeros}
 use Rattle.block.specs.Rule.{tablePlace, table}
-use Rattle.block.specs.Kinds.{Tables, SettingBlock}
+use Rattle.block.specs.Kinds.{Zeros, Tables, SettingBlock}
 use Rattle.ground.specs.Tells.{Tells}
 use Rattle.block.specs.Live.{live, Clean}
 use Rattle.ground.proofs.Lists.{getD-part}

@@ -5,8 +5,11 @@ use Prim.Native.Nat.{ℕ, _≤_, _<_}
 use lib.ListN.{getD}
 use Rattle.ground.specs.Table.{Within}
 use Rattle.block.specs.declared.rule.Right.{Right}
-use Rattle.block.specs.Block.{Zeros}
 use Rattle.block.specs.Rule.{table}
+
+-- bytes from one place up to another are "zero"
+unfoldable pub Zeros : ℕ → ℕ → List ℕ → Type 0
+Zeros from to bytes = (j : ℕ) → from ≤ j → j < to → getD bytes j 0 ≡ 0
 
 -- "Head: byte 0 is n, byte 1 is m, bytes 2 to 507 zero."
 pub record Head (n m : ℕ) (bytes : List ℕ) : Type 0 where

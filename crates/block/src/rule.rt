@@ -1,7 +1,7 @@
 // Where the table of a rule stands in a book.
-use super::BLOCK;
 use super::POST;
 use ground::TABLE;
+use sums::BLOCK;
 ghost use mathlib.Core.Path.{_≡_};
 ghost use Rattle.block.specs.Rule.{rulePlace};
 

@@ -1,8 +1,8 @@
 // Bits of a setting's tables that must be zero: in tables of posts that don't exist, past 2^n, and
 // in the bytes of a block after the tables.
 use super::POST;
-use super::bytes::peek;
 use ground::TABLE;
+use sums::peek;
 ghost use mathlib.Core.Path.{_≡_};
 ghost use Prim.Native.Nat.{_+_, _*_, _^_, _≤_, _<_};
 ghost use lib.ListN.{drop};

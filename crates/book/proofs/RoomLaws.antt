@@ -17,7 +17,8 @@ use Rattle.ground.specs.Order.{First, Clear}
 use Rattle.book.specs.Inner.{MayWrite}
 use Rattle.ground.proofs.Lists.{sets-front}
 use Rattle.ground.proofs.OrderLaws.{none-only}
-use Rattle.block.proofs.SealLaws.{run-on, length-head}
+use Rattle.sums.proofs.SealLaws.{run-on}
+use Rattle.block.proofs.BlockLaws.{length-head}
 use Rattle.sound.proofs.RefusalLaws.{none-block, down}
 use Rattle.sound.proofs.RightsLaws.{length-rights}
 use Rattle.book.proofs.WriteLaws.{length-book}

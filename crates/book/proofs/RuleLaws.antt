@@ -10,8 +10,7 @@ use Rattle.block.specs.Sealed.{settingBlock}
 use Rattle.sound.specs.Sound.{tablesOf}
 use Rattle.book.specs.Written.{bookOf, Writable}
 use Rattle.ground.proofs.Lists.{part-same}
-use Rattle.block.proofs.SealLaws.{length-setting}
-use Rattle.block.proofs.BlockLaws.{setting-byte}
+use Rattle.block.proofs.BlockLaws.{length-setting, setting-byte}
 use Rattle.block.proofs.RuleLaws.{place-most, rule-table}
 use Rattle.sound.proofs.RightsLaws.{length-tables}
 use Rattle.book.proofs.RoundTrip.{written-setting, written-sound}

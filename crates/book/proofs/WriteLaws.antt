@@ -8,11 +8,12 @@ use native.Mathlib.Numerals.{add-one}
 use native.Mathlib.Omega.{arith}
 use lib.ListN.{length, take, drop, length-append}
 use lib.Seq.{sets}
-use Rattle.block.specs.Block.{block}
+use Rattle.sums.specs.Block.{block}
 use Rattle.block.specs.Sealed.{headBlock, settingBlock}
 use Rattle.sound.specs.Sound.{inOrder, rightsOf, tablesOf}
 use Rattle.book.specs.Written.{settingBlocks, bookOf}
-use Rattle.block.proofs.SealLaws.{run-on, length-head, length-setting}
+use Rattle.sums.proofs.SealLaws.{run-on}
+use Rattle.block.proofs.BlockLaws.{length-head, length-setting}
 use Rattle.sound.proofs.InOrder.{length-inOrder}
 use Rattle.sound.proofs.RightsLaws.{length-tables, tables-block, length-rights}
 

@@ -1,10 +1,10 @@
 // From a book's bytes to rights in memory.
 use super::TABLES;
-use block::BLOCK;
 use ground::copy;
 use sound::ReadAnswer;
 use sound::Refusal;
 use sound::sound;
+use sums::BLOCK;
 ghost use mathlib.Core.Path.{_≡_};
 ghost use Prim.Native.Nat.{_+_, _*_, _≤_};
 ghost use lib.ListN.{length};

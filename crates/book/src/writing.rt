@@ -3,14 +3,14 @@
 use super::HEAD_ZEROS;
 use super::SETTING_ZEROS;
 use super::TABLES;
-use block::BLOCK;
 use block::first_stray;
-use block::seal;
 use ground::POSTS_MOST;
 use ground::SETTINGS_MOST;
 use ground::copy;
 use ground::zeros;
 use sound::Refusal;
+use sums::BLOCK;
+use sums::seal;
 ghost use mathlib.Core.Path.{_≡_};
 ghost use Prim.Native.Nat.{_+_, _*_, _≤_};
 ghost use lib.ListN.{length};

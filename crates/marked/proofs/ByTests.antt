@@ -12,7 +12,8 @@ use Rattle.ground.proofs.Bools.{and-left, and-right}
 use Rattle.sound.specs.Sound.{inOrder, tablesOf}
 use Rattle.block.specs.Rule.{tablePlace, rule, rulePlace}
 use Rattle.book.specs.Written.{bookOf, settingBlocks}
-use Rattle.block.specs.Sealed.{headBlock, settingBlock, sealed, bytes16}
+use Rattle.sums.specs.Sealed.{sealed, bytes16}
+use Rattle.block.specs.Sealed.{headBlock, settingBlock}
 use Rattle.acts.specs.Seven.{startOf, nowOf, afterSet, afterLook, firstDigit}
 use Rattle.acts.specs.Acts.{byteOf, offered, setTo, lookAt}
 use Rattle.knowledge.specs.Number.{sumOf, firstAt}

@@ -7,7 +7,8 @@ use lib.Dec.{T}
 use Rattle.sound.specs.Sound.{inOrder, tablesOf}
 use Rattle.block.specs.Rule.{tablePlace, rule, rulePlace}
 use Rattle.book.specs.Written.{bookOf, settingBlocks}
-use Rattle.block.specs.Sealed.{headBlock, settingBlock, sealed, bytes16}
+use Rattle.sums.specs.Sealed.{sealed, bytes16}
+use Rattle.block.specs.Sealed.{headBlock, settingBlock}
 use Rattle.acts.specs.Acts.{byteOf}
 use Rattle.plan.specs.Plans.{stop, set-then, look-then}
 use Rattle.step.specs.declared.refusal.Refusal.the-variants.{NotSettled}

@@ -13,8 +13,7 @@ use Rattle.ground.specs.Search.{all}
 use Rattle.ground.specs.Table.{truth, Within}
 use Rattle.ground.proofs.Bools.{and-left, and-right, or-out, T→false}
 use Rattle.ground.proofs.Search.{all-at}
-use Rattle.block.specs.Block.{Zeros}
-use Rattle.block.specs.Kinds.{Tables}
+use Rattle.block.specs.Kinds.{Tables, Zeros}
 use Rattle.sound.specs.Sound.{tablesOf}
 use Rattle.block.specs.Rule.{table, tablePlace}
 use Rattle.block.specs.declared.rule.Right.{Right}

@@ -6,9 +6,9 @@ use Prim.Native.Nat.{ℕ, _^_, _≤_}
 use Prim.Native.String.{String}
 use lib.ListN.{length, getD, drop, replicate}
 use Rattle.ground.specs.Text.{bytes}
-use Rattle.block.specs.Block.{check}
+use Rattle.sums.specs.Block.{check}
 use Rattle.book.specs.Written.{bookOf}
-use Rattle.block.specs.declared.sums.Sums.{Sums}
+use Rattle.sums.specs.declared.sums.Sums.{Sums}
 use Rattle.finder.specs.Finds.{Finds}
 use Rattle.question.specs.declared.Question.{Question}
 use Rattle.answer.specs.declared.Answer as F
@@ -57,7 +57,7 @@ pub data Row : Type 0 where
   reads : (n : ℕ) (text : String) (byte : ℕ) → Row
   -- a formula over n settings, and the number and the place of its refusal
   refuses : (n : ℕ) (text : String) (number place : ℕ) → Row
-  -- the bytes of a block that its check is over, and the two numbers of `block::check_of`
+  -- the bytes of a block that its check is over, and the two numbers of `sums::check_of`
   sums : (bytes : List ℕ) (s t : ℕ) → Row
   -- a question, the least height and the bytes of the plan written
   reaches : (c : Case) (height : ℕ) (plan : List ℕ) → Row

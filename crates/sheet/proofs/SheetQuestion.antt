@@ -15,7 +15,7 @@ use Rattle.ground.specs.Digits.{bit}
 use Rattle.ground.specs.Table.{truth, Within}
 use Rattle.ground.proofs.Bools.{or-left, or-right, or-out, both, false→T, lt-or-ge}
 use Rattle.ground.proofs.Bits.{bit-of-zero}
-use Rattle.block.specs.Block.{Zeros}
+use Rattle.block.specs.Kinds.{Zeros}
 use Rattle.block.specs.Rule.{table}
 use Rattle.sound.specs.Sound.{tablesOf}
 use Rattle.book.specs.Written.{bookOf, Writable}

@@ -36,7 +36,7 @@ fn find(desk: Desk, plan: &mut [u8]) -> Answer
 {
     let mut book = [0u8; BOOK_MOST];
     write_book(desk, &mut book);
-    let blocks = block::BLOCK * (1 + (desk.settings as usize));
+    let blocks = sums::BLOCK * (1 + (desk.settings as usize));
     let question = Question {
         team: desk.team,
         known: desk.known,

@@ -5,9 +5,10 @@ use Prim.Native.Nat.{ℕ, _-_, _*_, _/_, _≤_, _<_}
 use native.Mathlib.Omega.{arith}
 use lib.Dec.{lit<}
 use lib.ListN.{length, getD}
+use Rattle.block.specs.Kinds.{Zeros}
 use Rattle.sound.specs.Refusals.{blocks, Whole, settingsOf, postsOf, RightHead}
-use Rattle.block.specs.Block.{block, Zeros}
-use Rattle.block.proofs.CheckLaws.{block-byte}
+use Rattle.sums.specs.Block.{block}
+use Rattle.sums.proofs.CheckLaws.{block-byte}
 
 pub whole-length : {book : List ℕ} → Whole book → (length book ≡ 512 * blocks book) × (2 ≤ blocks book) × (blocks book ≤ 8)
 unfolding blocks

@@ -10,7 +10,7 @@ use lib.ListN.{length, getD, drop}
 use lib.Seq.{getD-take}
 use Rattle.ground.specs.Search.{Least, Lowest}
 use Rattle.sound.specs.Refusals.{blocks, Whole, settingsOf, postsOf, RightHead, bookRows, writeRows}
-use Rattle.block.specs.Block.{block, RightCheck}
+use Rattle.sums.specs.Block.{block, RightCheck}
 use Rattle.ground.specs.Bounds.{SettingsFit, PostsFit}
 use Rattle.block.specs.Kinds.{Tables, SettingBlock}
 use Rattle.sound.specs.Sound.{Sound, tablesOf}
@@ -19,7 +19,7 @@ use Rattle.block.specs.Live.{Clean}
 use Rattle.ground.proofs.Lists.{getD-part}
 use Rattle.ground.proofs.Answers.{lowest-map}
 use Rattle.ground.proofs.OrderLaws.{least-only, none-only}
-use Rattle.block.proofs.CheckLaws.{block-byte}
+use Rattle.sums.proofs.CheckLaws.{block-byte}
 use Rattle.block.proofs.StrayLaws.{tables-clean, clean-tables, block-clean, clean-block, clean-same}
 use Rattle.sound.proofs.BookLaws.{whole-length, first-byte, head-settings, head-posts}
 

@@ -6,7 +6,7 @@ use native.Mathlib.Omega.{arith}
 use lib.Dec.{lit≤}
 use lib.ListN.{length, take, drop}
 use lib.Seq.{take-take}
-use Rattle.block.specs.Block.{block}
+use Rattle.sums.specs.Block.{block}
 use Rattle.sound.specs.Sound.{rightsOf, tablesOf}
 use Rattle.ground.proofs.Lists.{length-part}
 use Rattle.sound.proofs.InOrder.{length-inOrder}

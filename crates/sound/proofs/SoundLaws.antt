@@ -9,7 +9,7 @@ use Rattle.sound.specs.declared.ReadAnswer.{ReadAnswer}
 use Rattle.sound.specs.declared.ReadAnswer.the-variants.{Book, Refused}
 use Rattle.sound.specs.declared.refusal.Refusal.{Refusal}
 use Rattle.sound.specs.Refusals.{blocks, number, place, Whole, settingsOf, postsOf, RightHead, bookRows, readRows}
-use Rattle.block.specs.Block.{block}
+use Rattle.sums.specs.Block.{block}
 use Rattle.sound.specs.Sound.{Sound}
 use Rattle.block.specs.Kinds.{SettingBlock}
 use Rattle.ground.specs.Order.{First, Clear}

@@ -5,7 +5,7 @@ use Prim.Native.Nat.{ℕ, _+_, _-_, _*_, _/_, _%_, _≤_, _<_}
 use lib.ListN.{length, getD}
 use Rattle.sound.specs.declared.refusal.Refusal.{Refusal}
 use Rattle.sound.specs.declared.refusal.Refusal.the-variants.{Settings, Length, Check, Head as WrongHead, StrayBit, Room}
-use Rattle.block.specs.Block.{block, RightCheck}
+use Rattle.sums.specs.Block.{block, RightCheck}
 use Rattle.ground.specs.Bounds.{SettingsFit, PostsFit}
 use Rattle.block.specs.Kinds.{Head, Tables, SettingBlock}
 use Rattle.sound.specs.Sound.{tablesOf}

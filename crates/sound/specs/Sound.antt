@@ -4,7 +4,7 @@ use mathlib.Core.List.{List, [], _++_}
 use Prim.Native.Nat.{ℕ, zero, suc, _+_, _*_, _<_}
 use lib.ListN.{length, take, drop}
 use Rattle.ground.specs.Bounds.{SettingsFit, PostsFit}
-use Rattle.block.specs.Block.{block, RightCheck}
+use Rattle.sums.specs.Block.{block, RightCheck}
 use Rattle.block.specs.Kinds.{Head, SettingBlock}
 
 -- "Blocks of 512 bytes: one head, then one per setting in order, so 512 × (1 + n)", each with its check

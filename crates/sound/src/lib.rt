@@ -5,15 +5,15 @@
 // written order and at the lowest block. It writes nothing.
 mod refusal;
 
-use block::BLOCK;
-use block::CHECKED;
 use block::first_stray;
-use block::first_wrong;
 use ground::POSTS_MOST;
 pub use refusal::Refusal;
+use sums::BLOCK;
+use sums::CHECKED;
+use sums::first_wrong;
 ghost use Prim.Native.Nat.{_≤_};
 ghost use lib.ListN.{length};
-ghost use Rattle.block.specs.Block.{Zeros};
+ghost use Rattle.block.specs.Kinds.{Zeros};
 ghost use Rattle.ground.specs.Tells.{Tells};
 ghost use Rattle.sound.specs.Refusals.{Whole, RightHead};
 ghost use Rattle.sound.specs.Promise.{Judges};

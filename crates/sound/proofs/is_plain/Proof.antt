@@ -5,7 +5,7 @@ use Prim.Native.Nat.{ℕ, _≤_, _<_, _-_}
 use native.Mathlib.Omega.{arith}
 use lib.ListN.{getD}
 use borrow.Author.Count.{below-more}
-use Rattle.block.specs.Block.{Zeros}
+use Rattle.block.specs.Kinds.{Zeros}
 use Rattle.sound.proofs.is_plain.Statement.{statement}
 use Rattle.sound.proofs.is_plain.Tie as tie
 

@@ -4,7 +4,7 @@ use Prim.Native.Nat.{ℕ, _+_, _≤_, _<_}
 use native.Mathlib.Omega.{arith}
 use denote.Ref.{now}
 use Rattle.sound.specs.Refusals.{blocks, Whole, settingsOf, postsOf, RightHead}
-use Rattle.block.specs.Block.{block, RightCheck}
+use Rattle.sums.specs.Block.{block, RightCheck}
 use Rattle.block.specs.Kinds.{SettingBlock}
 use Rattle.ground.specs.Search.{Lowest}
 use Rattle.ground.proofs.Answers.{told, untold, lowest-all}

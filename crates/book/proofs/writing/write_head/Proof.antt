@@ -6,7 +6,7 @@ use Prim.Native.Nat.{ℕ, suc}
 use denote.Ref.{now}
 use lib.ListN.{length-set, replicate, length-replicate}
 use Rattle.block.specs.Sealed.{headBlock}
-use Rattle.block.proofs.SealLaws.{run-on, seal-on}
+use Rattle.sums.proofs.SealLaws.{run-on, seal-on}
 use borrow.Author.Needs.{needs}
 use Rattle.book.proofs.writing.write_head.Statement.{statement}
 use Rattle.book.proofs.writing.write_head.Tie as tie

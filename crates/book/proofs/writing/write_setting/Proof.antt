@@ -7,7 +7,7 @@ use denote.Ref.{now}
 use lib.ListN.{length, length-append, length-replicate, replicate}
 use Rattle.sound.specs.Sound.{tablesOf}
 use Rattle.block.specs.Sealed.{settingBlock}
-use Rattle.block.proofs.SealLaws.{run-on, seal-on}
+use Rattle.sums.proofs.SealLaws.{run-on, seal-on}
 use Rattle.sound.proofs.RightsLaws.{length-tables}
 use borrow.Author.Needs.{needs}
 use Rattle.book.proofs.writing.write_setting.Statement.{statement}

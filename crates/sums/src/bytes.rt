@@ -4,10 +4,10 @@ ghost use mathlib.Core.Path.{_≡_};
 ghost use Prim.Native.Nat.{_+_, _≤_};
 ghost use lib.ListN.{length, getD};
 ghost use lib.Seq.{sets};
-ghost use Rattle.block.specs.Sealed.{bytes16};
+ghost use Rattle.sums.specs.Sealed.{bytes16};
 
 // Byte i of what begins at byte `from`; 0 where there is none.
-pub(crate) fn peek(bytes: &[u8], from: usize, i: usize) -> u8
+pub fn peek(bytes: &[u8], from: usize, i: usize) -> u8
     ensures { λ r. ⌜ r ≡ getD (now (bytes .entry)) (from + i) 0 ⌝ }
 {
     if bytes.len() <= from {

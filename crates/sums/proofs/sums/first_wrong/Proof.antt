@@ -1,14 +1,14 @@
--- `block::first_wrong` meets its contract: the blocks before k have right checks.
+-- `sums::first_wrong` meets its contract: the blocks before k have right checks.
 use borrow.Author.Needs.{needs}
 use Prim.Native.Nat.{ℕ, _≤_, _<_, _-_}
 use native.Mathlib.Omega.{arith}
 use denote.Ref.{now}
 use borrow.Author.Count.{below-more}
-use Rattle.block.specs.Block.{block, RightCheck}
+use Rattle.sums.specs.Block.{block, RightCheck}
 use Rattle.ground.proofs.Answers.{told, untold, tells-iff, lowest-at, lowest-none}
-use Rattle.block.proofs.CheckLaws.{right-block, right-drop}
-use Rattle.block.proofs.sums.first_wrong.Statement.{statement}
-use Rattle.block.proofs.sums.first_wrong.Tie as tie
+use Rattle.sums.proofs.CheckLaws.{right-block, right-drop}
+use Rattle.sums.proofs.sums.first_wrong.Statement.{statement}
+use Rattle.sums.proofs.sums.first_wrong.Tie as tie
 
 abbrev Inv-loop : tie.InvT-loop
 Inv-loop book count k₀ k = (k ≤ count) × ((j : ℕ) → j < k → RightCheck (block book j))

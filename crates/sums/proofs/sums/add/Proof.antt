@@ -1,8 +1,8 @@
--- `block::sums::add` meets its contract: the two sums that wrap, one after the other.
-use Rattle.block.specs.Block.{added}
+-- `sums::sums::add` meets its contract: the two sums that wrap, one after the other.
+use Rattle.sums.specs.Block.{added}
 use borrow.Author.Needs.{needs}
-use Rattle.block.proofs.sums.add.Statement.{statement}
-use Rattle.block.proofs.sums.add.Tie as tie
+use Rattle.sums.proofs.sums.add.Statement.{statement}
+use Rattle.sums.proofs.sums.add.Tie as tie
 
 plus-requires : tie.Need-plus-requires
 plus-requires c κs = search needs

@@ -1,9 +1,9 @@
--- `block::sums::is_right` meets its contract: each test is one field of `RightCheck`.
+-- `sums::sums::is_right` meets its contract: each test is one field of `RightCheck`.
 use mathlib.Core.Path.{sym, ap, _∙_}
-use Rattle.block.specs.declared.sums.Sums.{Sums}
+use Rattle.sums.specs.declared.sums.Sums.{Sums}
 use borrow.Author.Needs.{needs}
-use Rattle.block.proofs.sums.is_right.Statement.{statement}
-use Rattle.block.proofs.sums.is_right.Tie as tie
+use Rattle.sums.proofs.sums.is_right.Statement.{statement}
+use Rattle.sums.proofs.sums.is_right.Tie as tie
 
 check-of-requires : tie.Need-check-of-requires
 check-of-requires c κs = search needs

@@ -1,12 +1,12 @@
--- `block::bytes::peek` meets its contract: past the end `getD` gives its default, 0.
+-- `sums::bytes::peek` meets its contract: past the end `getD` gives its default, 0.
 use native.Mathlib.Omega.{arith}
 use denote.Ref.{now}
 use mathlib.Core.Path.{sym}
 use Prim.Native.Nat.{_+_}
 use lib.ListN.{List·getD-eq-default}
 use borrow.Author.Needs.{needs}
-use Rattle.block.proofs.bytes.peek.Statement.{statement}
-use Rattle.block.proofs.bytes.peek.Tie as tie
+use Rattle.sums.proofs.bytes.peek.Statement.{statement}
+use Rattle.sums.proofs.bytes.peek.Tie as tie
 
 returns : tie.Need-returns
 returns c = let a = c .before .args in sym (List·getD-eq-default (now (a .bytes)) 0 {n = a .from + a .i} (omega arith))

@@ -1,11 +1,11 @@
--- `block::bytes::put16` meets its contract: two stores are a run of two bytes.
+-- `sums::bytes::put16` meets its contract: two stores are a run of two bytes.
 use native.Mathlib.Omega.{arith}
 use lib.ListN.{length-set}
 use native.Mathlib.Numerals.{add-one}
-use Rattle.block.specs.Sealed.{bytes16}
+use Rattle.sums.specs.Sealed.{bytes16}
 use borrow.Author.Needs.{needs}
-use Rattle.block.proofs.bytes.put16.Statement.{statement}
-use Rattle.block.proofs.bytes.put16.Tie as tie
+use Rattle.sums.proofs.bytes.put16.Statement.{statement}
+use Rattle.sums.proofs.bytes.put16.Tie as tie
 
 cast-room : tie.Need-cast-room
 cast-room c = search needs

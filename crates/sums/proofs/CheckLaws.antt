@@ -7,8 +7,8 @@ use native.Mathlib.Numerals.{add-one}
 use lib.Dec.{lit<}
 use lib.ListN.{getD, drop}
 use lib.Seq.{getD-take}
-use Rattle.block.specs.declared.sums.Sums.{Sums}
-use Rattle.block.specs.Block.{added, sumsAfter, check, number16, block, RightCheck}
+use Rattle.sums.specs.declared.sums.Sums.{Sums}
+use Rattle.sums.specs.Block.{added, sumsAfter, check, number16, block, RightCheck}
 
 pub sums-same : (a b : List ℕ) (n : ℕ) → ((j : ℕ) → j < n → getD a j 0 ≡ getD b j 0) → sumsAfter a n ≡ sumsAfter b n
 unfolding sumsAfter

@@ -1,12 +1,12 @@
--- `block::sums::number_at` meets its contract: each of the two bytes is one that `peek` found.
+-- `sums::sums::number_at` meets its contract: each of the two bytes is one that `peek` found.
 use mathlib.Core.Path.{ap₂, sym, _∙_}
 use Prim.Native.Nat.{_+_, _*_}
 use denote.Ref.{now}
 use lib.Seq.{getD-drop}
-use Rattle.block.specs.Block.{number16}
+use Rattle.sums.specs.Block.{number16}
 use borrow.Author.Needs.{needs}
-use Rattle.block.proofs.sums.number_at.Statement.{statement}
-use Rattle.block.proofs.sums.number_at.Tie as tie
+use Rattle.sums.proofs.sums.number_at.Statement.{statement}
+use Rattle.sums.proofs.sums.number_at.Tie as tie
 
 peek-requires : tie.Need-peek-requires
 peek-requires c κs = search needs

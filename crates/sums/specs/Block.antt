@@ -2,17 +2,13 @@
 -- bytes 0 to 507 add it to s, then add s to t, both keeping only the low 16 bits."
 use mathlib.Core.Path.{_≡_}
 use mathlib.Core.List.{List}
-use Prim.Native.Nat.{ℕ, zero, suc, _+_, _*_, _%_, _^_, _≤_, _<_}
+use Prim.Native.Nat.{ℕ, zero, suc, _+_, _*_, _%_, _^_}
 use lib.ListN.{getD, take, drop}
-use Rattle.block.specs.declared.sums.Sums.{Sums}
+use Rattle.sums.specs.declared.sums.Sums.{Sums}
 
 -- "Blocks of 512 bytes": block k
 unfoldable pub block : List ℕ → ℕ → List ℕ
 block book k = take 512 (drop (512 * k) book)
-
--- bytes from one place up to another are "zero"
-unfoldable pub Zeros : ℕ → ℕ → List ℕ → Type 0
-Zeros from to bytes = (j : ℕ) → from ≤ j → j < to → getD bytes j 0 ≡ 0
 
 -- "add it to s, then add s to t, both keeping only the low 16 bits"
 unfoldable pub added : Sums → ℕ → Sums

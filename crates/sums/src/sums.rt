@@ -10,8 +10,8 @@ ghost use mathlib.Core.List.{_++_};
 ghost use Prim.Native.Nat.{_+_, _%_, _^_, _≤_};
 ghost use lib.ListN.{length, drop};
 ghost use lib.Seq.{sets};
-ghost use Rattle.block.specs.Block.{added, check, number16, block, RightCheck};
-ghost use Rattle.block.specs.Sealed.{bytes16};
+ghost use Rattle.sums.specs.Block.{added, check, number16, block, RightCheck};
+ghost use Rattle.sums.specs.Sealed.{bytes16};
 ghost use Rattle.ground.specs.Tells.{Tells};
 ghost use Rattle.ground.specs.Search.{Lowest};
 

@@ -1,4 +1,4 @@
--- `block::check_of` meets its contract: after i turns the sums are those after the first i bytes.
+-- `sums::check_of` meets its contract: after i turns the sums are those after the first i bytes.
 use borrow.Author.Needs.{needs}
 use mathlib.Core.Path.{_≡_, refl, sym, ap, _∙_}
 use Prim.Native.Nat.{_≤_, _-_}
@@ -6,10 +6,10 @@ use native.Mathlib.Omega.{arith}
 use denote.Ref.{now}
 use lib.ListN.{drop}
 use lib.Seq.{getD-drop}
-use Rattle.block.specs.Block.{sumsAfter, check}
-use Rattle.block.proofs.CheckLaws.{sums-step}
-use Rattle.block.proofs.sums.check_of.Statement.{statement}
-use Rattle.block.proofs.sums.check_of.Tie as tie
+use Rattle.sums.specs.Block.{sumsAfter, check}
+use Rattle.sums.proofs.CheckLaws.{sums-step}
+use Rattle.sums.proofs.sums.check_of.Statement.{statement}
+use Rattle.sums.proofs.sums.check_of.Tie as tie
 
 abbrev Inv-loop : tie.InvT-loop
 Inv-loop bytes from sums₀ i₀ sums i = (i ≤ 508) × (sums ≡ sumsAfter (drop from bytes) i)

@@ -1,16 +1,16 @@
--- `block::seal` meets its contract: two numbers of two bytes are a run of four, and the sums are those of the block.
+-- `sums::seal` meets its contract: two numbers of two bytes are a run of four, and the sums are those of the block.
 use mathlib.Core.Path.{ap, _∙_}
 use mathlib.Core.List.{_++_}
 use Prim.Native.Nat.{_+_}
 use native.Mathlib.Nat.{add-assoc}
 use denote.Ref.{now}
 use lib.Seq.{sets}
-use Rattle.block.specs.declared.sums.Sums.{Sums}
-use Rattle.block.specs.Sealed.{bytes16}
-use Rattle.block.proofs.SealLaws.{run-on}
+use Rattle.sums.specs.declared.sums.Sums.{Sums}
+use Rattle.sums.specs.Sealed.{bytes16}
+use Rattle.sums.proofs.SealLaws.{run-on}
 use borrow.Author.Needs.{needs}
-use Rattle.block.proofs.sums.seal.Statement.{statement}
-use Rattle.block.proofs.sums.seal.Tie as tie
+use Rattle.sums.proofs.sums.seal.Statement.{statement}
+use Rattle.sums.proofs.sums.seal.Tie as tie
 
 check-of-requires : tie.Need-check-of-requires
 check-of-requires c κs = search needs
