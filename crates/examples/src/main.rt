@@ -13,7 +13,7 @@ fn main() {
     books::single_bytes();
     questions::plan_rooms();
     questions::rank_rooms();
-    questions::greatest();
     sheets::marked();
     sheets::without_read();
+    sheets::greatest();
 }

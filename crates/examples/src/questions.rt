@@ -1,19 +1,21 @@
-// The finder's examples: P6 with rooms that do and do not hold its plan, a rank room of 48 and of 49
-// bytes at n = 2, and a book with the greatest rank that three settings have.
+// The finder's examples: P6 with rooms that do and do not hold its plan, and a rank room of 48 and of 49
+// bytes at n = 2.
 use crate::say::say;
 use crate::say::say_number;
 use crate::say::say_refused;
 use answer::Answer;
 use question::Question;
 
-// Where the rights of a post at a setting stand: its look rule's table, then its set rule's.
-fn look_rule(setting: u8, post: u8) -> usize {
-    256 * (setting as usize) + 32 * (post as usize)
-}
+// Where a rule's table stands in the rights: 256 bytes a setting, 32 a post, to look and then to set.
+const WRITE_A_1: usize = 16;
 
-fn set_rule(setting: u8, post: u8) -> usize {
-    256 * (setting as usize) + 32 * (post as usize) + 16
-}
+const WRITE_A_2: usize = 32 + 16;
+
+const WRITE_B_1: usize = 256 + 16;
+
+const READ_C_2: usize = 512 + 32;
+
+const WRITE_C_2: usize = 512 + 32 + 16;
 
 // A rule over three settings at most: its table's other bytes are zero, as the rights are before.
 fn rule(n: usize, rights: &mut [u8], place: usize, text: &[u8]) {
@@ -71,13 +73,33 @@ fn show(name: &[u8], answer: Answer, plan: &[u8]) {
     say(b"\n");
 }
 
-// The rights of P6: `write a 2 ~c`, `write b 1 a`, `read c 2 1`, `write c 2 c`.
+// The answer to a question over n settings, with nothing known and nothing to learn, in these rooms.
+fn show_asked(
+    name: &[u8],
+    book: &[u8],
+    n: usize,
+    team: u8,
+    make: &[u8],
+    ranks: &mut [u8],
+    plan: &mut [u8],
+) {
+    let table = formula::read(n, make).table;
+    let question = Question {
+        team,
+        known: 0,
+        values: 0,
+    };
+    let answer = finder::find(book, question, &table, &[], ranks, plan);
+    show(name, answer, plan);
+}
+
+// The book of P6: `write a 2 ~c`, `write b 1 a`, `read c 2 1`, `write c 2 c`.
 fn sixth(book: &mut [u8]) {
     let mut rights = [0u8; 768];
-    rule(3, &mut rights, set_rule(0, 1), b"~c");
-    rule(3, &mut rights, set_rule(1, 0), b"a");
-    rule(3, &mut rights, look_rule(2, 1), b"1");
-    rule(3, &mut rights, set_rule(2, 1), b"c");
+    rule(3, &mut rights, WRITE_A_2, b"~c");
+    rule(3, &mut rights, WRITE_B_1, b"a");
+    rule(3, &mut rights, READ_C_2, b"1");
+    rule(3, &mut rights, WRITE_C_2, b"c");
     book::write(3, 2, &rights, book);
 }
 
@@ -85,15 +107,7 @@ fn sixth(book: &mut [u8]) {
 fn show_sixth(name: &[u8], plan: &mut [u8]) {
     let mut book = [0u8; 2048];
     sixth(&mut book);
-    let make = formula::read(3, b"b").table;
-    let mut ranks = [0u8; 343];
-    let question = Question {
-        team: 3,
-        known: 0,
-        values: 0,
-    };
-    let answer = finder::find(&book, question, &make, &[], &mut ranks, plan);
-    show(name, answer, plan);
+    show_asked(name, &book, 3, 3, b"b", &mut [0u8; 343], plan);
 }
 
 pub(crate) fn plan_rooms() {
@@ -101,53 +115,21 @@ pub(crate) fn plan_rooms() {
     show_sixth(b"P6, plan room 7:", &mut [0u8; 7]);
 }
 
+// The book of P11: `write a 1 b|~b`.
+fn eleventh(book: &mut [u8]) {
+    let mut rights = [0u8; 512];
+    rule(2, &mut rights, WRITE_A_1, b"b|~b");
+    book::write(2, 1, &rights, book);
+}
+
 // P11 with this rank room.
 fn show_eleventh(name: &[u8], ranks: &mut [u8]) {
-    let mut rights = [0u8; 512];
-    rule(2, &mut rights, set_rule(0, 0), b"b|~b");
     let mut book = [0u8; 1536];
-    book::write(2, 1, &rights, &mut book);
-    let make = formula::read(2, b"a").table;
-    let question = Question {
-        team: 1,
-        known: 0,
-        values: 0,
-    };
-    let mut plan = [0u8; 2];
-    let answer = finder::find(&book, question, &make, &[], ranks, &mut plan);
-    show(name, answer, &plan);
+    eleventh(&mut book);
+    show_asked(name, &book, 2, 1, b"a", ranks, &mut [0u8; 2]);
 }
 
 pub(crate) fn rank_rooms() {
     show_eleventh(b"n = 2, rank room 48:", &mut [0u8; 48]);
     show_eleventh(b"n = 2, rank room 49:", &mut [0u8; 49]);
-}
-
-// Setting j may be looked at where all before it are true; it may be set where those before j - 1 are,
-// j - 1 is false, and not all from j on are true.
-fn climbing(book: &mut [u8]) {
-    let mut rights = [0u8; 768];
-    rule(3, &mut rights, look_rule(0, 0), b"1");
-    rule(3, &mut rights, look_rule(1, 0), b"a");
-    rule(3, &mut rights, look_rule(2, 0), b"a&b");
-    rule(3, &mut rights, set_rule(0, 0), b"~(a&b&c)");
-    rule(3, &mut rights, set_rule(1, 0), b"~a&~(b&c)");
-    rule(3, &mut rights, set_rule(2, 0), b"a&~b&~c");
-    book::write(3, 1, &rights, book);
-}
-
-// The greatest rank there is at n = 3, 2^4 - 2.
-pub(crate) fn greatest() {
-    let mut book = [0u8; 2048];
-    climbing(&mut book);
-    let make = formula::read(3, b"a&b&c").table;
-    let mut ranks = [0u8; 343];
-    let mut plan = [0u8; 128];
-    let question = Question {
-        team: 1,
-        known: 0,
-        values: 0,
-    };
-    let answer = finder::find(&book, question, &make, &[], &mut ranks, &mut plan);
-    show(b"the greatest rank at n = 3:", answer, &plan);
 }
