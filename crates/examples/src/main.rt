@@ -1,10 +1,10 @@
-// The marked examples of paper 01 and its list "Run by a program", run: what each gives is held to
+// The examples of paper 01 that lend rooms or ask for bytes, run: those of formulas and blocks, and its
+// list "Run by a program" but for the sheets, which tests/sheets runs. What each gives is held to
 // crates/examples/stdout. That the marked examples are so is proved in crates/marked.
 mod books;
 mod formulas;
 mod questions;
 mod say;
-mod sheets;
 
 fn main() {
     formulas::marked();
@@ -13,7 +13,4 @@ fn main() {
     books::single_bytes();
     questions::plan_rooms();
     questions::rank_rooms();
-    sheets::marked();
-    sheets::without_read();
-    sheets::greatest();
 }
