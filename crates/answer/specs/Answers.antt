@@ -1,4 +1,4 @@
--- The answer to a valid question.
+-- What a valid question is answered: reach, cannot, or 14.
 use mathlib.Core.Path.{_≡_}
 use mathlib.Core.List.{List, _++_}
 use Prim.Native.Nat.{ℕ, _≤_, _<_}
@@ -11,7 +11,7 @@ use Rattle.question.specs.declared.Refusal.the-variants.{Book, Team, Known, Goa
 use Rattle.answer.specs.declared.Answer.{Answer}
 use Rattle.answer.specs.declared.Answer.the-variants.{Reach, Cannot, Refused}
 
--- from its start, with the plan room before and after. The height named is the least, and the plan written is such a
+-- the answer at the start of a system, with the plan room before and after. The height named is the least, and the plan written is such a
 -- plan (demand 2); "for "cannot" and 14, the plan room keep[s] what [it] held. A success writes only the plan's bytes there"
 abbrev pub Answers : System → ℕ → List ℕ → Answer → List ℕ → Type 0
 Answers S start old (Reach h size) new =

@@ -21,7 +21,7 @@ pub enum Answer {
     Refused(Refusal),
 }
 
-// The answer at the start, by the ranks; a plan is written only where it fits.
+// The answer at the start, by the ranks; a plan is written only where it fits. For this repository alone.
 pub fn from_start(
     n: u8,
     set: &[[u8; SIDES]; SETTINGS_MOST],

@@ -1,2 +1,2 @@
--- What a reader must believe of the finder: what `find` gives.
+-- What a reader must believe of the finder: what `find` gives. What an answer says is crate answer's.
 pub mod Finds

@@ -14,10 +14,11 @@ use Rattle.question.specs.Rows as Q
 use Rattle.question.specs.declared.Question.{Question}
 use Rattle.question.specs.declared.Refusal as R
 use Rattle.question.proofs.RowLaws.{question-clear}
+use Rattle.question.proofs.Small.{question-number}
 use Rattle.step.specs.Refusals.{number, place, faultNumber, refusalOf}
 use Rattle.step.specs.declared.refusal.Refusal.{Refusal}
 use Rattle.step.specs.declared.refusal.Refusal.the-variants.{Question as OfQuestion, TooLong}
-use Rattle.step.proofs.RefusalLaws.{fault-number, fault-place, refusal-one, fault-one, fault-past, question-number}
+use Rattle.step.proofs.RefusalLaws.{fault-number, fault-place, refusal-one, fault-one, fault-past}
 use Rattle.plancheck.specs.Checks.{checkRows, systemFor, questionStart, JudgedAs, Checks}
 use Rattle.plancheck.specs.Inner.{answerOf}
 use Rattle.plancheck.specs.declared.answer.CheckAnswer.{CheckAnswer}

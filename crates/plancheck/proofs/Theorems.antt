@@ -98,7 +98,7 @@ module _ {book : List ℕ} {q : Question} {make learn : List ℕ} {n m : ℕ} (v
 
     module _ (short : length plan ≤ 32640) where
       -- 17 to 21: "the first fault in reading order". All bytes before it read without one, and it is the fault of the byte that stands
-      -- there, or of the end; `fault-means` of ByteLaws says in paper 01's words what a byte's fault is
+      -- there, or of the end; `fault-means` of step/proofs/ByteLaws says in paper 01's words what a byte's fault is
       pub fault-exact : (f : Fault) (i : ℕ) → (r ≡ Refused (refusalOf f i)) ↔ Faults.First (systemFor n book q make learn) (questionStart q ∷ []) plan f i
       fault-exact f i = (
         λ e. let w = fault-out (systemFor n book q make learn) plan (questionStart q ∷ []) 0 f i

@@ -3,13 +3,14 @@ use mathlib.Core.Logic.{inl, inr}
 use mathlib.Core.List.{List, []}
 use Prim.Native.Nat.{ℕ, _≤_, _<_}
 use native.Mathlib.Omega.{arith}
-use lib.Dec.{lit<}
+use lib.Dec.{lit<, lit≤}
 use Rattle.ground.specs.Search.{Least}
 use Rattle.ground.specs.Order.{First, only}
 use Rattle.sound.specs.Refusals.{bookRows, readRows}
 use Rattle.ground.proofs.OrderLaws.{first-left, first-split}
 use Rattle.sound.proofs.Theorems.{read-place-most}
 use Rattle.sound.proofs.Small as B
+use Rattle.sound.specs.declared.refusal.Refusal.the-variants.{Settings, Length, Check, Head, StrayBit, Room}
 use Rattle.question.specs.Rows.{number, questionRows}
 use Rattle.question.specs.declared.Refusal.{Refusal}
 use Rattle.question.specs.declared.Refusal.the-variants.{Book, Team, Known, Goal, Ranks, PlanRoom}
@@ -29,6 +30,20 @@ number-some Known = lit< tt
 number-some Goal = lit< tt
 number-some Ranks = lit< tt
 number-some PlanRoom = lit< tt
+
+-- no number is 16 or more: those are the plan check's
+pub question-number : (w : Refusal) → number w ≤ 15
+question-number (Book Settings) = lit≤ tt
+question-number (Book Length) = lit≤ tt
+question-number (Book (Check k)) = lit≤ tt
+question-number (Book Head) = lit≤ tt
+question-number (Book (StrayBit k)) = lit≤ tt
+question-number (Book Room) = lit≤ tt
+question-number Team = lit≤ tt
+question-number Known = lit≤ tt
+question-number Goal = lit≤ tt
+question-number Ranks = lit≤ tt
+question-number PlanRoom = lit≤ tt
 
 pub zero-small : {given : Type 0} {p : ℕ} → Least (only given) p → p ≤ 8
 zero-small l = omega (arith, l .here .1)

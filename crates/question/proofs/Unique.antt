@@ -41,7 +41,7 @@ module _ {book : List ℕ} {q : Question} {make learn : List ℕ} {n m : ℕ} (v
   few = v .sound .settings .most
 
 -- a refusal is known by its number and place
-named : ℕ → ℕ → Refusal
+unfoldable pub named : ℕ → ℕ → Refusal
 named x p = cond (eqb x 10) Team (cond (eqb x 11) Known (cond (eqb x 12) Goal (cond (eqb x 13) Ranks (cond (eqb x 14) PlanRoom (Book (B.named x p))))))
 
 named-back : (r : Refusal) → named (number r) (place r) ≡ r

@@ -1,5 +1,5 @@
--- "A question: the book's 6 to 9, then 10, 11, 12, 13, 14." Each refusal is given exactly when what it denies does not hold. 13 and 14 are the
--- finder's own (finder/specs/Finds).
+-- "A question: the book's 6 to 9, then 10, 11, 12, 13, 14." Each refusal is given exactly when what it denies does not hold. 13 is the
+-- finder's own (finder/specs/Finds), 14 an answer's (answer/specs/Answers).
 use mathlib.Core.Path.{_≡_}
 use mathlib.Core.List.{List, [], _∷_, _++_}
 use Prim.Native.Nat.{ℕ, _%_, _≤_, _<_}

@@ -1,4 +1,4 @@
--- Laws of a book as a whole: its head, and the bytes that its reader has looked at.
+-- Laws of a book as a whole: its head, and the bytes that `is_head` looks at.
 use mathlib.Core.Path.{_≡_, refl, sym, _∙_}
 use mathlib.Core.List.{List}
 use Prim.Native.Nat.{ℕ, _-_, _*_, _/_, _≤_, _<_}

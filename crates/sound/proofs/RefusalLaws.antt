@@ -1,4 +1,4 @@
--- Each way out of the judgement of a book, and of the writer's, is the first refusal in the order or none: what was tested before shows that
+-- Each way out of `sound`, and of the judgement of crate book's writer, is the first refusal in the order or none: what was tested before shows that
 -- the rows before are not given.
 use mathlib.Core.Path.{_≡_, refl, sym, ap, _∙_, subst}
 use mathlib.Core.List.{List}
@@ -129,7 +129,7 @@ module _ (book : List ℕ) where
               setting = all;
             }
 
--- ---- the writer's
+-- ---- of crate book's writer
 
 module _ (n m : ℕ) (rights room : List ℕ) where
   pub refuse-settings : (SettingsFit n → ⊥) → First (writeRows n m rights room) 5 0

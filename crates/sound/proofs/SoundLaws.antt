@@ -1,4 +1,4 @@
--- What a sound book gives: none of 6 to 9, its two numbers; and none of the reader's refusals where the room is long enough.
+-- What a sound book gives: none of 6 to 9, its two numbers; and none of the refusals of `book::read` where the room is long enough.
 use mathlib.Core.Path.{_≡_, refl, subst}
 use mathlib.Core.List.{List}
 use mathlib.Core.Logic.{inl}
@@ -63,7 +63,7 @@ module _ {book : List ℕ} {n m : ℕ} (sound : Sound book n m) where
     ),
   )
 
--- ---- what `sound` found, and then the room: the rows of reading
+-- ---- what `sound` found, and then the room: the rows of `book::read`
 
 pub judged-book : (book : List ℕ) (answer : ReadAnswer) (n m : ℕ) → Judges book answer → answer ≡ Book n m → Sound book n m
 judged-book book answer n m j e = subst (Judges book) e j

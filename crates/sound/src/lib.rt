@@ -1,5 +1,6 @@
 // Whether bytes are a sound book: blocks of 512 bytes, each with its check, one head and one block for
-// each setting. It knows the refusals of a book, for whoever takes one, and a sound book's n and m.
+// each setting. It has the refusals of books, rights and rooms, for whoever takes them, and
+// a sound book's n and m.
 //
 // Bytes that break a rule of the format are refused with one of the cases of `Refusal`, the first in the
 // written order and at the lowest block. It writes nothing.
@@ -23,11 +24,11 @@ pub const BLOCKS_LEAST: usize = 2;
 
 pub const BLOCKS_MOST: usize = 8;
 
-// What `sound` says of a book, and the reader of crate `book`.
+// What `sound` answers, and `book::read` too.
 pub enum ReadAnswer {
     // a sound book, with this many settings and posts
     Book { settings: u8, posts: u8 },
-    // no book, or no room
+    // no book; or, from `book::read` alone, no room
     Refused(Refusal),
 }
 

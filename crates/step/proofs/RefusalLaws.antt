@@ -2,16 +2,15 @@
 -- pack number and place into one.
 use mathlib.Core.Path.{_≡_, refl, sym, ap, ap₂, _∙_}
 use mathlib.Core.Bool.{cond}
-use Prim.Native.Nat.{ℕ, _≤_, _<_}
+use Prim.Native.Nat.{ℕ, _<_}
 use native.Mathlib.Omega.{arith}
-use lib.Dec.{eqb, lit<, lit≤}
-use Rattle.sound.specs.declared.refusal.Refusal as B
+use lib.Dec.{eqb, lit<}
+use Rattle.sound.proofs.Theorems as B
 use Rattle.sound.specs.declared.refusal.Refusal.the-variants.{Settings, Length, Check, Head, StrayBit, Room}
 use Rattle.plan.specs.Check.{Fault, no-act, not-permitted, not-settled, too-soon, left-over}
-use Rattle.question.specs.Rows as Q
-use Rattle.question.specs.declared.Refusal as R
 use Rattle.question.specs.declared.Refusal.the-variants.{Book, Team, Known, Goal, Ranks, PlanRoom}
-use Rattle.question.proofs.Small.{number-some as question-some}
+use Rattle.question.proofs.Small.{question-number, number-some as question-some}
+use Rattle.question.proofs.Unique as Q2
 use Rattle.step.specs.Refusals.{number, place, faultNumber, refusalOf}
 use Rattle.step.specs.declared.refusal.Refusal.{Refusal}
 use Rattle.step.specs.declared.refusal.Refusal.the-variants.{Question as OfQuestion, TooLong, NoAct, NotPermitted, NotSettled, TooSoon, LeftOver}
@@ -28,21 +27,13 @@ place-unique κs a x y s p q = p ∙ sym q
 
 -- ---- a refusal by its number and place
 
-book-named : ℕ → ℕ → B.Refusal
-book-named x p =
-    cond (eqb x 5) Settings (cond (eqb x 6) Length (cond (eqb x 7) (Check p) (cond (eqb x 8) Head (cond (eqb x 9) (StrayBit p) Room))))
-
-question-named : ℕ → ℕ → R.Refusal
-question-named x p =
-    cond (eqb x 10) Team (cond (eqb x 11) Known (cond (eqb x 12) Goal (cond (eqb x 13) Ranks (cond (eqb x 14) PlanRoom (Book (book-named x p))))))
-
 named : ℕ → ℕ → Refusal
 named x p =
     cond (eqb x 16) TooLong (cond (eqb x 17) (NoAct p) (cond (eqb x 18) (NotPermitted p) (cond (eqb x 19) (NotSettled p)
-    (cond (eqb x 20) (TooSoon p) (cond (eqb x 21) (LeftOver p) (OfQuestion (question-named x p)))))))
+    (cond (eqb x 20) (TooSoon p) (cond (eqb x 21) (LeftOver p) (OfQuestion (Q2.named x p)))))))
 
 named-back : (r : Refusal) → named (number r) (place r) ≡ r
-unfolding named question-named book-named
+unfolding named Q2.named B.named
 named-back (OfQuestion (Book Settings)) = refl
 named-back (OfQuestion (Book Length)) = refl
 named-back (OfQuestion (Book (Check k))) = refl
@@ -104,20 +95,6 @@ fault-place too-soon i = refl
 fault-place left-over i = refl
 
 -- ---- how large
-
--- no number of a question's refusal is 16 or more
-pub question-number : (w : R.Refusal) → Q.number w ≤ 15
-question-number (Book Settings) = lit≤ tt
-question-number (Book Length) = lit≤ tt
-question-number (Book (Check k)) = lit≤ tt
-question-number (Book Head) = lit≤ tt
-question-number (Book (StrayBit k)) = lit≤ tt
-question-number (Book Room) = lit≤ tt
-question-number Team = lit≤ tt
-question-number Known = lit≤ tt
-question-number Goal = lit≤ tt
-question-number Ranks = lit≤ tt
-question-number PlanRoom = lit≤ tt
 
 pub number-small : (r : Refusal) → number r < 256
 number-small (OfQuestion w) = omega (arith, question-number w)

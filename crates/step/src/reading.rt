@@ -57,7 +57,8 @@ fn read_act(n: u8, book: &[u8], team: u8, k: u32, at: usize, act: Act) -> Readin
     outcomes_of(k, act)
 }
 
-// The byte with index `at`: a stop is 0, any other byte names an act or nothing.
+// The byte with index `at`: a stop is 0, any other byte names an act or nothing. For this repository
+// alone: up to seven settings, and a number of seven digits.
 pub fn read_byte(
     n: u8,
     book: &[u8],

@@ -6,7 +6,8 @@ ghost use lib.ListN.{length, getD};
 ghost use lib.Seq.{sets};
 ghost use Rattle.sums.specs.Sealed.{bytes16};
 
-// Byte i of what begins at byte `from`; 0 where there is none.
+// Byte i of what begins at byte `from`; 0 where there is none. For this repository alone, though it takes
+// any place.
 pub fn peek(bytes: &[u8], from: usize, i: usize) -> u8
     ensures { λ r. ⌜ r ≡ getD (now (bytes .entry)) (from + i) 0 ⌝ }
 {
