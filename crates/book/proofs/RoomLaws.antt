@@ -5,22 +5,22 @@ use Prim.Native.Nat.{ℕ, _+_, _-_, _*_, _≤_}
 use native.Mathlib.Omega.{arith}
 use lib.ListN.{length, drop}
 use lib.Seq.{sets}
-use Rattle.sound.specs.declared.refusal.Refusal.{Refusal}
+use Rattle.book_sound.specs.declared.refusal.Refusal.{Refusal}
 use Rattle.book.specs.declared.writing.WriteAnswer.{WriteAnswer}
 use Rattle.book.specs.declared.writing.WriteAnswer.the-variants.{Written, Refused as NotWritten}
-use Rattle.sound.specs.Sound.{Sound, rightsOf, tablesOf}
-use Rattle.sound.specs.Refusals.{number, place, writeRows}
-use Rattle.block.specs.Kinds.{Tables}
-use Rattle.block.specs.Sealed.{headBlock}
+use Rattle.book_sound.specs.Sound.{Sound, rightsOf, tablesOf}
+use Rattle.book_sound.specs.Refusals.{number, place, writeRows}
+use Rattle.book_block.specs.Kinds.{Tables}
+use Rattle.book_block.specs.Sealed.{headBlock}
 use Rattle.book.specs.Written.{settingBlocks, bookOf, Writable}
 use Rattle.ground.specs.Order.{First, Clear}
 use Rattle.book.specs.Inner.{MayWrite}
 use Rattle.ground.proofs.Lists.{sets-front}
 use Rattle.ground.proofs.OrderLaws.{none-only}
-use Rattle.sums.proofs.SealLaws.{run-on}
-use Rattle.block.proofs.BlockLaws.{length-head}
-use Rattle.sound.proofs.RefusalLaws.{none-block, down}
-use Rattle.sound.proofs.RightsLaws.{length-rights}
+use Rattle.book_block.proofs.SealLaws.{run-on}
+use Rattle.book_block.proofs.BlockLaws.{length-head}
+use Rattle.book_sound.proofs.RefusalLaws.{none-block, down}
+use Rattle.book_sound.proofs.RightsLaws.{length-rights}
 use Rattle.book.proofs.WriteLaws.{length-book}
 
 -- a room that is filled from its first byte

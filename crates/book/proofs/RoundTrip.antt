@@ -5,15 +5,15 @@ use Prim.Native.Nat.{ℕ, zero, suc, _+_, _*_, _<_}
 use native.Mathlib.Omega.{arith}
 use lib.ListN.{length, getD, take, drop, take-append-drop, length-drop}
 use lib.Seq.{take-all, take-at, drop-drop, drop-append-add, getD-take}
-use Rattle.sums.specs.Block.{block, RightCheck}
-use Rattle.block.specs.Kinds.{Head, Tables, SettingBlock}
-use Rattle.sound.specs.Sound.{Sound, rightsOf, tablesOf}
-use Rattle.block.specs.Sealed.{headBlock, settingBlock}
+use Rattle.book_block.specs.Check.{block, RightCheck}
+use Rattle.book_block.specs.Kinds.{Head, Tables, SettingBlock}
+use Rattle.book_sound.specs.Sound.{Sound, rightsOf, tablesOf}
+use Rattle.book_block.specs.Sealed.{headBlock, settingBlock}
 use Rattle.book.specs.Written.{settingBlocks, bookOf, Writable}
 use Rattle.ground.proofs.Lists.{getD-part, length-part}
-use Rattle.sound.proofs.InOrder.{part-inOrder, inOrder-same, inOrder-parts}
-use Rattle.block.proofs.BlockLaws.{length-head, length-setting, head-sealed, setting-sealed, tables-same, head-right, head-head, setting-right, setting-setting, setting-tables}
-use Rattle.sound.proofs.RightsLaws.{length-tables, length-rights, tables-block}
+use Rattle.book_sound.proofs.InOrder.{part-inOrder, inOrder-same, inOrder-parts}
+use Rattle.book_block.proofs.BlockLaws.{length-head, length-setting, head-sealed, setting-sealed, tables-same, head-right, head-head, setting-right, setting-setting, setting-tables}
+use Rattle.book_sound.proofs.RightsLaws.{length-tables, length-rights, tables-block}
 use Rattle.book.proofs.WriteLaws.{length-book}
 
 -- ---- a book, its rights, and the book again

@@ -4,15 +4,15 @@ use mathlib.Core.List.{List}
 use Prim.Native.Nat.{ℕ, _+_, _≤_, _<_}
 use native.Mathlib.Omega.{arith}
 use lib.ListN.{length}
-use Rattle.block.specs.declared.rule.Right.{Right}
-use Rattle.block.specs.Rule.{tablePlace, table, rule}
-use Rattle.block.specs.Sealed.{settingBlock}
-use Rattle.sound.specs.Sound.{tablesOf}
+use Rattle.book_block.specs.declared.rule.Right.{Right}
+use Rattle.book_block.specs.Rule.{tablePlace, table, rule}
+use Rattle.book_block.specs.Sealed.{settingBlock}
+use Rattle.book_sound.specs.Sound.{tablesOf}
 use Rattle.book.specs.Written.{bookOf, Writable}
 use Rattle.ground.proofs.Lists.{part-same}
-use Rattle.block.proofs.BlockLaws.{length-setting, setting-byte}
-use Rattle.block.proofs.RuleLaws.{place-most, rule-table}
-use Rattle.sound.proofs.RightsLaws.{length-tables}
+use Rattle.book_block.proofs.BlockLaws.{length-setting, setting-byte}
+use Rattle.book_block.proofs.RuleLaws.{place-most, rule-table}
+use Rattle.book_sound.proofs.RightsLaws.{length-tables}
 use Rattle.book.proofs.RoundTrip.{written-setting, written-sound}
 
 -- a written book has the rules that the rights have

@@ -6,18 +6,18 @@ use Prim.Native.Nat.{ℕ, _+_, _*_, _≤_, _<_}
 use native.Mathlib.Omega.{arith}
 use lib.ListN.{length, getD, take, drop}
 use lib.Seq.{take-at}
-use Rattle.sound.specs.declared.ReadAnswer.{ReadAnswer}
-use Rattle.sound.specs.declared.ReadAnswer.the-variants.{Book, Refused}
+use Rattle.book_sound.specs.declared.ReadAnswer.{ReadAnswer}
+use Rattle.book_sound.specs.declared.ReadAnswer.the-variants.{Book, Refused}
 use Rattle.book.specs.declared.writing.WriteAnswer.{WriteAnswer}
 use Rattle.book.specs.declared.writing.WriteAnswer.the-variants.{Written, Refused as NotWritten}
-use Rattle.sound.specs.Sound.{Sound, rightsOf}
+use Rattle.book_sound.specs.Sound.{Sound, rightsOf}
 use Rattle.book.specs.Written.{bookOf, Writable}
-use Rattle.sound.specs.Refusals.{number, place, readRows, writeRows}
+use Rattle.book_sound.specs.Refusals.{number, place, readRows, writeRows}
 use Rattle.book.specs.Promise.{Reads, Writes}
 use Rattle.ground.proofs.OrderLaws.{first-unique, first-clear}
-use Rattle.sound.proofs.RightsLaws.{length-rights}
-use Rattle.sound.proofs.SoundLaws.{read-clear}
-use Rattle.sound.proofs.Theorems.{refusal-one, sound-one}
+use Rattle.book_sound.proofs.RightsLaws.{length-rights}
+use Rattle.book_sound.proofs.SoundLaws.{read-clear}
+use Rattle.book_sound.proofs.Theorems.{refusal-one, sound-one}
 use Rattle.book.proofs.WriteLaws.{length-book}
 use Rattle.book.proofs.RoomLaws.{writable-clear}
 use Rattle.book.proofs.RoundTrip.{book-again, read-writable, written-sound, rights-again}

@@ -8,14 +8,14 @@ use native.Mathlib.Numerals.{add-one}
 use native.Mathlib.Omega.{arith}
 use lib.ListN.{length, take, drop, length-append}
 use lib.Seq.{sets}
-use Rattle.sums.specs.Block.{block}
-use Rattle.block.specs.Sealed.{headBlock, settingBlock}
-use Rattle.sound.specs.Sound.{inOrder, rightsOf, tablesOf}
+use Rattle.book_block.specs.Check.{block}
+use Rattle.book_block.specs.Sealed.{headBlock, settingBlock}
+use Rattle.book_sound.specs.Sound.{inOrder, rightsOf, tablesOf}
 use Rattle.book.specs.Written.{settingBlocks, bookOf}
-use Rattle.sums.proofs.SealLaws.{run-on}
-use Rattle.block.proofs.BlockLaws.{length-head, length-setting}
-use Rattle.sound.proofs.InOrder.{length-inOrder}
-use Rattle.sound.proofs.RightsLaws.{length-tables, tables-block, length-rights}
+use Rattle.book_block.proofs.SealLaws.{run-on}
+use Rattle.book_block.proofs.BlockLaws.{length-head, length-setting}
+use Rattle.book_sound.proofs.InOrder.{length-inOrder}
+use Rattle.book_sound.proofs.RightsLaws.{length-tables, tables-block, length-rights}
 
 -- ---- the settings, one after the other
 

@@ -6,7 +6,7 @@ use Rattle.book.specs.declared.writing.WriteAnswer.{WriteAnswer}
 use Rattle.book.specs.declared.writing.WriteAnswer.the-variants.{Written, Refused}
 use Rattle.book.specs.Written.{Writable}
 use Rattle.ground.specs.Order.{First}
-use Rattle.sound.specs.Refusals.{number, place, writeRows}
+use Rattle.book_sound.specs.Refusals.{number, place, writeRows}
 
 -- what `write` finds out before it writes anything
 abbrev pub MayWrite : ℕ → ℕ → List ℕ → List ℕ → WriteAnswer → Type 0

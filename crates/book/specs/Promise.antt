@@ -3,14 +3,14 @@ use mathlib.Core.Path.{_≡_}
 use mathlib.Core.List.{List, _++_}
 use Prim.Native.Nat.{ℕ, _+_, _*_, _≤_}
 use lib.ListN.{length, drop}
-use Rattle.sound.specs.declared.ReadAnswer.{ReadAnswer}
-use Rattle.sound.specs.declared.ReadAnswer.the-variants.{Book, Refused}
+use Rattle.book_sound.specs.declared.ReadAnswer.{ReadAnswer}
+use Rattle.book_sound.specs.declared.ReadAnswer.the-variants.{Book, Refused}
 use Rattle.book.specs.declared.writing.WriteAnswer.{WriteAnswer}
 use Rattle.book.specs.declared.writing.WriteAnswer.the-variants.{Written, Refused as NotWritten}
-use Rattle.sound.specs.Sound.{Sound, rightsOf}
+use Rattle.book_sound.specs.Sound.{Sound, rightsOf}
 use Rattle.book.specs.Written.{bookOf, Writable}
 use Rattle.ground.specs.Order.{First}
-use Rattle.sound.specs.Refusals.{number, place, readRows, writeRows}
+use Rattle.book_sound.specs.Refusals.{number, place, readRows, writeRows}
 
 -- `read`: "a book read [..] fills the first 256 × n [..] bytes of its room and no others"; a refusal "writes nothing"
 abbrev pub Reads : List ℕ → List ℕ → ReadAnswer → List ℕ → Type 0

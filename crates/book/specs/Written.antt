@@ -4,9 +4,9 @@ use mathlib.Core.List.{List, _++_}
 use Prim.Native.Nat.{ℕ, _*_, _<_}
 use lib.ListN.{length}
 use Rattle.ground.specs.Bounds.{SettingsFit, PostsFit}
-use Rattle.block.specs.Kinds.{Tables}
-use Rattle.block.specs.Sealed.{headBlock, settingBlock}
-use Rattle.sound.specs.Sound.{inOrder, tablesOf}
+use Rattle.book_block.specs.Kinds.{Tables}
+use Rattle.book_block.specs.Sealed.{headBlock, settingBlock}
+use Rattle.book_sound.specs.Sound.{inOrder, tablesOf}
 
 -- "one per setting in order": the blocks of the first n settings
 unfoldable pub settingBlocks : List ℕ → ℕ → List ℕ

@@ -1,15 +1,15 @@
 // From a book's bytes to rights in memory.
 use super::TABLES;
+use book_block::BLOCK;
+use book_sound::ReadAnswer;
+use book_sound::Refusal;
+use book_sound::sound;
 use ground::copy;
-use sound::ReadAnswer;
-use sound::Refusal;
-use sound::sound;
-use sums::BLOCK;
 ghost use mathlib.Core.Path.{_≡_};
 ghost use Prim.Native.Nat.{_+_, _*_, _≤_};
 ghost use lib.ListN.{length};
 ghost use lib.Seq.{sets};
-ghost use Rattle.sound.specs.Sound.{rightsOf};
+ghost use Rattle.book_sound.specs.Sound.{rightsOf};
 ghost use Rattle.book.specs.Promise.{Reads};
 
 // Copies the tables of the book's n settings to the start of the room, which is long enough.

@@ -10,7 +10,7 @@ use Rattle.plan.specs.Plans.{Plan, height}
 use Rattle.plan.specs.Bytes.{encode}
 use Rattle.question.specs.declared.Question.{Question}
 use Rattle.finder.specs.Finds.{Finds}
-use Rattle.answer.specs.declared.Answer.the-variants.{Reach, Cannot}
+use Rattle.finder.specs.declared.answer.Answer.the-variants.{Reach, Cannot}
 use Rattle.plancheck.specs.Checks.{Checks}
 use Rattle.plancheck.specs.declared.answer.CheckAnswer.the-variants.{Yes}
 use Rattle.plancheck.proofs.Theorems.{accepted-height, written-accepted}

@@ -15,11 +15,11 @@ use Rattle.formula.specs.declared.Answer.the-variants.{Refused as NoFormula}
 use Rattle.formula.specs.declared.Refusal.{Refusal as FormulaRefusal}
 use Rattle.formula.proofs.Unique.{read-unique}
 use Rattle.ground.specs.Order.{First}
-use Rattle.sound.specs.Refusals.{readRows, writeRows, number as book-number, place as book-place}
+use Rattle.book_sound.specs.Refusals.{readRows, writeRows, number as book-number, place as book-place}
 use Rattle.book.specs.Promise.{Reads as ReadsBook, Writes as WritesBook}
-use Rattle.sound.specs.declared.refusal.Refusal.{Refusal as BookRefusal}
-use Rattle.sound.specs.declared.ReadAnswer.{ReadAnswer}
-use Rattle.sound.specs.declared.ReadAnswer.the-variants.{Book, Refused as NoBook}
+use Rattle.book_sound.specs.declared.refusal.Refusal.{Refusal as BookRefusal}
+use Rattle.book_sound.specs.declared.ReadAnswer.{ReadAnswer}
+use Rattle.book_sound.specs.declared.ReadAnswer.the-variants.{Book, Refused as NoBook}
 use Rattle.book.specs.declared.writing.WriteAnswer.{WriteAnswer}
 use Rattle.book.specs.declared.writing.WriteAnswer.the-variants.{Written, Refused as NotWritten}
 use Rattle.book.proofs.Theorems.{reads-one, writes-one, read-then-write, write-then-read}
@@ -35,23 +35,23 @@ use Rattle.finder.specs.Finds.{RanksFilled, Finds, findRows}
 use Rattle.question.specs.declared.Refusal.the-variants.{PlanRoom}
 use Rattle.question.specs.declared.Question.{Question}
 use Rattle.question.specs.declared.Refusal.{Refusal}
-use Rattle.answer.specs.declared.Answer.{Answer}
-use Rattle.answer.specs.declared.Answer.the-variants.{Reach, Cannot, Refused}
+use Rattle.finder.specs.declared.answer.Answer.{Answer}
+use Rattle.finder.specs.declared.answer.Answer.the-variants.{Reach, Cannot, Refused}
 use Rattle.finder.proofs.Unique.{find-unique, find-refused, find-ranks}
 use Rattle.finder.proofs.Theorems.{System-of, Start-of, reach-works, cannot-none, works-reach, none-cannot, cannot-secret}
 use Rattle.plancheck.specs.Checks.{Checks, Refuses as CheckRefuses}
-use Rattle.step.specs.Refusals.{number as check-number, place as check-place}
-use Rattle.step.specs.declared.refusal.Refusal.{Refusal as CheckRefusal}
+use Rattle.plancheck.specs.Refusals.{number as check-number, place as check-place}
+use Rattle.plancheck.specs.declared.refusal.Refusal.{Refusal as CheckRefusal}
 use Rattle.plancheck.specs.declared.answer.CheckAnswer.{CheckAnswer}
 use Rattle.plancheck.specs.declared.answer.CheckAnswer.the-variants.{Yes, Refused as NotAccepted}
 use Rattle.plancheck.proofs.OneAnswer.{checks-one}
 use Rattle.plancheck.proofs.Theorems.{yes-exact}
-use Rattle.printing.specs.Printed.{refusedText, cannotText, reachText, Prints}
-use Rattle.desk.specs.Sheet.{Sheet}
-use Rattle.lines.specs.Reading.{Meaning, meaning, refused, stated}
-use Rattle.lines.specs.Place.{MalformedAt}
+use Rattle.print_answer.specs.Printed.{refusedText, cannotText, reachText, Prints}
+use Rattle.sheet_reading.specs.Sheet.{Sheet}
+use Rattle.sheet_reading.specs.Reading.{Meaning, meaning, refused, stated}
+use Rattle.sheet_reading.specs.Place.{MalformedAt}
 use Rattle.sheet.specs.Answer.{Prints-outcome, Answers}
-use Rattle.lines.proofs.Place.{malformed-line, malformed-refused}
+use Rattle.sheet_reading.proofs.Place.{malformed-line, malformed-refused}
 use Rattle.sheet.specs.Answer as Sheet
 use Rattle.sheet.proofs.Theorems.{System-for, answer-unique, answer-most, reach-printed, cannot-printed}
 use Rattle.sheet.proofs.Theorems as Printed

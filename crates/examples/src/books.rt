@@ -5,7 +5,7 @@ use crate::say::say_number;
 // One line: the example's name, then the two sums of the block.
 fn show(name: &[u8], block: &[u8]) {
     say(name);
-    let sums = sums::check_of(block, 0);
+    let sums = book_block::check_of(block, 0);
     say(b" ");
     say_number(sums.s as u64);
     say(b" and ");

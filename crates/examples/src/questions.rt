@@ -3,7 +3,7 @@
 use crate::say::say;
 use crate::say::say_number;
 use crate::say::say_refused;
-use answer::Answer;
+use finder::Answer;
 use question::Question;
 
 // Where a rule's table stands in the rights: 256 bytes a setting, 32 a post, to look and then to set.

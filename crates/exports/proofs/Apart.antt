@@ -12,31 +12,31 @@ use Rattle.formula.specs.declared.Answer.the-variants.{Accepted, Refused as NoF
 use Rattle.formula.specs.declared.Refusal.{Refusal as FormulaRefusal}
 use Rattle.formula.proofs.Small as FormulaSmall
 use Rattle.book.specs.Promise.{Reads, Writes}
-use Rattle.sound.specs.Refusals as B
-use Rattle.sound.specs.declared.ReadAnswer.{ReadAnswer}
-use Rattle.sound.specs.declared.ReadAnswer.the-variants.{Book, Refused as NoBook}
+use Rattle.book_sound.specs.Refusals as B
+use Rattle.book_sound.specs.declared.ReadAnswer.{ReadAnswer}
+use Rattle.book_sound.specs.declared.ReadAnswer.the-variants.{Book, Refused as NoBook}
 use Rattle.book.specs.declared.writing.WriteAnswer.{WriteAnswer}
 use Rattle.book.specs.declared.writing.WriteAnswer.the-variants.{Written, Refused as NotWritten}
-use Rattle.sound.specs.declared.refusal.Refusal.{Refusal as BookRefusal}
-use Rattle.sound.proofs.Small as BookSmall
-use Rattle.sound.proofs.Theorems.{read-place-most, write-place-most}
+use Rattle.book_sound.specs.declared.refusal.Refusal.{Refusal as BookRefusal}
+use Rattle.book_sound.proofs.Small as BookSmall
+use Rattle.book_sound.proofs.Theorems.{read-place-most, write-place-most}
 use Rattle.question.specs.Rows as Q
 use Rattle.question.specs.declared.Question.{Question}
 use Rattle.question.specs.declared.Refusal.{Refusal as QuestionRefusal}
 use Rattle.question.proofs.Small as QuestionSmall
 use Rattle.finder.specs.Finds.{Finds}
-use Rattle.answer.specs.declared.Answer.{Answer}
-use Rattle.answer.specs.declared.Answer.the-variants.{Reach, Cannot, Refused}
+use Rattle.finder.specs.declared.answer.Answer.{Answer}
+use Rattle.finder.specs.declared.answer.Answer.the-variants.{Reach, Cannot, Refused}
 use Rattle.finder.proofs.Small.{place-small, reach-most}
 use Rattle.plancheck.specs.Checks.{Checks}
-use Rattle.step.specs.Refusals as C
+use Rattle.plancheck.specs.Refusals as C
 use Rattle.plancheck.specs.declared.answer.CheckAnswer.{CheckAnswer}
 use Rattle.plancheck.specs.declared.answer.CheckAnswer.the-variants.{Yes, Refused as NotAccepted}
-use Rattle.step.specs.declared.refusal.Refusal.{Refusal as CheckRefusal}
-use Rattle.step.proofs.RefusalLaws as CheckRefusals
+use Rattle.plancheck.specs.declared.refusal.Refusal.{Refusal as CheckRefusal}
+use Rattle.plancheck.proofs.RefusalLaws as CheckRefusals
 use Rattle.plancheck.proofs.Small as CheckSmall
-use Rattle.packing.specs.Packed.{packed, upper, lower}
-use Rattle.packing.specs.Returned.{formulaReturned, readReturned, writeReturned, findReturned, checkReturned}
+use Rattle.exports.specs.Packed.{packed, upper, lower}
+use Rattle.exports.specs.Returned.{formulaReturned, readReturned, writeReturned, findReturned, checkReturned}
 use Rattle.exports.specs.Formula.{FormulaRead}
 use Rattle.exports.specs.Book.{BookRead, BookWritten}
 use Rattle.exports.specs.Find.{PlanFound}

@@ -9,7 +9,7 @@ use Rattle.book.proofs.Theorems.{reads-one, writes-one}
 use Rattle.question.specs.declared.Question.{Question}
 use Rattle.finder.proofs.Unique.{find-unique}
 use Rattle.plancheck.proofs.OneAnswer.{checks-one}
-use Rattle.packing.specs.Returned.{formulaReturned, readReturned, writeReturned, findReturned, checkReturned}
+use Rattle.exports.specs.Returned.{formulaReturned, readReturned, writeReturned, findReturned, checkReturned}
 use Rattle.exports.specs.Find.{PlanFound}
 use Rattle.exports.specs.Check.{PlanChecked}
 use Rattle.exports.specs.Formula.{onReturn, FormulaRead}

@@ -3,9 +3,9 @@ use mathlib.Core.Path.{_≡_}
 use mathlib.Core.List.{List}
 use Prim.Native.Nat.{ℕ}
 use Rattle.book.specs.Promise.{Reads, Writes}
-use Rattle.sound.specs.declared.ReadAnswer.{ReadAnswer}
+use Rattle.book_sound.specs.declared.ReadAnswer.{ReadAnswer}
 use Rattle.book.specs.declared.writing.WriteAnswer.{WriteAnswer}
-use Rattle.packing.specs.Returned.{readReturned, writeReturned}
+use Rattle.exports.specs.Returned.{readReturned, writeReturned}
 
 -- the result and the room after the call, from the room before it
 pub record BookRead (book old : List ℕ) (result : ℕ) (new : List ℕ) : Type 0 where

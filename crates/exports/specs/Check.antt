@@ -5,7 +5,7 @@ use Prim.Native.Nat.{ℕ}
 use Rattle.question.specs.declared.Question.{Question}
 use Rattle.plancheck.specs.Checks.{Checks}
 use Rattle.plancheck.specs.declared.answer.CheckAnswer.{CheckAnswer}
-use Rattle.packing.specs.Returned.{checkReturned}
+use Rattle.exports.specs.Returned.{checkReturned}
 
 pub record PlanChecked (book : List ℕ) (q : Question) (make learn plan : List ℕ) (result : ℕ) : Type 0 where
   pub answer : CheckAnswer

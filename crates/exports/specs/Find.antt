@@ -3,9 +3,9 @@ use mathlib.Core.Path.{_≡_}
 use mathlib.Core.List.{List}
 use Prim.Native.Nat.{ℕ}
 use Rattle.finder.specs.Finds.{Finds}
-use Rattle.answer.specs.declared.Answer.{Answer}
+use Rattle.finder.specs.declared.answer.Answer.{Answer}
 use Rattle.question.specs.declared.Question.{Question}
-use Rattle.packing.specs.Returned.{findReturned}
+use Rattle.exports.specs.Returned.{findReturned}
 
 -- the team has bit q for the post with index q; known bit i for setting i, and values bit i where it is known to be true
 abbrev pub asked : ℕ → ℕ → ℕ → Question

@@ -5,7 +5,7 @@ use Prim.Native.Nat.{ℕ}
 use Rattle.formula.specs.Read.{Reads}
 use Rattle.formula.specs.declared.Answer.{Answer}
 use Rattle.formula.specs.declared.Answer.the-variants.{Accepted, Refused}
-use Rattle.packing.specs.Returned.{formulaReturned}
+use Rattle.exports.specs.Returned.{formulaReturned}
 
 -- what the lent bytes hold on return, from what they held and what was found
 abbrev pub onReturn : Answer → List ℕ → List ℕ → List ℕ

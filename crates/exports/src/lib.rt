@@ -1,6 +1,8 @@
 // The C interface, and nothing else: each function hands its arguments to the crate that knows, and
 // `packing` makes one number of the answer. A refusal is its number times 2^32 plus its place; a
 // success has 0 in the upper half. A slice is a pointer and a length; a table is a pointer to 16 bytes.
+mod packing;
+
 ghost use Rattle.exports.specs.Formula.{FormulaRead};
 ghost use Rattle.exports.specs.Find.{asked, PlanFound};
 ghost use Rattle.exports.specs.Check.{PlanChecked};

@@ -8,21 +8,21 @@ use lib.Dec.{lit<}
 use lib.ListN.{length}
 use Rattle.ground.specs.Digits.{bit}
 use Rattle.ground.proofs.Bools.{T→false, decide}
-use Rattle.acts.specs.Seven.{firstDigit}
-use Rattle.acts.proofs.Seven.{first-lt}
+use Rattle.knowledge_acts.specs.Seven.{firstDigit}
+use Rattle.knowledge_acts.proofs.Seven.{first-lt}
 use Rattle.knowledge.specs.Number.{firstAt}
 use Rattle.knowledge.proofs.Number.{sum-lt, sum-short}
 use Rattle.ground.specs.Order.{First}
 use Rattle.ground.proofs.OrderLaws.{least-only, first-left, first-right}
-use Rattle.sound.proofs.SoundLaws.{sound-settings}
+use Rattle.book_sound.proofs.SoundLaws.{sound-settings}
 use Rattle.plan.specs.Plans.{System}
-use Rattle.sides.specs.Over.{Marks}
-use Rattle.spread.specs.Spread.{Spread}
+use Rattle.finder_sides.specs.Over.{Marks}
+use Rattle.finder_ranks.specs.Spread.{Spread}
 use Rattle.question.specs.Question.{startNumber}
 use Rattle.question.specs.Rows.{KnownFits, questionRows}
 use Rattle.question.specs.Asks.{ValidQuestion}
 use Rattle.finder.specs.Finds.{RanksFilled, findRows}
-use Rattle.writer.specs.Told.{Told}
+use Rattle.finder.specs.Told.{Told}
 use Rattle.question.specs.declared.Question.{Question}
 use Rattle.question.proofs.RowLaws.{question-clear}
 

@@ -14,12 +14,12 @@ use Rattle.question.specs.Question.{systemOf, startNumber}
 use Rattle.question.proofs.Unique.{lawful, few}
 use Rattle.question.specs.Rows.{number, place, questionRows}
 use Rattle.question.proofs.Small.{zero-small, question-most}
-use Rattle.answer.specs.Answers.{Answers}
+use Rattle.finder.specs.Answers.{Answers}
 use Rattle.finder.specs.Finds.{Finds, findRows}
 use Rattle.question.specs.declared.Question.{Question}
 use Rattle.question.specs.declared.Refusal.{Refusal}
 use Rattle.question.specs.declared.Refusal.the-variants.{Book, Team, Known, Goal, Ranks, PlanRoom}
-use Rattle.answer.specs.declared.Answer.the-variants.{Reach, Refused}
+use Rattle.finder.specs.declared.answer.Answer.the-variants.{Reach, Refused}
 
 find-most : (book : List ℕ) (team known values : ℕ) (make learn ranks : List ℕ) (x p : ℕ) → First (findRows book team known values make learn ranks) x p → p ≤ 8
 unfolding findRows

@@ -13,28 +13,28 @@ use Rattle.ground.specs.Digits.{digit, bit}
 use Rattle.ground.proofs.Bools.{T→false, false→T, both, and-true}
 use Rattle.ground.proofs.Search.{all-or, all-at}
 use Rattle.ground.proofs.Bits.{bit-of-zero}
-use Rattle.acts.specs.Acts.{offered}
-use Rattle.acts.specs.declared.act.Act.{Act}
-use Rattle.acts.specs.declared.act.Act.the-variants.{Set, Look}
+use Rattle.knowledge_acts.specs.Acts.{offered}
+use Rattle.knowledge_acts.specs.declared.act.Act.{Act}
+use Rattle.knowledge_acts.specs.declared.act.Act.the-variants.{Set, Look}
 use Rattle.knowledge.specs.Fits.{known}
 use Rattle.knowledge.specs.Allowed.{permitted}
-use Rattle.block.specs.Rule.{rule}
-use Rattle.block.specs.declared.rule.Right.the-variants.{Look as look-rule, Set as set-rule}
+use Rattle.book_block.specs.Rule.{rule}
+use Rattle.book_block.specs.declared.rule.Right.the-variants.{Look as look-rule, Set as set-rule}
 use Rattle.plan.specs.Plans.{may, Lawful, after-set, after-look}
 use Rattle.plan.specs.Certificate.{Leads, Certified}
 use Rattle.plan.proofs.Acts.{after-a-set, after-a-look}
 use Rattle.plan.proofs.Certificate.{certified, numbers-closed}
 use Rattle.plan.proofs.Team.{team-lawful}
-use Rattle.sides.specs.Sides.{nowSideNumber}
-use Rattle.sides.specs.Over.{entry, Marks, rankIf}
-use Rattle.tables.specs.Tables.{PostTables, Made, Learnt}
-use Rattle.tables.proofs.Tables.{post-known, goal-marked}
-use Rattle.push.specs.Ranks.{rank, May, HasLower, by-set, by-look}
-use Rattle.spread.specs.Spread.{Spread}
+use Rattle.finder_sides.specs.Sides.{nowSideNumber}
+use Rattle.finder_sides.specs.Over.{entry, Marks, rankIf}
+use Rattle.finder_sides.specs.Tables.{PostTables, Made, Learnt}
+use Rattle.finder_sides.proofs.Tables.{post-known, goal-marked}
+use Rattle.finder_ranks.specs.Ranks.{rank, May, HasLower, by-set, by-look}
+use Rattle.finder_ranks.specs.Spread.{Spread}
 use Rattle.knowledge.specs.Goal.{goalSettled}
 use Rattle.question.specs.Question.{systemOf}
-use Rattle.writer.specs.Told.{Told}
-use Rattle.writer.proofs.StepLaws.{some-bit}
+use Rattle.finder.specs.Told.{Told}
+use Rattle.finder.proofs.StepLaws.{some-bit}
 
 -- ---- masks
 

@@ -14,7 +14,7 @@ use Rattle.ground.proofs.Bools.{and-in, true→T}
 use Rattle.knowledge.specs.Fits.{known, learnSettled}
 use Rattle.knowledge.proofs.Known.{known-intro}
 use Rattle.ground.proofs.OrderLaws.{first-clear}
-use Rattle.sound.proofs.Theorems.{sound-one}
+use Rattle.book_sound.proofs.Theorems.{sound-one}
 use Rattle.plan.specs.Plans.{System, Plan, Permitted, Works, height}
 use Rattle.plan.specs.Ranks.{Cannot as CannotFrom}
 use Rattle.plan.specs.Bytes.{encode}
@@ -29,10 +29,10 @@ use Rattle.question.specs.Rows.{number, place}
 use Rattle.question.specs.Asks.{ValidQuestion}
 use Rattle.finder.specs.Finds.{RanksFilled, Finds, findRows}
 use Rattle.question.specs.declared.Question.{Question}
-use Rattle.answer.specs.declared.Answer.{Answer}
-use Rattle.answer.specs.declared.Answer.the-variants.{Reach, Cannot, Refused}
+use Rattle.finder.specs.declared.answer.Answer.{Answer}
+use Rattle.finder.specs.declared.answer.Answer.the-variants.{Reach, Cannot, Refused}
 use Rattle.question.proofs.Unique.{lawful, few}
-use Rattle.answer.proofs.Unique.{late}
+use Rattle.finder.proofs.Unique.{late}
 use Rattle.finder.proofs.Unique.{find-clear}
 
 -- ---- demand 2: "reach" exactly when a working plan exists, the least height, and such a plan

@@ -1,34 +1,68 @@
+-- The answer to a valid question is settled: any two that `Answers` allows are equal, the plan room included.
 -- What `find` gives is settled: any two results that its contract allows are equal, both rooms included; and what a refusal leaves.
-use mathlib.Core.Path.{_≡_, sym, ap, _∙_, subst}
-use mathlib.Core.Logic.{_⊎_, inl, inr}
-use mathlib.Core.List.{List}
-use Prim.Native.Nat.{ℕ, _^_, _≤_, _<_}
+use mathlib.Core.Path.{_≡_, refl, sym, ap, ap₂, _∙_, subst}
+use mathlib.Core.List.{List, _++_}
+use Prim.Native.Nat.{ℕ, _≤_, _<_, _^_}
 use native.Mathlib.Omega.{arith}
-use lib.ListN.{length}
+use lib.ListN.{length, drop}
+use Rattle.ground.proofs.Search.{least-unique}
+use Rattle.plan.specs.Plans.{System, Lawful, Plan}
+use Rattle.plan.specs.Ranks.{Written}
+use Rattle.plan.specs.Bytes.{encode}
+use Rattle.plan.proofs.Written.{written-works, written-unique}
+use Rattle.question.specs.declared.Refusal.{Refusal}
+use Rattle.question.specs.declared.Refusal.the-variants.{Book, Team, Known, Goal, Ranks, PlanRoom}
+use Rattle.finder.specs.Answers.{Answers}
+use Rattle.finder.specs.declared.answer.Answer.{Answer}
+use Rattle.finder.specs.declared.answer.Answer.the-variants.{Reach, Cannot, Refused}
+use mathlib.Core.Logic.{_⊎_, inl, inr}
 use lib.Seq.{ext-getD}
 use Rattle.ground.proofs.Bools.{lt-or-ge}
 use Rattle.knowledge.specs.Fits.{known}
 use Rattle.ground.specs.Order.{First, Clear}
 use Rattle.ground.proofs.OrderLaws.{first-unique, first-clear, clear-append, none-only}
-use Rattle.sound.proofs.SoundLaws.{sound-settings}
-use Rattle.sound.proofs.Theorems.{sound-one}
-use Rattle.plan.specs.Plans.{System, Plan}
-use Rattle.plan.specs.Ranks.{Written}
-use Rattle.plan.specs.Bytes.{encode}
+use Rattle.book_sound.proofs.SoundLaws.{sound-settings}
+use Rattle.book_sound.proofs.Theorems.{sound-one}
 use Rattle.plan.proofs.Ranks.{rank-unique}
 use Rattle.question.specs.Question.{systemOf, startNumber}
 use Rattle.question.proofs.Unique.{lawful, few, refusal-same}
 use Rattle.question.specs.Rows.{number, place, questionRows}
 use Rattle.question.specs.Asks.{ValidQuestion}
-use Rattle.answer.specs.Answers.{Answers}
-use Rattle.answer.proofs.Unique.{late, answers-unique}
 use Rattle.finder.specs.Finds.{RanksFilled, Finds, findRows}
 use Rattle.question.specs.declared.Question.{Question}
-use Rattle.question.specs.declared.Refusal.{Refusal}
-use Rattle.question.specs.declared.Refusal.the-variants.{PlanRoom}
-use Rattle.answer.specs.declared.Answer.{Answer}
-use Rattle.answer.specs.declared.Answer.the-variants.{Refused}
 use Rattle.question.proofs.RowLaws.{question-clear}
+
+pub late : (S : System) (k : ℕ) (old new : List ℕ) (r : Refusal) → Answers S k old (Refused r) new
+    → (r ≡ PlanRoom) × ((p : Plan) × Written S k p × (length old < length (encode p))) × (new ≡ old)
+late S k old new (Book r) h = absurd h
+late S k old new Team h = absurd h
+late S k old new Known h = absurd h
+late S k old new Goal h = absurd h
+late S k old new Ranks h = absurd h
+late S k old new PlanRoom h = (refl, h .0, h .1)
+
+module _ {n : ℕ} {S : System} (law : Lawful n S) (few : n ≤ 7) (k : ℕ) (old : List ℕ) where
+  same : (p s : Plan) → Written S k p → Written S k s → length (encode p) ≡ length (encode s)
+  same p s a b = ap (λ (x : Plan). length (encode x)) (written-unique law few p s k a b)
+
+  pub answers-unique : (a b : Answer) (x y : List ℕ) → Answers S k old a x → Answers S k old b y → (a ≡ b) × (x ≡ y)
+  answers-unique (Reach h r) (Reach j s) x y a b =
+      let e = least-unique (a .0) (b .0) in
+      let p = a .1 in let q = b .1 in
+      let w = written-unique law few (p .0) (q .0) k (p .1) (q .1) in
+      let z : r ≡ s = p .2 ∙ ap (λ (t : Plan). length (encode t)) w ∙ sym (q .2) in
+      (ap₂ Reach e z, p .4 ∙ ap₂ (λ (t : Plan) (i : ℕ). encode t ++ drop i old) w z ∙ sym (q .4))
+  answers-unique (Reach h r) Cannot x y a b = absurd (b .0 (a .1 .0) (written-works S (a .1 .0) k (a .1 .1)))
+  answers-unique (Reach h r) (Refused w) x y a b =
+      let l = late S k old y w b in absurd (omega (arith, a .1 .2, a .1 .3, l .1 .2, same (a .1 .0) (l .1 .0) (a .1 .1) (l .1 .1)))
+  answers-unique Cannot (Reach h r) x y a b = absurd (a .0 (b .1 .0) (written-works S (b .1 .0) k (b .1 .1)))
+  answers-unique Cannot Cannot x y a b = (refl, a .1 ∙ sym (b .1))
+  answers-unique Cannot (Refused w) x y a b = let l = late S k old y w b in absurd (a .0 (l .1 .0) (written-works S (l .1 .0) k (l .1 .1)))
+  answers-unique (Refused w) (Reach h r) x y a b =
+      let l = late S k old x w a in absurd (omega (arith, b .1 .2, b .1 .3, l .1 .2, same (b .1 .0) (l .1 .0) (b .1 .1) (l .1 .1)))
+  answers-unique (Refused w) Cannot x y a b = let l = late S k old x w a in absurd (b .0 (l .1 .0) (written-works S (l .1 .0) k (l .1 .1)))
+  answers-unique (Refused w) (Refused v) x y a b =
+      let l = late S k old x w a in let m = late S k old y v b in (ap Refused (l .0 ∙ sym (m .0)), l .2 ∙ sym (m .2))
 
 ranks-unique : {n : ℕ} {S : System} {old new other : List ℕ} → RanksFilled n S old new → RanksFilled n S old other → new ≡ other
 ranks-unique {n} {S} {old} {new} {other} a b =

@@ -5,16 +5,16 @@ use mathlib.Core.List.{List, [], _∷_, _++_}
 use Prim.Native.Nat.{ℕ, _^_, _≤_, _<_}
 use lib.ListN.{length, getD}
 use Rattle.ground.specs.Order.{Row, only, First}
-use Rattle.sound.specs.Refusals.{settingsOf}
+use Rattle.book_sound.specs.Refusals.{settingsOf}
 use Rattle.plan.specs.Plans.{System}
 use Rattle.plan.specs.Ranks.{IsRank}
 use Rattle.question.specs.Question.{systemOf, startNumber}
 use Rattle.question.specs.Rows.{number, place, questionRows}
 use Rattle.question.specs.Asks.{ValidQuestion}
 use Rattle.question.specs.declared.Refusal.{Refusal}
-use Rattle.answer.specs.declared.Answer.{Answer}
-use Rattle.answer.specs.declared.Answer.the-variants.{Refused}
-use Rattle.answer.specs.Answers.{Answers}
+use Rattle.finder.specs.declared.answer.Answer.{Answer}
+use Rattle.finder.specs.declared.answer.Answer.the-variants.{Refused}
+use Rattle.finder.specs.Answers.{Answers}
 use Rattle.question.specs.declared.Question.{Question}
 
 -- "13 rank table under 7^n bytes" after them

@@ -1,7 +1,7 @@
 // The finder: refusals 6 to 13, the ranks of all knowledge numbers, then the answer and its plan.
-use answer::Answer;
-use answer::from_start;
-use block::Right;
+use crate::answer::Answer;
+use crate::answer::from_start;
+use book_block::Right;
 use knowledge::Knowledge;
 use question::Asked;
 use question::Question;
@@ -10,7 +10,7 @@ use question::ask;
 ghost use Prim.Native.Nat.{_^_, _≤_, _<_};
 ghost use lib.ListN.{length as size};
 ghost use Rattle.question.specs.Rows.{KnownFits};
-ghost use Rattle.answer.specs.Answers.{Answers};
+ghost use Rattle.finder.specs.Answers.{Answers};
 ghost use Rattle.finder.specs.Finds.{RanksFilled, Finds};
 ghost use Rattle.question.specs.Question.{systemOf, startNumber};
 
@@ -29,12 +29,12 @@ fn search(
     requires { ⌜ (0 < n) × (n ≤ 7) × KnownFits n known values × (7 ^ n ≤ size (now ranks)) ⌝ }
     ensures { λ r. ⌜ RanksFilled n (systemOf n (now (book .entry)) team (now (make .entry)) (now (learn .entry))) (now (ranks .entry)) (now (ranks .exit)) × Answers (systemOf n (now (book .entry)) team (now (make .entry)) (now (learn .entry))) (startNumber known values) (now (plan .entry)) r (now (plan .exit)) ⌝ }
 {
-    let made = tables::made(make, n);
-    let learnt = tables::learnt(learn, n);
-    sides::mark(n, &made, &learnt, ranks);
-    let set = tables::posts_allowed(book, n, team, Right::Set);
-    let look = tables::posts_allowed(book, n, team, Right::Look);
-    spread::spread(n, &set, &look, ranks);
+    let made = finder_sides::made(make, n);
+    let learnt = finder_sides::learnt(learn, n);
+    finder_sides::mark(n, &made, &learnt, ranks);
+    let set = finder_sides::posts_allowed(book, n, team, Right::Set);
+    let look = finder_sides::posts_allowed(book, n, team, Right::Look);
+    finder_ranks::spread(n, &set, &look, ranks);
     let start = Knowledge::at_start(known, values).number();
     from_start(n, &set, &look, ranks, start, plan)
 }
@@ -53,7 +53,7 @@ pub fn find(
     match ask(book, question, make, learn) {
         Asked::Not(why) => Answer::Refused(why),
         Asked::Valid { settings, posts: _ } => {
-            if ranks.len() < sides::numbers(settings) {
+            if ranks.len() < finder_sides::numbers(settings) {
                 return Answer::Refused(Refusal::Ranks);
             }
             let team = question.team;

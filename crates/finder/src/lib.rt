@@ -1,9 +1,13 @@
 // The finder: a book, a team, what it knows and a goal go in; "reach" with the least height and a
-// plan, or "cannot", come out, as `answer::Answer`. A question that is not whole, or a rank table that
+// plan, or "cannot", come out, as `Answer`. A question that is not whole, or a rank table that
 // is too short, is refused with one of the cases of `question::Refusal`, the first in the written
 // order, and leaves the lent rank table and plan room as they were. A valid question fills the first
 // 7^n bytes of the rank table with the ranks of all knowledge numbers, and a success the first bytes of
 // the plan room with the plan; 14 leaves the plan room as it was, and no other byte is touched.
+mod answer;
 mod finding;
+mod steps;
+mod written;
 
+pub use answer::Answer;
 pub use finding::find;

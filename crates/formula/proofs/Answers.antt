@@ -5,22 +5,22 @@ use mathlib.Core.Bool.{_&&_}
 use Prim.Native.Nat.{ℕ, _≤_}
 use native.Mathlib.Omega.{arith}
 use lib.ListN.{length, replicate}
-use Rattle.grammar.specs.Grammar.{sum}
+use Rattle.formula_grammar.specs.Grammar.{sum}
 use Rattle.ground.specs.Bounds.{SettingsFit}
-use Rattle.signs.specs.Signs.{Foreign}
+use Rattle.formula_grammar.specs.Signs.{Foreign}
 use Rattle.formula.specs.Read.{number, place, LengthFits, Refuses, two, three, four, Reads}
-use Rattle.truths.specs.Two.{Holds, BytesOf, has}
-use Rattle.grammar.specs.Automaton.{wants, breaks, verdict, Parsed}
-use Rattle.signs.specs.Scans.{Scans}
-use Rattle.signs.specs.declared.Scanned.{Scanned}
-use Rattle.signs.specs.declared.Scanned.the-variants.{Clean, Stray, Past}
+use Rattle.formula_table.specs.Two.{Holds, BytesOf, has}
+use Rattle.formula_grammar.specs.Automaton.{wants, breaks, verdict, Parsed}
+use Rattle.formula_grammar.specs.Scans.{Scans}
+use Rattle.formula_grammar.specs.declared.signs.Scanned.{Scanned}
+use Rattle.formula_grammar.specs.declared.signs.Scanned.the-variants.{Clean, Stray, Past}
 use Rattle.formula.specs.declared.Refusal.{Refusal}
 use Rattle.formula.specs.declared.Answer.{Answer}
 use Rattle.formula.specs.declared.Answer.the-variants.{Accepted, Refused}
-use Rattle.truths.specs.declared.Truths.{Truths}
-use Rattle.grammar.proofs.PartLaws.{sum-whole}
+use Rattle.formula_table.specs.declared.Truths.{Truths}
+use Rattle.formula_grammar.proofs.PartLaws.{sum-whole}
 use Rattle.formula.proofs.Broken.{broken-place, broken-no-sentence}
-use Rattle.truths.proofs.TwoWords.{below, table-of}
+use Rattle.formula_table.proofs.TwoWords.{below, table-of}
 
 abbrev CleanText : ℕ → List ℕ → Type 0
 CleanText n s = (j : ℕ) → Foreign n s j → ⊥

@@ -6,10 +6,10 @@ use Prim.Native.Nat.{ℕ, suc, _≤_}
 use native.Mathlib.Omega.{arith}
 use lib.ListN.{take, drop, take-append-drop}
 use lib.Seq.{take-take}
-use Rattle.grammar.specs.Grammar.{text, Begins, IsSentence}
-use Rattle.grammar.specs.Automaton.{wants, whole, breaks, verdict}
-use Rattle.grammar.proofs.Automaton.{verdict-text, stopped}
-use Rattle.grammar.proofs.Begins.{begins-less, alive-begins, dead-begins}
+use Rattle.formula_grammar.specs.Grammar.{text, Begins, IsSentence}
+use Rattle.formula_grammar.specs.Automaton.{wants, whole, breaks, verdict}
+use Rattle.formula_grammar.proofs.Automaton.{verdict-text, stopped}
+use Rattle.formula_grammar.proofs.Begins.{begins-less, alive-begins, dead-begins}
 use Rattle.formula.specs.Read.{BreaksAt, at-byte, at-end}
 
 -- the beginnings of a beginning

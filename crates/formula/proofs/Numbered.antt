@@ -9,12 +9,12 @@ use lib.Dec.{T, leb, leb→le, le→leb}
 use lib.ListN.{length, getD}
 use Rattle.ground.specs.Search.{Least}
 use Rattle.ground.proofs.Bools.{decide, T→true, T→false, and-in, and-left, and-right, or-left, or-right}
-use Rattle.grammar.specs.Grammar.{text, IsSentence}
+use Rattle.formula_grammar.specs.Grammar.{text, IsSentence}
 use Rattle.ground.specs.Bounds.{SettingsFit}
-use Rattle.signs.specs.Signs.{isStray, isPast, Foreign}
-use Rattle.grammar.specs.Automaton.{wants, Verdict, whole, breaks, verdict}
-use Rattle.grammar.proofs.Automaton.{verdict-text}
-use Rattle.grammar.proofs.Begins.{whole-sentence}
+use Rattle.formula_grammar.specs.Signs.{isStray, isPast, Foreign}
+use Rattle.formula_grammar.specs.Automaton.{wants, Verdict, whole, breaks, verdict}
+use Rattle.formula_grammar.proofs.Automaton.{verdict-text}
+use Rattle.formula_grammar.proofs.Begins.{whole-sentence}
 use Rattle.formula.specs.Read.{LengthFits, Refuses, five, one, two, three, four, Reads}
 use Rattle.formula.specs.Numbered.{numberIn, sentenceNumber, foreignNumber, formulaNumber}
 use Rattle.formula.specs.declared.Answer.{Answer}

@@ -9,8 +9,8 @@ use Rattle.ground.specs.Search.{Least}
 use Rattle.ground.proofs.Bools.{both, and-left, or-left}
 use Rattle.ground.proofs.Search.{least-unique}
 use Rattle.ground.proofs.Table.{table-unique}
-use Rattle.signs.specs.Signs.{isLetter, isSign, isStray, isPast, Foreign}
-use Rattle.grammar.proofs.Meaning.{unambiguous}
+use Rattle.formula_grammar.specs.Signs.{isLetter, isSign, isStray, isPast, Foreign}
+use Rattle.formula_grammar.proofs.Meaning.{unambiguous}
 use Rattle.formula.specs.Read.{number, place, BreaksAt, at-byte, at-end, Refuses, five, one, two, three, four, Accepts, Reads}
 use Rattle.formula.specs.declared.Refusal.{Refusal}
 use Rattle.formula.specs.declared.Refusal.the-variants.{Length, StrayByte, LetterPast, NotSentence, Settings}

@@ -5,8 +5,8 @@ use mathlib.Core.List.{List, [], _∷_}
 use Prim.Native.Nat.{ℕ}
 use lib.Dec.{leb}
 use lib.ListN.{length}
-use Rattle.signs.specs.Signs.{isStray, isPast}
-use Rattle.grammar.specs.Automaton.{wants, verdict, whole, breaks}
+use Rattle.formula_grammar.specs.Signs.{isStray, isPast}
+use Rattle.formula_grammar.specs.Automaton.{wants, verdict, whole, breaks}
 use Rattle.formula.specs.Read.{number}
 use Rattle.formula.specs.declared.Answer.{Answer}
 use Rattle.formula.specs.declared.Answer.the-variants.{Accepted, Refused}

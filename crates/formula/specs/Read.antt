@@ -7,8 +7,8 @@ use lib.ListN.{length, getD, take, replicate}
 use Rattle.ground.specs.Bounds.{SettingsFit}
 use Rattle.ground.specs.Search.{Least}
 use Rattle.ground.specs.Table.{TableOf}
-use Rattle.grammar.specs.Grammar.{meaning, IsSentence, Begins}
-use Rattle.signs.specs.Signs.{isStray, isPast, Foreign}
+use Rattle.formula_grammar.specs.Grammar.{meaning, IsSentence, Begins}
+use Rattle.formula_grammar.specs.Signs.{isStray, isPast, Foreign}
 use Rattle.formula.specs.declared.Refusal.{Refusal}
 use Rattle.formula.specs.declared.Refusal.the-variants.{Length, StrayByte, LetterPast, NotSentence, Settings}
 use Rattle.formula.specs.declared.Answer.{Answer}

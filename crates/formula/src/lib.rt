@@ -5,10 +5,10 @@ ghost use mathlib.Core.Path.{_≡_};
 ghost use Prim.Native.Nat.{ℕ};
 ghost use lib.ListN.{replicate};
 ghost use Rattle.ground.specs.Bounds.{SettingsFit};
-ghost use Rattle.signs.specs.Signs.{Foreign};
+ghost use Rattle.formula_grammar.specs.Signs.{Foreign};
 ghost use Rattle.formula.specs.Read.{number, place, Reads, LengthFits};
-use grammar::Part;
-use signs::Scanned;
+use formula_grammar::Part;
+use formula_grammar::Scanned;
 
 // Why a text is no formula of n settings.
 pub enum Refusal {
@@ -96,7 +96,7 @@ pub fn read(n: usize, text: &[u8]) -> Reading
     if LENGTH_MOST < text.len() {
         return refused(Refusal::Length);
     }
-    match signs::scan(n, text) {
+    match formula_grammar::scan(n, text) {
         Scanned::Stray(i) => refused(Refusal::StrayByte(i)),
         Scanned::Past(i) => refused(Refusal::LetterPast(i)),
         Scanned::Clean => sentence(n, text),
@@ -108,7 +108,7 @@ fn sentence(n: usize, text: &[u8]) -> Reading
     requires { ⌜ SettingsFit n × LengthFits (now text) × ((j : ℕ) → Foreign n (now text) j → ⊥) ⌝ }
     ensures { λ r. ⌜ Reads n (now (text .entry)) (r .answer) (r .table) ⌝ }
 {
-    match grammar::sum(text, 0) {
+    match formula_grammar::sum(text, 0) {
         Part::Broken(i) => refused(Refusal::NotSentence(i)),
         Part::Read(w, end) => {
             if end < text.len() {

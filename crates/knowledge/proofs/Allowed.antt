@@ -9,11 +9,11 @@ use lib.ListN.{drop}
 use borrow.Author.Tests.{eq-eqb, ne-eqb}
 use Rattle.ground.specs.Digits.{bit}
 use Rattle.ground.proofs.Bools.{and-left, and-right, and-true, and-false}
-use Rattle.block.specs.Rule.{rule, rulePlace}
-use Rattle.block.specs.declared.rule.Right.the-variants.{Look as look-rule, Set as set-rule}
-use Rattle.acts.specs.Acts.{settingOf, postOf, offered}
-use Rattle.acts.specs.declared.act.Act.{Act}
-use Rattle.acts.specs.declared.act.Act.the-variants.{Set, Look}
+use Rattle.book_block.specs.Rule.{rule, rulePlace}
+use Rattle.book_block.specs.declared.rule.Right.the-variants.{Look as look-rule, Set as set-rule}
+use Rattle.knowledge_acts.specs.Acts.{settingOf, postOf, offered}
+use Rattle.knowledge_acts.specs.declared.act.Act.{Act}
+use Rattle.knowledge_acts.specs.declared.act.Act.the-variants.{Set, Look}
 use Rattle.knowledge.specs.Fits.{known}
 use Rattle.knowledge.specs.Allowed.{permitted, allowed}
 use Rattle.knowledge.proofs.Fits.{guarded}

@@ -16,7 +16,7 @@ use Rattle.ground.proofs.Bits.{same-bits}
 use Rattle.ground.proofs.Bools.{and-in, and-left, and-right, decide, T-iff, T→true, T→false}
 use Rattle.ground.proofs.Search.{all-at, all-intro, all-ext}
 use Rattle.ground.proofs.Table.{truth-take}
-use Rattle.acts.specs.Seven.{unknown, told}
+use Rattle.knowledge_acts.specs.Seven.{unknown, told}
 use Rattle.knowledge.specs.Fits.{agrees, fits, implies, is, always}
 
 -- an implication of two tests

@@ -10,10 +10,10 @@ use lib.ListN.{length, getD, set}
 use lib.Seq.{ext-getD}
 use Rattle.ground.specs.Digits.{digit, bit}
 use Rattle.ground.proofs.Digits.{digit-lt}
-use Rattle.acts.specs.Seven.{afterSet, afterLook, firstDigit}
-use Rattle.acts.specs.Acts.{setTo, lookAt}
-use Rattle.acts.proofs.Seven.{set-lt, look-lt, first-lt}
-use Rattle.acts.proofs.Outcomes.{set-below, look-below}
+use Rattle.knowledge_acts.specs.Seven.{afterSet, afterLook, firstDigit}
+use Rattle.knowledge_acts.specs.Acts.{setTo, lookAt}
+use Rattle.knowledge_acts.proofs.Seven.{set-lt, look-lt, first-lt}
+use Rattle.knowledge_acts.proofs.Outcomes.{set-below, look-below}
 use Rattle.knowledge.specs.Number.{digitIn, numberOf, digitsOf, firstAt, firstDigits}
 use Rattle.ground.proofs.HighBits.{high-bit}
 use Rattle.knowledge.proofs.Number.{digit-in, digits-are, digits-long, digits-put, sum-digits, sum-lt, sum-short, digits-sum}

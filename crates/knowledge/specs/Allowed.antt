@@ -3,11 +3,11 @@ use mathlib.Core.Bool.{Bool, _&&_}
 use mathlib.Core.List.{List}
 use Prim.Native.Nat.{ℕ}
 use lib.Dec.{eqb}
-use Rattle.block.specs.Rule.{rule}
-use Rattle.block.specs.declared.rule.Right.the-variants.{Look as look-rule, Set as set-rule}
-use Rattle.acts.specs.Acts.{offered}
-use Rattle.acts.specs.declared.act.Act.{Act}
-use Rattle.acts.specs.declared.act.Act.the-variants.{Set, Look}
+use Rattle.book_block.specs.Rule.{rule}
+use Rattle.book_block.specs.declared.rule.Right.the-variants.{Look as look-rule, Set as set-rule}
+use Rattle.knowledge_acts.specs.Acts.{offered}
+use Rattle.knowledge_acts.specs.declared.act.Act.{Act}
+use Rattle.knowledge_acts.specs.declared.act.Act.the-variants.{Set, Look}
 use Rattle.knowledge.specs.Fits.{known}
 
 -- "set a setting false or true, where its set rule for that post is known to hold; look, where the look rule is known to hold

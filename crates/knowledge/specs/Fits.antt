@@ -1,6 +1,6 @@
 -- "A present valuation fits if it agrees with every known present value, a start valuation if it agrees with every known start
 -- value. A rule is known to hold if it is true at every fitting present valuation." d i is the digit of setting i: of a
--- knowledge number k it is digit 7 k i. A side tells for each setting whether a value is unknown, false or true (acts/specs/Seven).
+-- knowledge number k it is digit 7 k i. A side tells for each setting whether a value is unknown, false or true (knowledge_acts/specs/Seven).
 use mathlib.Core.Bool.{Bool, true, false, not, _||_}
 use mathlib.Core.List.{List}
 use Prim.Native.Nat.{ℕ, _^_}
@@ -8,7 +8,7 @@ use lib.Dec.{eqb}
 use Rattle.ground.specs.Digits.{bit}
 use Rattle.ground.specs.Search.{all}
 use Rattle.ground.specs.Table.{truth}
-use Rattle.acts.specs.Seven.{unknown, told, startOf, nowOf}
+use Rattle.knowledge_acts.specs.Seven.{unknown, told, startTold, nowTold}
 
 -- a value agrees with a side: nothing is known of it, or this is
 unfoldable pub agrees : ℕ → Bool → Bool
@@ -32,10 +32,10 @@ always b n side table = all (2 ^ n) (λ v. implies (fits n side v) (is b (truth 
 
 -- what the digits tell of the values now, and of those at the start
 abbrev pub nowSide : (ℕ → ℕ) → ℕ → ℕ
-nowSide d i = nowOf (d i)
+nowSide d i = nowTold (d i)
 
 abbrev pub startSide : (ℕ → ℕ) → ℕ → ℕ
-startSide d i = startOf (d i)
+startSide d i = startTold (d i)
 
 -- "A present valuation fits if it agrees with every known present value"
 unfoldable pub fitsNow : ℕ → (ℕ → ℕ) → ℕ → Bool

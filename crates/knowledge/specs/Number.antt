@@ -3,7 +3,7 @@ use mathlib.Core.List.{List, [], _∷_}
 use Prim.Native.Nat.{ℕ, zero, suc, _+_, _*_, _^_}
 use lib.ListN.{getD}
 use Rattle.ground.specs.Digits.{digit, bit}
-use Rattle.acts.specs.Seven.{firstDigit}
+use Rattle.knowledge_acts.specs.Seven.{firstDigit}
 
 -- the digit of setting i in a state that holds these digits
 abbrev pub digitIn : List ℕ → ℕ → ℕ

@@ -3,7 +3,7 @@ use ground::bit_of;
 ghost use mathlib.Core.Path.{_≡_};
 ghost use Prim.Native.Nat.{_*_, _≤_};
 ghost use lib.ListN.{set};
-ghost use Rattle.acts.specs.Seven.{afterSet, afterLook};
+ghost use Rattle.knowledge_acts.specs.Seven.{afterSet, afterLook};
 ghost use Rattle.knowledge.specs.Number.{digitIn, numberOf, digitsOf, firstAt, firstDigits};
 
 // What a team knows: the digit of each setting.
@@ -23,7 +23,7 @@ fn weighed(digit: u8, power: u32) -> u32
 fn first_at(known: u8, values: u8, i: u8) -> u8
     ensures { λ r. ⌜ r ≡ firstAt known values i ⌝ }
 {
-    acts::first_digit(bit_of(known, i), bit_of(values, i))
+    knowledge_acts::first_digit(bit_of(known, i), bit_of(values, i))
 }
 
 impl Knowledge {
@@ -100,13 +100,16 @@ impl Knowledge {
     pub fn after_set(self, setting: u8, value: bool) -> Self
         ensures { λ r. ⌜ r .digits ≡ set (self .digits) setting (afterSet (digitIn (self .digits) setting) value) ⌝ }
     {
-        self.with_digit(setting, acts::after_set(self.digit(setting), value))
+        self.with_digit(
+            setting,
+            knowledge_acts::after_set(self.digit(setting), value),
+        )
     }
 
     // The state after a look at the setting that saw the value.
     pub fn after_look(self, setting: u8, value: bool) -> Self
         ensures { λ r. ⌜ r .digits ≡ set (self .digits) setting (afterLook value) ⌝ }
     {
-        self.with_digit(setting, acts::after_look(value))
+        self.with_digit(setting, knowledge_acts::after_look(value))
     }
 }

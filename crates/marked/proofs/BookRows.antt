@@ -1,8 +1,8 @@
 -- The rows on the book: the check's two sums, computed.
 use mathlib.Core.Path.{ap, _∙_}
 use lib.ListN.{replicate}
-use Rattle.sums.specs.declared.sums.Sums.{Sums}
-use Rattle.sums.proofs.Theorems.{p13-zeros, p13-ones}
+use Rattle.book_block.specs.declared.sums.Sums.{Sums}
+use Rattle.book_block.proofs.Theorems.{p13-zeros, p13-ones}
 use Rattle.marked.specs.Row.{Holds, sums}
 
 pub p13-first : Holds (sums (replicate 508 0) 1 508)

@@ -4,14 +4,14 @@ use mathlib.Core.List.{List, [], _∷_}
 use mathlib.Core.Bool.{true, false}
 use Prim.Native.Nat.{ℕ}
 use lib.Dec.{T}
-use Rattle.sound.specs.Sound.{inOrder, tablesOf}
-use Rattle.block.specs.Rule.{tablePlace, rule, rulePlace}
+use Rattle.book_sound.specs.Sound.{inOrder, tablesOf}
+use Rattle.book_block.specs.Rule.{tablePlace, rule, rulePlace}
 use Rattle.book.specs.Written.{bookOf, settingBlocks}
-use Rattle.sums.specs.Sealed.{sealed, bytes16}
-use Rattle.block.specs.Sealed.{headBlock, settingBlock}
-use Rattle.acts.specs.Acts.{byteOf}
+use Rattle.book_block.specs.Sealed.{sealed, bytes16}
+use Rattle.book_block.specs.Sealed.{headBlock, settingBlock}
+use Rattle.knowledge_acts.specs.Acts.{byteOf}
 use Rattle.plan.specs.Plans.{stop, set-then, look-then}
-use Rattle.step.specs.declared.refusal.Refusal.the-variants.{NotSettled}
+use Rattle.plancheck.specs.declared.refusal.Refusal.the-variants.{NotSettled}
 use Rattle.plancheck.specs.declared.answer.CheckAnswer.the-variants.{Refused as No}
 use Rattle.plancheck.proofs.Examples.{not-a, is-a, p10}
 use Rattle.plancheck.proofs.OneAnswer.{checks-one}

@@ -8,9 +8,9 @@ use Rattle.ground.specs.Digits.{bit, digit}
 use Rattle.ground.specs.Search.{all}
 use Rattle.ground.specs.Table.{truth}
 use Rattle.ground.specs.Text.{bytes}
-use Rattle.grammar.specs.Grammar.{letter, negated, one-unit, unit-and, one-product, product-or, text, meaning, Sentence, unit}
-use Rattle.signs.specs.Signs.{isLetter, isSign, isStray, isPast}
-use Rattle.grammar.specs.Automaton.{isAtom, step, verdict}
+use Rattle.formula_grammar.specs.Grammar.{letter, negated, one-unit, unit-and, one-product, product-or, text, meaning, Sentence, unit}
+use Rattle.formula_grammar.specs.Signs.{isLetter, isSign, isStray, isPast}
+use Rattle.formula_grammar.specs.Automaton.{isAtom, step, verdict}
 use Rattle.formula.specs.Read.{Reads, Refuses, number, place}
 use Rattle.formula.specs.declared.Refusal.{Refusal}
 use Rattle.formula.specs.declared.Refusal.the-variants.{LetterPast, NotSentence}

@@ -13,8 +13,8 @@ use Rattle.ground.proofs.Bools.{lt-or-ge}
 use Rattle.ground.proofs.Search.{least-unique}
 use Rattle.ground.specs.Order.{Clear}
 use Rattle.ground.proofs.OrderLaws.{first-clear, clear-append, none-only}
-use Rattle.sound.proofs.SoundLaws.{sound-settings}
-use Rattle.sound.proofs.Theorems.{sound-one}
+use Rattle.book_sound.proofs.SoundLaws.{sound-settings}
+use Rattle.book_sound.proofs.Theorems.{sound-one}
 use Rattle.plan.specs.Plans.{System, Lawful, Plan}
 use Rattle.plan.specs.Ranks.{Reach as ReachIn, Cannot as CannotFrom, IsRank, Written}
 use Rattle.plan.specs.Bytes.{encode}
@@ -25,10 +25,10 @@ use Rattle.knowledge.specs.Goal.{goalSettled}
 use Rattle.question.specs.Question.{systemOf, startNumber}
 use Rattle.question.specs.Rows.{number, place, questionRows}
 use Rattle.finder.specs.Finds.{RanksFilled, Finds, findRows}
-use Rattle.answer.specs.Answers.{Answers}
+use Rattle.finder.specs.Answers.{Answers}
 use Rattle.question.specs.declared.Refusal.the-variants.{Book, Team, Known, Goal, Ranks, PlanRoom}
-use Rattle.answer.specs.declared.Answer.{Answer}
-use Rattle.answer.specs.declared.Answer.the-variants.{Reach, Cannot, Refused}
+use Rattle.finder.specs.declared.answer.Answer.{Answer}
+use Rattle.finder.specs.declared.answer.Answer.the-variants.{Reach, Cannot, Refused}
 use Rattle.question.proofs.RowLaws.{question-clear}
 use Rattle.marked.specs.Row.{Case, bookFor, first, tables}
 use Rattle.marked.proofs.Valid.{Well, Valid}

@@ -14,29 +14,29 @@ use Rattle.ground.specs.Search.{all}
 use Rattle.ground.specs.Table.{truth}
 use Rattle.ground.specs.Text.{bytes}
 use Rattle.ground.proofs.Bits.{bit-suc, bit-of-zero, below-2}
-use Rattle.grammar.specs.Grammar.{letter, one, negated, one-unit, one-product, text, meaning as truthOf}
-use Rattle.signs.specs.Signs.{isLetter, isSign, isStray, isPast}
-use Rattle.grammar.specs.Automaton.{isAtom, step, verdict}
+use Rattle.formula_grammar.specs.Grammar.{letter, one, negated, one-unit, one-product, text, meaning as truthOf}
+use Rattle.formula_grammar.specs.Signs.{isLetter, isSign, isStray, isPast}
+use Rattle.formula_grammar.specs.Automaton.{isAtom, step, verdict}
 use Rattle.formula.specs.Read.{Accepts}
 use Rattle.formula.specs.Numbered.{sentenceNumber, foreignNumber, formulaNumber}
 use Rattle.formula.proofs.Computed.{foreign, bounds, clean, tabled, accepted}
-use Rattle.block.specs.Rule.{table, tablePlace}
-use Rattle.sound.specs.Sound.{tablesOf}
-use Rattle.block.specs.declared.rule.Right.{Right}
-use Rattle.block.specs.declared.rule.Right.the-variants.{Look, Set}
-use Rattle.text.specs.Decimal.{decimal}
-use Rattle.printing.specs.Printed.{reachText, cannotText, fitted}
-use Rattle.desk.specs.Sheet.{Rule, Sheet, sameRight, concerns, isStated, ruleText, knownSettings, knownTrue}
-use Rattle.words.specs.Words.{member, onto, split, begins, among, isFalse, bare, isName, allNames, indexOf, indexes, twice}
-use Rattle.desk.specs.Rules.{isSetting, isPost, isRule, ruleOf, withRule, ruleStep}
-use Rattle.desk.specs.Steps.{unlessRefused, sized}
-use Rattle.desk.specs.Desk.{TablesOf}
-use Rattle.line.specs.Forms.{isSize, digitAt, postWords, isTeam, teamOf, settingWords, isKnown, knownBy, knownOf}
-use Rattle.line.specs.Steps.{withTeam, withKnown, withMake, withAsk, sizeStep, teamStep, knownStep, makeStep, askStep, rightsStep}
-use Rattle.lines.specs.Reading.{Meaning, refused, stated, lines, firstLine, meaning}
+use Rattle.book_block.specs.Rule.{table, tablePlace}
+use Rattle.book_sound.specs.Sound.{tablesOf}
+use Rattle.book_block.specs.declared.rule.Right.{Right}
+use Rattle.book_block.specs.declared.rule.Right.the-variants.{Look, Set}
+use Rattle.print_room.specs.Decimal.{decimal}
+use Rattle.print_answer.specs.Printed.{reachText, cannotText, fitted}
+use Rattle.sheet_reading.specs.Sheet.{Rule, Sheet, sameRight, concerns, isStated, ruleText, knownSettings, knownTrue}
+use Rattle.sheet_words.specs.Words.{member, onto, split, begins, among, isFalse, bare, isName, allNames, indexOf, indexes, twice}
+use Rattle.sheet_reading.specs.Rules.{isSetting, isPost, isRule, ruleOf, withRule, ruleStep}
+use Rattle.sheet_reading.specs.Steps.{unlessRefused, sized}
+use Rattle.sheet_reading.specs.Desk.{TablesOf}
+use Rattle.sheet_reading.specs.Forms.{isSize, digitAt, postWords, isTeam, teamOf, settingWords, isKnown, knownBy, knownOf}
+use Rattle.sheet_reading.specs.LineSteps.{withTeam, withKnown, withMake, withAsk, sizeStep, teamStep, knownStep, makeStep, askStep, rightsStep}
+use Rattle.sheet_reading.specs.Reading.{Meaning, refused, stated, lines, firstLine, meaning}
 use Rattle.sheet.specs.Answer.{Question, PrintsFound, Prints-outcome}
-use Rattle.desk.proofs.HoldLaws.{nought-accepts}
-use Rattle.lines.proofs.Examples.{sheets-computed}
+use Rattle.sheet_reading.proofs.HoldLaws.{nought-accepts}
+use Rattle.sheet_reading.proofs.Examples.{sheets-computed}
 use Rattle.sheet.proofs.Theorems.{answer-unique}
 use Rattle.marked.specs.Row.{Case, first, tables, Holds, prints}
 use Rattle.marked.specs.Table.{sixth, p6, p7, p8a, p8c, p6-sheet, p6-printed, p7-sheet, p8a-sheet, p8c-sheet}

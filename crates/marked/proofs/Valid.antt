@@ -13,14 +13,14 @@ use Rattle.ground.specs.Search.{all}
 use Rattle.ground.specs.Table.{truth, Within}
 use Rattle.ground.proofs.Bools.{and-left, and-right, or-out, T→false}
 use Rattle.ground.proofs.Search.{all-at}
-use Rattle.block.specs.Kinds.{Tables, Zeros}
-use Rattle.sound.specs.Sound.{tablesOf}
-use Rattle.block.specs.Rule.{table, tablePlace}
-use Rattle.block.specs.declared.rule.Right.{Right}
-use Rattle.block.specs.declared.rule.Right.the-variants.{Look as look-rule, Set as set-rule}
+use Rattle.book_block.specs.Kinds.{Tables, Zeros}
+use Rattle.book_sound.specs.Sound.{tablesOf}
+use Rattle.book_block.specs.Rule.{table, tablePlace}
+use Rattle.book_block.specs.declared.rule.Right.{Right}
+use Rattle.book_block.specs.declared.rule.Right.the-variants.{Look as look-rule, Set as set-rule}
 use Rattle.ground.proofs.Lists.{length-part}
-use Rattle.block.proofs.RuleLaws.{place-most}
-use Rattle.sound.proofs.RightsLaws.{length-tables}
+use Rattle.book_block.proofs.RuleLaws.{place-most}
+use Rattle.book_sound.proofs.RightsLaws.{length-tables}
 use Rattle.book.proofs.RoundTrip.{written-sound}
 use Rattle.knowledge.specs.Goal.{learnTable}
 use Rattle.question.specs.Asks.{ValidQuestion}

@@ -6,19 +6,19 @@ use Prim.Native.Nat.{ℕ, _^_, _≤_}
 use Prim.Native.String.{String}
 use lib.ListN.{length, getD, drop, replicate}
 use Rattle.ground.specs.Text.{bytes}
-use Rattle.sums.specs.Block.{check}
+use Rattle.book_block.specs.Check.{check}
 use Rattle.book.specs.Written.{bookOf}
-use Rattle.sums.specs.declared.sums.Sums.{Sums}
+use Rattle.book_block.specs.declared.sums.Sums.{Sums}
 use Rattle.finder.specs.Finds.{Finds}
 use Rattle.question.specs.declared.Question.{Question}
-use Rattle.answer.specs.declared.Answer as F
-use Rattle.answer.specs.declared.Answer.the-variants.{Reach, Cannot}
+use Rattle.finder.specs.declared.answer.Answer as F
+use Rattle.finder.specs.declared.answer.Answer.the-variants.{Reach, Cannot}
 use Rattle.plancheck.specs.Checks.{Checks}
-use Rattle.step.specs.Refusals as P
-use Rattle.step.specs.declared.refusal.Refusal as N
+use Rattle.plancheck.specs.Refusals as P
+use Rattle.plancheck.specs.declared.refusal.Refusal as N
 use Rattle.plancheck.specs.declared.answer.CheckAnswer.{CheckAnswer}
 use Rattle.plancheck.specs.declared.answer.CheckAnswer.the-variants.{Refused as No}
-use Rattle.printing.specs.Printed.{fitted}
+use Rattle.print_answer.specs.Printed.{fitted}
 use Rattle.sheet.specs.Answer.{Answers}
 use Rattle.formula.specs.Read.{Reads, number, place}
 use Rattle.formula.specs.declared.Refusal.{Refusal}

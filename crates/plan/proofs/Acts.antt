@@ -7,9 +7,9 @@ use lib.Dec.{T}
 use Rattle.ground.specs.Search.{all, any}
 use Rattle.ground.proofs.Bools.{and-in, and-left, and-right, or-left, or-right, or-out}
 use Rattle.ground.proofs.Search.{all-at, any-intro, any-elim}
-use Rattle.acts.specs.Acts.{settingOf, postOf, setTo, lookAt}
-use Rattle.acts.specs.declared.act.Act.{Act}
-use Rattle.acts.specs.declared.act.Act.the-variants.{Set, Look}
+use Rattle.knowledge_acts.specs.Acts.{settingOf, postOf, setTo, lookAt}
+use Rattle.knowledge_acts.specs.declared.act.Act.{Act}
+use Rattle.knowledge_acts.specs.declared.act.Act.the-variants.{Set, Look}
 use Rattle.plan.specs.Plans.{System, may, Outcome, after-set, after-look}
 
 -- what holds at the states after an act holds at its outcomes

@@ -9,11 +9,11 @@ use borrow.Author.Tests.{lt-ltb, lt-leb}
 use Rattle.ground.specs.Search.{all}
 use Rattle.ground.proofs.Bools.{and-left, and-right, lt-or-ge}
 use Rattle.ground.proofs.Search.{all-at}
-use Rattle.acts.specs.Acts.{settingOf, postOf, byteOf, actOf}
-use Rattle.acts.specs.declared.act.Act.{Act}
-use Rattle.acts.proofs.Acts.{act-of-byte}
-use Rattle.acts.specs.declared.act.Named.{Named}
-use Rattle.acts.specs.declared.act.Named.the-variants.{One, Nothing}
+use Rattle.knowledge_acts.specs.Acts.{settingOf, postOf, byteOf, actOf}
+use Rattle.knowledge_acts.specs.declared.act.Act.{Act}
+use Rattle.knowledge_acts.proofs.Acts.{act-of-byte}
+use Rattle.knowledge_acts.specs.declared.act.Named.{Named}
+use Rattle.knowledge_acts.specs.declared.act.Named.the-variants.{One, Nothing}
 
 -- no byte past 168 names an act
 past : (c : ℕ) → 168 < c → actOf c ≡ Nothing

@@ -7,10 +7,10 @@ use native.Mathlib.Omega.{arith}
 use lib.Dec.{T}
 use lib.Pow.{pow-mono}
 use Rattle.ground.proofs.Bools.{lt-or-ge}
-use Rattle.acts.specs.Acts.{setTo, lookAt}
-use Rattle.acts.proofs.Outcomes.{set-below, look-below}
-use Rattle.acts.specs.declared.act.Act.{Act}
-use Rattle.acts.specs.declared.act.Act.the-variants.{Set, Look}
+use Rattle.knowledge_acts.specs.Acts.{setTo, lookAt}
+use Rattle.knowledge_acts.proofs.Outcomes.{set-below, look-below}
+use Rattle.knowledge_acts.specs.declared.act.Act.{Act}
+use Rattle.knowledge_acts.specs.declared.act.Act.the-variants.{Set, Look}
 use Rattle.plan.specs.Plans.{System, may, Lawful, Outcome, after-set, after-look, Plan, stop, set-then, look-then, Works, height}
 use Rattle.plan.specs.Ranks.{IsRank}
 use Rattle.plan.specs.Certificate.{Certified}

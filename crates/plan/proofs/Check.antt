@@ -9,15 +9,15 @@ use native.Mathlib.Omega.{arith}
 use lib.Dec.{T}
 use lib.ListN.{length, length-append}
 use Rattle.ground.proofs.Bools.{T→true, T→false, true→T, and-in, and-left, and-right}
-use Rattle.acts.specs.Acts.{byteOf, actOf, setTo, lookAt}
-use Rattle.acts.specs.declared.act.Act.{Act}
-use Rattle.acts.specs.declared.act.Act.the-variants.{Set, Look}
-use Rattle.acts.specs.declared.act.Named.{Named}
-use Rattle.acts.specs.declared.act.Named.the-variants.{One, Nothing}
+use Rattle.knowledge_acts.specs.Acts.{byteOf, actOf, setTo, lookAt}
+use Rattle.knowledge_acts.specs.declared.act.Act.{Act}
+use Rattle.knowledge_acts.specs.declared.act.Act.the-variants.{Set, Look}
+use Rattle.knowledge_acts.specs.declared.act.Named.{Named}
+use Rattle.knowledge_acts.specs.declared.act.Named.the-variants.{One, Nothing}
 use Rattle.plan.specs.Plans.{System, may, Lawful, Plan, stop, set-then, look-then, Works}
 use Rattle.plan.specs.Bytes.{encode}
 use Rattle.plan.specs.Check.{Fault, no-act, not-permitted, not-settled, Verdict, accepted, faulty, Reading, goes-on, fails, outcomes, readAct, readNamed, readStop, readByte, judge, check}
-use Rattle.acts.proofs.Acts.{act-of-byte}
+use Rattle.knowledge_acts.proofs.Acts.{act-of-byte}
 use Rattle.plan.proofs.Bytes.{byte-of-act, byte-positive}
 
 module _ (S : System) (k : ℕ) where

@@ -17,13 +17,13 @@ use Rattle.ground.proofs.Bits.{digit-zero, digit-suc}
 use Rattle.ground.proofs.Bools.{lt-or-ge}
 use Rattle.ground.proofs.Digits.{digit-lt}
 use Rattle.ground.proofs.Search.{all-at}
-use Rattle.acts.specs.Seven.{afterSet}
-use Rattle.acts.specs.Acts.{setTo}
-use Rattle.acts.specs.declared.act.Act.{Act}
-use Rattle.acts.specs.declared.act.Act.the-variants.{Set, Look}
+use Rattle.knowledge_acts.specs.Seven.{afterSet}
+use Rattle.knowledge_acts.specs.Acts.{setTo}
+use Rattle.knowledge_acts.specs.declared.act.Act.{Act}
+use Rattle.knowledge_acts.specs.declared.act.Act.the-variants.{Set, Look}
 use Rattle.plan.specs.Plans.{System, may, Lawful, Outcome, after-set, after-look}
 use Rattle.plan.specs.Pending.{nought, unknowns}
-use Rattle.acts.proofs.Seven.{set-lt}
+use Rattle.knowledge_acts.proofs.Seven.{set-lt}
 use Rattle.plan.proofs.Unknowns.{seven, unknowns-le, unknowns-set, unknowns-look}
 
 -- which pair a digit is of: 0 stands alone

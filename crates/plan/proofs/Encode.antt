@@ -6,9 +6,9 @@ use mathlib.Core.Bool.{true, false}
 use Prim.Native.Nat.{ℕ, _≤_}
 use native.Mathlib.Omega.{arith}
 use lib.Dec.{T}
-use Rattle.acts.specs.Acts.{byteOf, setTo, lookAt}
-use Rattle.acts.specs.declared.act.Act.{Act}
-use Rattle.acts.specs.declared.act.Act.the-variants.{Set, Look}
+use Rattle.knowledge_acts.specs.Acts.{byteOf, setTo, lookAt}
+use Rattle.knowledge_acts.specs.declared.act.Act.{Act}
+use Rattle.knowledge_acts.specs.declared.act.Act.the-variants.{Set, Look}
 use Rattle.plan.specs.Plans.{System, may, Lawful, Plan, stop, set-then, look-then, Permitted}
 use Rattle.plan.specs.Bytes.{encode}
 use Rattle.plan.proofs.Bytes.{byte-injective, byte-positive}

@@ -7,9 +7,9 @@ use native.Mathlib.Nat.{zero-add, suc-add, add-comm, le-dest}
 use native.Mathlib.Omega.{arith}
 use lib.Dec.{T}
 use Rattle.ground.proofs.Bools.{or-left, or-right, or-out}
-use Rattle.acts.specs.Acts.{setTo, lookAt}
-use Rattle.acts.specs.declared.act.Act.{Act}
-use Rattle.acts.specs.declared.act.Act.the-variants.{Set, Look}
+use Rattle.knowledge_acts.specs.Acts.{setTo, lookAt}
+use Rattle.knowledge_acts.specs.declared.act.Act.{Act}
+use Rattle.knowledge_acts.specs.declared.act.Act.the-variants.{Set, Look}
 use Rattle.plan.specs.Plans.{System, may, Lawful, Outcome, after-set, after-look, Plan, stop, set-then, look-then, Works, height}
 use Rattle.plan.proofs.Acts.{after-a-set, after-a-look, some-act, some-in, some-out, can, can-in, can-may, can-at}
 

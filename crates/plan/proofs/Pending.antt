@@ -7,9 +7,9 @@ use Prim.Native.Nat.{ℕ, _+_, _≤_}
 use native.Mathlib.Omega.{arith}
 use lib.Dec.{T}
 use lib.ListN.{length}
-use Rattle.acts.specs.Acts.{setTo, lookAt}
-use Rattle.acts.specs.declared.act.Act.the-variants.{Set, Look}
-use Rattle.acts.specs.declared.act.Act.{Act}
+use Rattle.knowledge_acts.specs.Acts.{setTo, lookAt}
+use Rattle.knowledge_acts.specs.declared.act.Act.the-variants.{Set, Look}
+use Rattle.knowledge_acts.specs.declared.act.Act.{Act}
 use Rattle.plan.specs.Plans.{System, may, Lawful}
 use Rattle.plan.specs.Check.{outcomes}
 use Rattle.plan.specs.Pending.{unknowns, Pending}

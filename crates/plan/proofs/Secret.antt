@@ -13,9 +13,9 @@ use Rattle.ground.specs.Table.{truth}
 use Rattle.ground.proofs.Bools.{T→false, decide, both}
 use Rattle.ground.proofs.Digits.{digit-lt}
 use Rattle.ground.proofs.Search.{all-at, all-intro, all-or}
-use Rattle.acts.specs.Seven.{startOf, afterSet, afterLook}
-use Rattle.acts.specs.Acts.{setTo, lookAt}
-use Rattle.acts.specs.declared.act.Act.the-variants.{Set, Look}
+use Rattle.knowledge_acts.specs.Seven.{startTold, afterSet, afterLook}
+use Rattle.knowledge_acts.specs.Acts.{setTo, lookAt}
+use Rattle.knowledge_acts.specs.declared.act.Act.the-variants.{Set, Look}
 use Rattle.knowledge.specs.Fits.{agrees, fits, implies, is, always, fitsStart, startSide, learnSettled}
 use Rattle.plan.specs.Plans.{System, Lawful, Plan, stop, set-then, look-then, Permitted, Works}
 use Rattle.plan.specs.Ranks.{Cannot}
@@ -23,12 +23,12 @@ use Rattle.plan.specs.Runs.{change, did, saw, run}
 use Rattle.plan.specs.Secret.{Twins}
 use Rattle.plan.specs.Pending.{nought}
 use Rattle.plan.proofs.Unknowns.{seven, set-known, look-known}
-use Rattle.acts.proofs.Outcomes.{set-here, set-other, look-here, look-other}
+use Rattle.knowledge_acts.proofs.Outcomes.{set-here, set-other, look-here, look-other}
 use Rattle.plan.proofs.Effects.{change-other, start-stays}
 
 -- what a look has shown at the start
-seen : (b x : Bool) → T (agrees (startOf (afterLook b)) x) → x ≡ b
-unfolding agrees startOf afterLook
+seen : (b x : Bool) → T (agrees (startTold (afterLook b)) x) → x ≡ b
+unfolding agrees startTold afterLook
 seen false false h = refl
 seen false true h = absurd h
 seen true false h = absurd h
@@ -59,7 +59,7 @@ module _ (n : ℕ) where
       (all-at n (λ j. agrees (startSide (digit 7 (setTo k i b)) j) (bit v j)) t j l))
 
   pub fits-look : (k i v : ℕ) (b : Bool) → digit 7 k i ≡ 0 → T (fitsStart n (digit 7 (lookAt k i b)) v) → T (fitsStart n (digit 7 k) v)
-  unfolding fitsStart fits agrees startOf
+  unfolding fitsStart fits agrees startTold
   fits-look k i v b z t = all-intro n _ (λ j l. elim (ℕ-discrete j i) [
     | yes e ↦ rw (e, z) tt
     | no ne ↦ rw (look-other k i b j ne) at (all-at n (λ j. agrees (startSide (digit 7 (lookAt k i b)) j) (bit v j)) t j l)

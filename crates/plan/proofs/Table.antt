@@ -1,8 +1,8 @@
 -- A table of ranks chooses the plan written: its entries say which acts lower the rank.
 use Prim.Native.Nat.{ℕ, _≤_}
 use native.Mathlib.Omega.{arith}
-use Rattle.acts.specs.Acts.{byteOf}
-use Rattle.acts.specs.declared.act.Act.{Act}
+use Rattle.knowledge_acts.specs.Acts.{byteOf}
+use Rattle.knowledge_acts.specs.declared.act.Act.{Act}
 use Rattle.plan.specs.Plans.{System}
 use Rattle.plan.specs.Ranks.{IsRank, Lowers, Chosen}
 use Rattle.plan.specs.Certificate.{Leads}

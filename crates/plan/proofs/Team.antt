@@ -11,9 +11,9 @@ use lib.Pow.{pow-mono}
 use Rattle.ground.specs.Digits.{digit, bit}
 use Rattle.ground.proofs.Bools.{and-left, and-right, lt-or-ge}
 use Rattle.ground.proofs.Digits.{digit-above}
-use Rattle.acts.specs.Acts.{settingOf, postOf, offered}
-use Rattle.acts.specs.declared.act.Act.{Act}
-use Rattle.acts.specs.declared.act.Act.the-variants.{Look}
+use Rattle.knowledge_acts.specs.Acts.{settingOf, postOf, offered}
+use Rattle.knowledge_acts.specs.declared.act.Act.{Act}
+use Rattle.knowledge_acts.specs.declared.act.Act.the-variants.{Look}
 use Rattle.knowledge.specs.Allowed.{permitted}
 use Rattle.plan.specs.Plans.{may, Lawful}
 use Rattle.plan.specs.Team.{ofTeam}

@@ -6,9 +6,9 @@ use mathlib.Core.Bool.{Bool, true, false, not, _&&_, _||_}
 use Prim.Native.Nat.{ℕ}
 use lib.Dec.{T}
 use Rattle.ground.proofs.Bools.{and-left, and-right, or-out, both}
-use Rattle.acts.specs.Acts.{setTo, lookAt}
-use Rattle.acts.specs.declared.act.Act.{Act}
-use Rattle.acts.specs.declared.act.Act.the-variants.{Set, Look}
+use Rattle.knowledge_acts.specs.Acts.{setTo, lookAt}
+use Rattle.knowledge_acts.specs.declared.act.Act.{Act}
+use Rattle.knowledge_acts.specs.declared.act.Act.the-variants.{Set, Look}
 use Rattle.knowledge.specs.Fits.{implies}
 use Rattle.plan.specs.Plans.{System, may, Lawful, Plan, stop, set-then, look-then, Works}
 use Rattle.plan.specs.Ranks.{Cannot}

@@ -10,9 +10,9 @@ use Rattle.ground.specs.Digits.{digit, put}
 use Rattle.ground.specs.Search.{all}
 use Rattle.ground.proofs.Bits.{digit-zero, digit-suc}
 use Rattle.ground.proofs.Digits.{digit-lt}
-use Rattle.acts.specs.Seven.{afterSet, afterLook}
-use Rattle.acts.specs.Acts.{setTo, lookAt}
-use Rattle.acts.proofs.Seven.{at-digit, set-lt, look-lt}
+use Rattle.knowledge_acts.specs.Seven.{afterSet, afterLook}
+use Rattle.knowledge_acts.specs.Acts.{setTo, lookAt}
+use Rattle.knowledge_acts.proofs.Seven.{at-digit, set-lt, look-lt}
 use Rattle.plan.specs.Pending.{nought, unknowns}
 
 pub seven : 0 < 7

@@ -9,16 +9,16 @@ use native.Mathlib.Nat.{le-antisymm}
 use native.Mathlib.Omega.{arith}
 use lib.Dec.{T}
 use Rattle.ground.proofs.Bools.{lt-or-ge}
-use Rattle.acts.specs.Acts.{byteOf, actOf, setTo, lookAt}
-use Rattle.acts.specs.declared.act.Act.{Act}
-use Rattle.acts.specs.declared.act.Act.the-variants.{Set, Look}
-use Rattle.acts.specs.declared.act.Named.{Named}
-use Rattle.acts.specs.declared.act.Named.the-variants.{One, Nothing}
+use Rattle.knowledge_acts.specs.Acts.{byteOf, actOf, setTo, lookAt}
+use Rattle.knowledge_acts.specs.declared.act.Act.{Act}
+use Rattle.knowledge_acts.specs.declared.act.Act.the-variants.{Set, Look}
+use Rattle.knowledge_acts.specs.declared.act.Named.{Named}
+use Rattle.knowledge_acts.specs.declared.act.Named.the-variants.{One, Nothing}
 use Rattle.plan.specs.Plans.{System, Lawful, Outcome, after-set, after-look, Plan, stop, set-then, look-then, Works, height}
 use Rattle.plan.specs.Ranks.{IsRank, Lowers, Chosen, Written}
 use Rattle.plan.proofs.Acts.{can, can-in, can-may, can-at}
 use Rattle.plan.proofs.Layers.{below, complete, layer-out}
-use Rattle.acts.proofs.Acts.{act-of-byte}
+use Rattle.knowledge_acts.proofs.Acts.{act-of-byte}
 use Rattle.plan.proofs.Bytes.{byte-of-act, byte-injective}
 use Rattle.plan.proofs.Ranks.{first-of, rank-unique, rank-least, rank-in, rank-out}
 

@@ -1,8 +1,8 @@
 -- "A plan is written act first, then what follows; after a look the false outcome's plan, then the true one's. A stop is 0."
 use mathlib.Core.List.{List, [], _∷_, _++_}
 use Prim.Native.Nat.{ℕ}
-use Rattle.acts.specs.Acts.{byteOf}
-use Rattle.acts.specs.declared.act.Act.the-variants.{Set, Look}
+use Rattle.knowledge_acts.specs.Acts.{byteOf}
+use Rattle.knowledge_acts.specs.declared.act.Act.the-variants.{Set, Look}
 use Rattle.plan.specs.Plans.{Plan, stop, set-then, look-then}
 
 abbrev pub encode : Plan → List ℕ

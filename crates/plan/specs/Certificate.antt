@@ -4,7 +4,7 @@ use mathlib.Core.Path.{_≡_}
 use mathlib.Core.Logic.{_⊎_}
 use Prim.Native.Nat.{ℕ, _≤_, _<_}
 use lib.Dec.{T}
-use Rattle.acts.specs.declared.act.Act.{Act}
+use Rattle.knowledge_acts.specs.declared.act.Act.{Act}
 use Rattle.plan.specs.Plans.{System, may, Outcome}
 
 -- an act that may be done at k, to outcomes with entries below h

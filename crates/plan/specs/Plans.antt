@@ -5,9 +5,9 @@ use Prim.Native.Nat.{ℕ, suc, max, _<_}
 use mathlib.Core.Path.{_≡_}
 use lib.Dec.{T}
 use Rattle.ground.specs.Digits.{digit}
-use Rattle.acts.specs.Acts.{settingOf, postOf, setTo, lookAt}
-use Rattle.acts.specs.declared.act.Act.{Act}
-use Rattle.acts.specs.declared.act.Act.the-variants.{Set, Look}
+use Rattle.knowledge_acts.specs.Acts.{settingOf, postOf, setTo, lookAt}
+use Rattle.knowledge_acts.specs.declared.act.Act.{Act}
+use Rattle.knowledge_acts.specs.declared.act.Act.the-variants.{Set, Look}
 
 -- what a question fixes: the acts of its book and team, those that are permitted at a state, and the states at which the goal is
 -- settled

@@ -5,9 +5,9 @@ use mathlib.Core.Bool.{false, true}
 use Prim.Native.Nat.{ℕ, _≤_, _<_}
 use lib.Dec.{T}
 use Rattle.ground.specs.Search.{Least}
-use Rattle.acts.specs.Acts.{byteOf, setTo, lookAt}
-use Rattle.acts.specs.declared.act.Act.{Act}
-use Rattle.acts.specs.declared.act.Act.the-variants.{Set, Look}
+use Rattle.knowledge_acts.specs.Acts.{byteOf, setTo, lookAt}
+use Rattle.knowledge_acts.specs.declared.act.Act.{Act}
+use Rattle.knowledge_acts.specs.declared.act.Act.the-variants.{Set, Look}
 use Rattle.plan.specs.Plans.{System, may, Outcome, Plan, stop, set-then, look-then, Works, height}
 
 -- a working plan of height h from k

@@ -3,7 +3,7 @@ use mathlib.Core.Bool.{Bool}
 use mathlib.Core.List.{List}
 use Prim.Native.Nat.{ℕ}
 use Rattle.ground.specs.Digits.{digit}
-use Rattle.acts.specs.Acts.{offered}
+use Rattle.knowledge_acts.specs.Acts.{offered}
 use Rattle.knowledge.specs.Allowed.{permitted}
 use Rattle.plan.specs.Plans.{System}
 

@@ -6,7 +6,7 @@ use Prim.Native.Nat.{ℕ, _^_, _≤_, _<_}
 use lib.Dec.{lit<}
 use lib.ListN.{length}
 use Rattle.ground.specs.Digits.{bit}
-use Rattle.acts.proofs.Seven.{first-lt}
+use Rattle.knowledge_acts.proofs.Seven.{first-lt}
 use Rattle.knowledge.specs.Number.{firstAt}
 use Rattle.knowledge.proofs.Number.{sum-lt}
 use Rattle.ground.specs.Order.{only, First}
@@ -17,7 +17,7 @@ use Rattle.question.specs.Rows.{questionRows}
 use Rattle.question.specs.Asks.{ValidQuestion}
 use Rattle.question.specs.declared.Question.{Question}
 use Rattle.question.proofs.RowLaws.{question-clear}
-use Rattle.step.proofs.RefusalLaws.{fault-number, fault-place}
+use Rattle.plancheck.proofs.RefusalLaws.{fault-number, fault-place}
 use Rattle.plancheck.specs.Checks.{checkRows, questionStart, JudgedAs, Refuses, Checks}
 use Rattle.plancheck.specs.Inner.{answerOf}
 use Rattle.plancheck.specs.declared.answer.CheckAnswer.{CheckAnswer}

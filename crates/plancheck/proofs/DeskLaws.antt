@@ -9,19 +9,19 @@ use native.Mathlib.Omega.{arith}
 use lib.Dec.{T}
 use lib.ListN.{length, getD, set, drop, length-set, drop-of-length-le}
 use lib.Seq.{getD-set-same, getD-set-other, drop-cons}
-use Rattle.acts.specs.Acts.{setTo, lookAt}
-use Rattle.acts.specs.declared.act.Act.the-variants.{Set, Look}
-use Rattle.acts.proofs.Outcomes.{set-below, look-below}
+use Rattle.knowledge_acts.specs.Acts.{setTo, lookAt}
+use Rattle.knowledge_acts.specs.declared.act.Act.the-variants.{Set, Look}
+use Rattle.knowledge_acts.proofs.Outcomes.{set-below, look-below}
 use Rattle.plan.specs.Plans.{System, may, Lawful}
 use Rattle.plan.specs.Check.{readByte, judge, check}
 use Rattle.plan.specs.Check as C
 use Rattle.plan.proofs.Check.{judge-on, judge-fails}
 use Rattle.plan.proofs.Pending.{pending-first, pending-most, pending-stop, pending-set, pending-look}
-use Rattle.step.specs.Reading.{readingOf}
-use Rattle.step.proofs.ByteLaws.{Step, stops, sets, looks, faults, step}
+use Rattle.plancheck.specs.Reading.{readingOf}
+use Rattle.plancheck.proofs.ByteLaws.{Step, stops, sets, looks, faults, step}
 use Rattle.plancheck.specs.Inner.{answerOf, down, firstDesk, stoppedDesk, standingDesk, afterDesk, HasRoom, endedAt, Held, HeldAt, Ready, answerAt, answerFrom, Turned}
-use Rattle.step.specs.declared.refusal.Refusal.{Refusal}
-use Rattle.step.specs.declared.refusal.Refusal.the-variants.{LeftOver}
+use Rattle.plancheck.specs.declared.refusal.Refusal.{Refusal}
+use Rattle.plancheck.specs.declared.refusal.Refusal.the-variants.{LeftOver}
 use Rattle.plancheck.specs.declared.answer.CheckAnswer.{CheckAnswer}
 use Rattle.plancheck.specs.declared.desk.Stands.{Stands}
 use Rattle.plancheck.specs.declared.desk.Stands.the-variants.{Open, Whole, Fails as Failed}

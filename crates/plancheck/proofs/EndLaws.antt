@@ -9,7 +9,7 @@ use Rattle.plan.specs.Bytes.{encode}
 use Rattle.plan.specs.Check.{too-soon, left-over, check}
 use Rattle.plan.proofs.Check.{check-exact}
 use Rattle.plan.proofs.Faults.{Reads, Wrong, judge-reads}
-use Rattle.step.proofs.ByteLaws.{fault-means}
+use Rattle.plancheck.proofs.ByteLaws.{fault-means}
 
 pub ends : (S : System) (pending left : List ℕ) → Wrong S pending left too-soon → (left ≡ []) × ((k : ℕ) × ((ks : List ℕ) × (pending ≡ k ∷ ks)))
 ends S [] [] w = absurd w

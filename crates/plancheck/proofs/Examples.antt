@@ -10,11 +10,11 @@ use lib.ListN.{replicate}
 use Rattle.ground.specs.Digits.{digit, put, bit}
 use Rattle.ground.specs.Search.{all}
 use Rattle.ground.specs.Table.{truth}
-use Rattle.block.specs.Rule.{rule}
-use Rattle.block.specs.declared.rule.Right.the-variants.{Set as set-rule}
-use Rattle.acts.specs.Seven.{startOf, nowOf, afterSet, firstDigit}
-use Rattle.acts.specs.declared.act.Act.the-variants.{Set}
-use Rattle.acts.specs.Acts.{actOf, offered, setTo}
+use Rattle.book_block.specs.Rule.{rule}
+use Rattle.book_block.specs.declared.rule.Right.the-variants.{Set as set-rule}
+use Rattle.knowledge_acts.specs.Seven.{startTold, nowTold, afterSet, firstDigit}
+use Rattle.knowledge_acts.specs.declared.act.Act.the-variants.{Set}
+use Rattle.knowledge_acts.specs.Acts.{actOf, offered, setTo}
 use Rattle.knowledge.specs.Number.{sumOf, firstAt}
 use Rattle.knowledge.specs.Fits.{agrees, fits, always, known, learnSettled}
 use Rattle.knowledge.specs.Allowed.{permitted}
@@ -26,7 +26,7 @@ use Rattle.question.specs.Question.{systemOf, startNumber}
 use Rattle.question.specs.Asks.{ValidQuestion}
 use Rattle.question.specs.declared.Question.{Question}
 use Rattle.plancheck.specs.Checks.{Checks}
-use Rattle.step.specs.declared.refusal.Refusal.the-variants.{NotSettled}
+use Rattle.plancheck.specs.declared.refusal.Refusal.the-variants.{NotSettled}
 use Rattle.plancheck.specs.declared.answer.CheckAnswer.the-variants.{Refused}
 
 -- the tables over one setting of `1`, `~a` and `a`
@@ -46,12 +46,12 @@ p9-question = record { team = 1; known = 0; values = 0 }
 -- "n = 1, look and set rules `1`, make `~a`, learn `a`", "the plan 1, 0": the look rule is not asked for
 -- its first byte is a set that may be done
 first-set : (book : List ℕ) → rule book 0 0 set-rule ≡ always-true → T (may (systemOf 1 book 1 not-a is-a) 0 (Set 0 0 false))
-unfolding systemOf offered permitted known always fits agrees nowOf truth all digit bit
+unfolding systemOf offered permitted known always fits agrees nowTold truth all digit bit
 first-set book e = subst (λ (t : List ℕ). T (known 1 (digit 7 0) t)) (sym e) tt
 
 -- after which nothing is known of the start, so that the learn formula is not settled
 then-stop : (book : List ℕ) → T (not (systemOf 1 book 1 not-a is-a .goal (setTo 0 0 false)))
-unfolding systemOf goalSettled allSettled learnTable setTo known learnSettled always fits agrees afterSet nowOf startOf truth all digit put bit
+unfolding systemOf goalSettled allSettled learnTable setTo known learnSettled always fits agrees afterSet nowTold startTold truth all digit put bit
 then-stop book = tt
 
 pub p10-judged : (book : List ℕ) → rule book 0 0 set-rule ≡ always-true

@@ -7,7 +7,7 @@ use lib.ListN.{length}
 use native.Mathlib.Omega.{arith}
 use Rattle.ground.specs.Order.{First, Clear, only}
 use Rattle.ground.proofs.OrderLaws.{none-only, first-unique, first-clear, clear-append, first-split}
-use Rattle.sound.proofs.Theorems.{sound-one}
+use Rattle.book_sound.proofs.Theorems.{sound-one}
 use Rattle.plan.specs.Check.{Fault, Verdict, accepted, faulty, check}
 use Rattle.question.specs.Rows.{questionRows}
 use Rattle.question.specs.Rows as Q
@@ -15,10 +15,10 @@ use Rattle.question.specs.declared.Question.{Question}
 use Rattle.question.specs.declared.Refusal as R
 use Rattle.question.proofs.RowLaws.{question-clear}
 use Rattle.question.proofs.Small.{question-number}
-use Rattle.step.specs.Refusals.{number, place, faultNumber, refusalOf}
-use Rattle.step.specs.declared.refusal.Refusal.{Refusal}
-use Rattle.step.specs.declared.refusal.Refusal.the-variants.{Question as OfQuestion, TooLong}
-use Rattle.step.proofs.RefusalLaws.{fault-number, fault-place, refusal-one, fault-one, fault-past}
+use Rattle.plancheck.specs.Refusals.{number, place, faultNumber, refusalOf}
+use Rattle.plancheck.specs.declared.refusal.Refusal.{Refusal}
+use Rattle.plancheck.specs.declared.refusal.Refusal.the-variants.{Question as OfQuestion, TooLong}
+use Rattle.plancheck.proofs.RefusalLaws.{fault-number, fault-place, refusal-one, fault-one, fault-past}
 use Rattle.plancheck.specs.Checks.{checkRows, systemFor, questionStart, JudgedAs, Checks}
 use Rattle.plancheck.specs.Inner.{answerOf}
 use Rattle.plancheck.specs.declared.answer.CheckAnswer.{CheckAnswer}

@@ -12,9 +12,9 @@ use Rattle.plan.proofs.Faults.{fault-out}
 use Rattle.question.specs.Rows.{questionRows}
 use Rattle.question.specs.declared.Question.{Question}
 use Rattle.question.proofs.Small as Q
-use Rattle.step.specs.Refusals.{number, place}
+use Rattle.plancheck.specs.Refusals.{number, place}
 use Rattle.plancheck.specs.Checks.{checkRows, systemFor, Checks}
-use Rattle.step.specs.declared.refusal.Refusal.{Refusal}
+use Rattle.plancheck.specs.declared.refusal.Refusal.{Refusal}
 use Rattle.plancheck.specs.declared.answer.CheckAnswer.the-variants.{Refused}
 
 row-place : (book : List ℕ) (q : Question) (make learn plan : List ℕ) (x p : ℕ) → First (checkRows book q make learn plan) x p → p ≤ 8

@@ -5,8 +5,8 @@ use Prim.Native.Nat.{ℕ, _<_}
 use native.Mathlib.Omega.{arith}
 use lib.Dec.{T}
 use Rattle.ground.specs.Digits.{digit, bit}
-use Rattle.acts.specs.Acts.{postOf}
-use Rattle.acts.specs.declared.act.Act.the-variants.{Look}
+use Rattle.knowledge_acts.specs.Acts.{postOf}
+use Rattle.knowledge_acts.specs.declared.act.Act.the-variants.{Look}
 use Rattle.knowledge.specs.Allowed.{allowed}
 use Rattle.knowledge.proofs.Allowed.{allowed-offered, allowed-permitted, permitted-look}
 use Rattle.plan.specs.Plans.{Lawful}

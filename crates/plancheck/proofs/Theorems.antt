@@ -11,7 +11,7 @@ use lib.Dec.{lit≤}
 use lib.ListN.{length}
 use Rattle.ground.proofs.Bools.{lt-or-ge}
 use Rattle.ground.specs.Order.{First}
-use Rattle.sound.proofs.Theorems.{sound-one}
+use Rattle.book_sound.proofs.Theorems.{sound-one}
 use Rattle.plan.specs.Plans.{Lawful, Plan, Works, height}
 use Rattle.plan.specs.Ranks.{IsRank, Written}
 use Rattle.plan.specs.Bytes.{encode}
@@ -27,10 +27,10 @@ use Rattle.question.specs.Rows as Q
 use Rattle.question.specs.Asks.{ValidQuestion}
 use Rattle.question.specs.declared.Question.{Question}
 use Rattle.question.specs.declared.Refusal as R
-use Rattle.step.specs.Refusals.{refusalOf}
+use Rattle.plancheck.specs.Refusals.{refusalOf}
 use Rattle.plancheck.specs.Checks.{systemFor, questionStart, JudgedAs, Checks}
 use Rattle.plancheck.specs.Inner.{answerOf}
-use Rattle.step.specs.declared.refusal.Refusal.the-variants.{Question as OfQuestion, TooLong, TooSoon, LeftOver}
+use Rattle.plancheck.specs.declared.refusal.Refusal.the-variants.{Question as OfQuestion, TooLong, TooSoon, LeftOver}
 use Rattle.plancheck.specs.declared.answer.CheckAnswer.{CheckAnswer}
 use Rattle.plancheck.specs.declared.answer.CheckAnswer.the-variants.{Yes, Refused}
 use Rattle.plancheck.proofs.SystemLaws.{valid-lawful}
@@ -98,7 +98,7 @@ module _ {book : List ℕ} {q : Question} {make learn : List ℕ} {n m : ℕ} (v
 
     module _ (short : length plan ≤ 32640) where
       -- 17 to 21: "the first fault in reading order". All bytes before it read without one, and it is the fault of the byte that stands
-      -- there, or of the end; `fault-means` of step/proofs/ByteLaws says in paper 01's words what a byte's fault is
+      -- there, or of the end; `fault-means` of plancheck/proofs/ByteLaws says in paper 01's words what a byte's fault is
       pub fault-exact : (f : Fault) (i : ℕ) → (r ≡ Refused (refusalOf f i)) ↔ Faults.First (systemFor n book q make learn) (questionStart q ∷ []) plan f i
       fault-exact f i = (
         λ e. let w = fault-out (systemFor n book q make learn) plan (questionStart q ∷ []) 0 f i

@@ -12,7 +12,7 @@ use Rattle.question.specs.Question.{systemOf, startNumber}
 use Rattle.question.specs.Rows.{questionRows}
 use Rattle.question.specs.Asks.{ValidQuestion}
 use Rattle.question.specs.declared.Question.{Question}
-use Rattle.step.specs.Refusals.{number, place, faultNumber}
+use Rattle.plancheck.specs.Refusals.{number, place, faultNumber}
 use Rattle.plancheck.specs.declared.answer.CheckAnswer.{CheckAnswer}
 use Rattle.plancheck.specs.declared.answer.CheckAnswer.the-variants.{Yes, Refused}
 

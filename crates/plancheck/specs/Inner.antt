@@ -7,12 +7,12 @@ use lib.ListN.{length, getD, set, replicate}
 use Rattle.plan.specs.Plans.{System}
 use Rattle.plan.specs.Pending.{Pending}
 use Rattle.plan.specs.Check.{Verdict, accepted, faulty, judge}
-use Rattle.step.specs.Refusals.{refusalOf}
-use Rattle.step.specs.declared.refusal.Refusal.the-variants.{TooSoon}
+use Rattle.plancheck.specs.Refusals.{refusalOf}
+use Rattle.plancheck.specs.declared.refusal.Refusal.the-variants.{TooSoon}
 use Rattle.plancheck.specs.declared.answer.CheckAnswer.{CheckAnswer}
 use Rattle.plancheck.specs.declared.answer.CheckAnswer.the-variants.{Yes, Refused}
-use Rattle.step.specs.declared.reading.Reading.{Reading}
-use Rattle.step.specs.declared.reading.Reading.the-variants.{Stops, Goes, Parts, Fails}
+use Rattle.plancheck.specs.declared.reading.Reading.{Reading}
+use Rattle.plancheck.specs.declared.reading.Reading.the-variants.{Stops, Goes, Parts, Fails}
 use Rattle.plancheck.specs.declared.desk.Stands.{Stands}
 use Rattle.plancheck.specs.declared.desk.Stands.the-variants.{Open, Whole, Fails as Failed}
 use Rattle.plancheck.specs.declared.desk.Desk.{Desk}

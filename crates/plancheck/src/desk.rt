@@ -1,8 +1,8 @@
 // Where the reading of a plan stands.
 use crate::answer::CheckAnswer;
+use crate::reading::Reading;
+use crate::refusal::Refusal;
 use knowledge::Knowledge;
-use step::Reading;
-use step::Refusal;
 ghost use mathlib.Core.Path.{_≡_};
 ghost use Prim.Native.Nat.{_≤_, _<_};
 ghost use lib.ListN.{length};

@@ -4,8 +4,11 @@
 // this crate alone: up to seven settings, and numbers of seven digits.
 mod answer;
 mod desk;
+mod reading;
+mod refusal;
 mod walk;
 
 pub use answer::CheckAnswer;
+pub use refusal::Refusal;
 pub use walk::PLAN_MOST;
 pub use walk::check;

@@ -3,11 +3,11 @@
 use crate::answer::CheckAnswer;
 use crate::desk::Desk;
 use crate::desk::Stands;
+use crate::reading::read_byte;
+use crate::refusal::Refusal;
 use knowledge::Knowledge;
 use question::Asked;
 use question::Question;
-use step::Refusal;
-use step::read_byte;
 ghost use mathlib.Core.Path.{_≡_};
 ghost use Prim.Native.Nat.{_^_, _≤_, _<_};
 ghost use Rattle.plan.specs.Check.{check};

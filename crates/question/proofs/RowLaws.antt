@@ -3,16 +3,16 @@ use mathlib.Core.Path.{_≡_, refl, sym, subst}
 use mathlib.Core.Logic.{inl, inr}
 use mathlib.Core.List.{List, [], _∷_}
 use Prim.Native.Nat.{ℕ}
-use Rattle.sound.specs.Sound.{Sound}
+use Rattle.book_sound.specs.Sound.{Sound}
 use Rattle.ground.specs.Order.{only, First, Clear}
-use Rattle.sound.specs.Refusals.{settingsOf, postsOf, bookRows}
-use Rattle.sound.specs.Refusals.{number, place}
-use Rattle.sound.specs.Promise.{Judges}
-use Rattle.sound.specs.declared.refusal.Refusal as B
-use Rattle.sound.specs.declared.ReadAnswer.{ReadAnswer}
-use Rattle.sound.specs.declared.ReadAnswer.the-variants.{Book, Refused}
+use Rattle.book_sound.specs.Refusals.{settingsOf, postsOf, bookRows}
+use Rattle.book_sound.specs.Refusals.{number, place}
+use Rattle.book_sound.specs.Promise.{Judges}
+use Rattle.book_sound.specs.declared.refusal.Refusal as B
+use Rattle.book_sound.specs.declared.ReadAnswer.{ReadAnswer}
+use Rattle.book_sound.specs.declared.ReadAnswer.the-variants.{Book, Refused}
 use Rattle.ground.proofs.OrderLaws.{least-only, none-only, first-left, first-right, clear-append}
-use Rattle.sound.proofs.SoundLaws.{sound-settings, sound-posts, sound-clear}
+use Rattle.book_sound.proofs.SoundLaws.{sound-settings, sound-posts, sound-clear}
 use Rattle.question.specs.Rows.{TeamFits, KnownFits, GoalFits, questionRows}
 
 -- what `sound` ensures of its answer, once the answer is known

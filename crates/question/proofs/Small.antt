@@ -6,11 +6,11 @@ use native.Mathlib.Omega.{arith}
 use lib.Dec.{lit<, lit≤}
 use Rattle.ground.specs.Search.{Least}
 use Rattle.ground.specs.Order.{First, only}
-use Rattle.sound.specs.Refusals.{bookRows, readRows}
+use Rattle.book_sound.specs.Refusals.{bookRows, readRows}
 use Rattle.ground.proofs.OrderLaws.{first-left, first-split}
-use Rattle.sound.proofs.Theorems.{read-place-most}
-use Rattle.sound.proofs.Small as B
-use Rattle.sound.specs.declared.refusal.Refusal.the-variants.{Settings, Length, Check, Head, StrayBit, Room}
+use Rattle.book_sound.proofs.Theorems.{read-place-most}
+use Rattle.book_sound.proofs.Small as B
+use Rattle.book_sound.specs.declared.refusal.Refusal.the-variants.{Settings, Length, Check, Head, StrayBit, Room}
 use Rattle.question.specs.Rows.{number, questionRows}
 use Rattle.question.specs.declared.Refusal.{Refusal}
 use Rattle.question.specs.declared.Refusal.the-variants.{Book, Team, Known, Goal, Ranks, PlanRoom}

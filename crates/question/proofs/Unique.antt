@@ -11,9 +11,9 @@ use Rattle.knowledge.specs.Fits.{known}
 use Rattle.ground.specs.Order.{First}
 use Rattle.ground.proofs.Bits.{below-power}
 use Rattle.ground.proofs.OrderLaws.{first-unique, first-clear}
-use Rattle.sound.proofs.Theorems.{sound-one}
-use Rattle.sound.proofs.Theorems as B
-use Rattle.sound.specs.declared.refusal.Refusal.the-variants.{Settings, Length, Check, Head, StrayBit, Room}
+use Rattle.book_sound.proofs.Theorems.{sound-one}
+use Rattle.book_sound.proofs.Theorems as B
+use Rattle.book_sound.specs.declared.refusal.Refusal.the-variants.{Settings, Length, Check, Head, StrayBit, Room}
 use Rattle.plan.specs.Plans.{Lawful}
 use Rattle.plan.proofs.Team.{team-lawful}
 use Rattle.knowledge.specs.Goal.{goalSettled}

@@ -2,7 +2,7 @@
 use mathlib.Core.List.{List}
 use Prim.Native.Nat.{ℕ}
 use Rattle.ground.specs.Order.{First}
-use Rattle.sound.specs.Sound.{Sound}
+use Rattle.book_sound.specs.Sound.{Sound}
 use Rattle.question.specs.Rows.{number, place, TeamFits, KnownFits, GoalFits, questionRows}
 use Rattle.question.specs.declared.Question.{Question}
 use Rattle.question.specs.declared.Asked.{Asked}

@@ -1,5 +1,5 @@
 -- "A question: the book's 6 to 9, then 10, 11, 12, 13, 14." Each refusal is given exactly when what it denies does not hold. 13 is the
--- finder's own (finder/specs/Finds), 14 an answer's (answer/specs/Answers).
+-- finder's own (finder/specs/Finds), 14 an answer's (finder/specs/Answers).
 use mathlib.Core.Path.{_≡_}
 use mathlib.Core.List.{List, [], _∷_, _++_}
 use Prim.Native.Nat.{ℕ, _%_, _≤_, _<_}
@@ -8,8 +8,8 @@ use lib.ListN.{length}
 use Rattle.ground.specs.Digits.{bit}
 use Rattle.ground.specs.Table.{Within}
 use Rattle.ground.specs.Order.{Row, only}
-use Rattle.sound.specs.Refusals.{settingsOf, postsOf, bookRows}
-use Rattle.sound.specs.Refusals as B
+use Rattle.book_sound.specs.Refusals.{settingsOf, postsOf, bookRows}
+use Rattle.book_sound.specs.Refusals as B
 use Rattle.knowledge.specs.Goal.{learnCount, learnTable}
 use Rattle.question.specs.declared.Refusal.{Refusal}
 use Rattle.question.specs.declared.Refusal.the-variants.{Book, Team, Known, Goal, Ranks, PlanRoom}

@@ -1,6 +1,6 @@
 // A question to the finder or to the plan check: who asks, what they know, the goal, and which of refusals
 // 6 to 12 it meets. It writes nothing.
-use sound::ReadAnswer;
+use book_sound::ReadAnswer;
 ghost use mathlib.Core.Path.{_≡_};
 ghost use Prim.Native.Nat.{_≤_};
 ghost use Rattle.ground.specs.Tells.{Tells};
@@ -17,7 +17,7 @@ pub struct Question {
 
 pub enum Refusal {
     // The book is no book: 6 to 9.
-    Book(sound::Refusal),
+    Book(book_sound::Refusal),
     // The team is empty or has a post that the book has not.
     Team,
     // A setting past the book's is known, or one that is not known has a value.
@@ -129,7 +129,7 @@ fn learn_within(n: u8, learn: &[u8]) -> bool
 pub fn ask(book: &[u8], question: Question, make: &[u8], learn: &[u8]) -> Asked
     ensures { λ r. ⌜ Asks (now (book .entry)) question (now (make .entry)) (now (learn .entry)) r ⌝ }
 {
-    match sound::sound(book) {
+    match book_sound::sound(book) {
         ReadAnswer::Refused(why) => Asked::Not(Refusal::Book(why)),
         ReadAnswer::Book { settings, posts } => {
             if !team_fits(posts, question.team) {

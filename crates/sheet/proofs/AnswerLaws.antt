@@ -4,16 +4,16 @@ use mathlib.Core.List.{List}
 use Prim.Native.Nat.{ℕ}
 use Rattle.book.specs.Written.{bookOf}
 use Rattle.plan.specs.Plans.{System}
-use Rattle.printing.specs.Printed.{refusedText, Prints}
+use Rattle.print_answer.specs.Printed.{refusedText, Prints}
 use Rattle.question.specs.Question.{systemOf}
-use Rattle.desk.specs.Desk.{number}
-use Rattle.desk.specs.declared.desk.Desk.{Desk}
-use Rattle.desk.specs.declared.desk.Fault.{Fault}
-use Rattle.lines.specs.Reading.{Meaning, refused, stated, meaning}
-use Rattle.lines.specs.Reads.{Reads}
-use Rattle.lines.specs.declared.Told.{Told}
-use Rattle.lines.specs.declared.Told.the-variants.{Stated, Refused}
-use Rattle.lines.proofs.Taken.{stated-written}
+use Rattle.sheet_reading.specs.Desk.{number}
+use Rattle.sheet_reading.specs.declared.desk.Desk.{Desk}
+use Rattle.sheet_reading.specs.declared.desk.Fault.{Fault}
+use Rattle.sheet_reading.specs.Reading.{Meaning, refused, stated, meaning}
+use Rattle.sheet_reading.specs.Reads.{Reads}
+use Rattle.sheet_reading.specs.declared.Told.{Told}
+use Rattle.sheet_reading.specs.declared.Told.the-variants.{Stated, Refused}
+use Rattle.sheet_reading.proofs.Taken.{stated-written}
 use Rattle.sheet.specs.Answer.{PrintsFound, Prints-outcome, Answers}
 use Rattle.sheet.specs.Inner.{Whole, rightsIn, learnIn, bookIn, systemIn, startIn}
 use Rattle.sheet.proofs.DeskRights.{desk-question}

@@ -15,29 +15,29 @@ use Rattle.book.specs.declared.writing.WriteAnswer.{WriteAnswer}
 use Rattle.book.specs.declared.writing.WriteAnswer.the-variants.{Written as BookWritten}
 use Rattle.ground.proofs.OrderLaws.{first-clear}
 use Rattle.book.proofs.WriteLaws.{length-book}
-use Rattle.sound.proofs.Theorems.{sound-one}
+use Rattle.book_sound.proofs.Theorems.{sound-one}
 use Rattle.book.proofs.Theorems.{writes-one}
 use Rattle.plan.specs.Plans.{Lawful, Plan}
 use Rattle.plan.specs.Ranks.{Written}
 use Rattle.plan.specs.Bytes.{encode}
 use Rattle.plan.proofs.Size.{works-permitted}
 use Rattle.plan.proofs.Written.{written-works}
-use Rattle.listing.specs.Listed.{Lettered}
-use Rattle.listing.proofs.Theorems.{permitted-lettered}
-use Rattle.printing.specs.Printed.{cannotText, reachText, Prints}
+use Rattle.print_answer.specs.Listed.{Lettered}
+use Rattle.print_answer.proofs.Theorems.{permitted-lettered}
+use Rattle.print_answer.specs.Printed.{cannotText, reachText, Prints}
 use Rattle.question.specs.Question.{systemOf, startNumber}
 use Rattle.question.specs.Rows.{number, place}
 use Rattle.question.specs.Asks.{ValidQuestion}
 use Rattle.finder.specs.Finds.{Finds, findRows}
-use Rattle.answer.specs.Answers.{Answers}
+use Rattle.finder.specs.Answers.{Answers}
 use Rattle.question.specs.declared.Question.{Question as Asking}
 use Rattle.question.specs.declared.Refusal.{Refusal}
 use Rattle.question.specs.declared.Refusal.the-variants.{Book, Team, Known, Goal, Ranks, PlanRoom}
-use Rattle.answer.specs.declared.Answer.{Answer}
-use Rattle.answer.specs.declared.Answer.the-variants.{Reach, Cannot, Refused}
+use Rattle.finder.specs.declared.answer.Answer.{Answer}
+use Rattle.finder.specs.declared.answer.Answer.the-variants.{Reach, Cannot, Refused}
 use Rattle.question.proofs.Unique.{lawful}
 use Rattle.finder.proofs.Unique.{find-clear}
-use Rattle.desk.specs.declared.desk.Desk.{Desk}
+use Rattle.sheet_reading.specs.declared.desk.Desk.{Desk}
 use Rattle.sheet.specs.Answer.{Question, PrintsFound}
 use Rattle.sheet.specs.Inner.{Whole, rightsIn, learnIn, bookIn, systemIn, startIn}
 use Rattle.sheet.proofs.SheetQuestion.{asked-writable, asked-valid, asked-most}

@@ -11,20 +11,20 @@ use lib.ListN.{length, getD, take, replicate}
 use lib.Seq.{length-take-le, getD-take}
 use Rattle.ground.specs.Text.{bytes}
 use Rattle.ground.proofs.Bools.{decide, and-right, T→false}
-use Rattle.grammar.specs.Grammar.{text}
+use Rattle.formula_grammar.specs.Grammar.{text}
 use Rattle.formula.specs.Read.{Accepts}
-use Rattle.block.specs.Rule.{tablePlace, table}
-use Rattle.sound.specs.Sound.{tablesOf}
-use Rattle.block.specs.declared.rule.Right.{Right}
-use Rattle.block.specs.declared.rule.Right.the-variants.{Look, Set}
+use Rattle.book_block.specs.Rule.{tablePlace, table}
+use Rattle.book_sound.specs.Sound.{tablesOf}
+use Rattle.book_block.specs.declared.rule.Right.{Right}
+use Rattle.book_block.specs.declared.rule.Right.the-variants.{Look, Set}
 use Rattle.ground.proofs.Lists.{getD-part, part-same}
-use Rattle.sound.proofs.RightsLaws.{length-tables}
-use Rattle.block.proofs.RuleLaws.{place-most}
-use Rattle.desk.specs.Sheet.{Rule, Sheet, concerns, isStated, ruleText}
-use Rattle.desk.specs.Desk.{TablesOf, slotOf, tableIn, Slot, Holds}
-use Rattle.desk.specs.declared.desk.Desk.{Desk}
-use Rattle.desk.proofs.HoldLaws.{nought-accepts}
-use Rattle.lines.specs.Grammar.{RulesFit, WellFormed}
+use Rattle.book_sound.proofs.RightsLaws.{length-tables}
+use Rattle.book_block.proofs.RuleLaws.{place-most}
+use Rattle.sheet_reading.specs.Sheet.{Rule, Sheet, concerns, isStated, ruleText}
+use Rattle.sheet_reading.specs.Desk.{TablesOf, slotOf, tableIn, Slot, Holds}
+use Rattle.sheet_reading.specs.declared.desk.Desk.{Desk}
+use Rattle.sheet_reading.proofs.HoldLaws.{nought-accepts}
+use Rattle.sheet_reading.specs.Grammar.{RulesFit, WellFormed}
 use Rattle.sheet.specs.Answer.{Question}
 use Rattle.sheet.specs.Inner.{rightsIn, learnIn}
 

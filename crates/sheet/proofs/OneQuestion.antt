@@ -9,21 +9,21 @@ use lib.ListN.{length, getD}
 use lib.Seq.{ext-getD}
 use Rattle.ground.proofs.Bools.{lt-or-ge}
 use Rattle.ground.proofs.Search.{least-unique}
-use Rattle.block.specs.Rule.{tablePlace, table}
-use Rattle.sound.specs.Sound.{tablesOf}
+use Rattle.book_block.specs.Rule.{tablePlace, table}
+use Rattle.book_sound.specs.Sound.{tablesOf}
 use Rattle.book.specs.Written.{bookOf}
-use Rattle.block.specs.declared.rule.Right.{Right}
-use Rattle.block.specs.declared.rule.Right.the-variants.{Look, Set}
+use Rattle.book_block.specs.declared.rule.Right.{Right}
+use Rattle.book_block.specs.declared.rule.Right.the-variants.{Look, Set}
 use Rattle.ground.proofs.Lists.{getD-part}
-use Rattle.block.proofs.RuleLaws.{place-most}
+use Rattle.book_block.proofs.RuleLaws.{place-most}
 use Rattle.plan.specs.Plans.{System, Lawful, Plan}
 use Rattle.plan.proofs.Written.{written-works, written-unique}
-use Rattle.printing.specs.Printed.{reachText, Prints}
-use Rattle.printing.proofs.Theorems.{prints-unique}
+use Rattle.print_answer.specs.Printed.{reachText, Prints}
+use Rattle.print_answer.proofs.Theorems.{prints-unique}
 use Rattle.question.specs.Question.{systemOf, startNumber}
-use Rattle.words.proofs.Unique.{mask-one}
-use Rattle.desk.specs.Sheet.{Sheet}
-use Rattle.desk.proofs.Unique.{table-one, tables-one}
+use Rattle.sheet_words.proofs.Unique.{mask-one}
+use Rattle.sheet_reading.specs.Sheet.{Sheet}
+use Rattle.sheet_reading.proofs.Unique.{table-one, tables-one}
 use Rattle.sheet.specs.Answer.{Question, PrintsFound}
 
 -- ---- rights

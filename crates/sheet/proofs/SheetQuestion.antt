@@ -15,11 +15,11 @@ use Rattle.ground.specs.Digits.{bit}
 use Rattle.ground.specs.Table.{truth, Within}
 use Rattle.ground.proofs.Bools.{or-left, or-right, or-out, both, false→T, lt-or-ge}
 use Rattle.ground.proofs.Bits.{bit-of-zero}
-use Rattle.block.specs.Kinds.{Zeros}
-use Rattle.block.specs.Rule.{table}
-use Rattle.sound.specs.Sound.{tablesOf}
+use Rattle.book_block.specs.Kinds.{Zeros}
+use Rattle.book_block.specs.Rule.{table}
+use Rattle.book_sound.specs.Sound.{tablesOf}
 use Rattle.book.specs.Written.{bookOf, Writable}
-use Rattle.block.specs.declared.rule.Right.{Right}
+use Rattle.book_block.specs.declared.rule.Right.{Right}
 use Rattle.book.proofs.RoundTrip.{written-sound}
 use Rattle.plan.specs.Plans.{System, Lawful, Plan, height}
 use Rattle.plan.specs.Ranks.{Written}
@@ -34,11 +34,11 @@ use Rattle.question.specs.Question.{systemOf}
 use Rattle.question.specs.Rows.{TeamFits, KnownFits, GoalFits}
 use Rattle.question.specs.Asks.{ValidQuestion}
 use Rattle.question.proofs.Unique.{lawful}
-use Rattle.words.specs.Words.{member}
-use Rattle.desk.specs.Sheet.{Known, Sheet, knownSettings, knownTrue}
-use Rattle.desk.specs.Desk.{TablesOf}
-use Rattle.desk.proofs.HoldLaws.{zero-at, zero-truth}
-use Rattle.lines.specs.Grammar.{PostsFit, KnownFit, WellFormed}
+use Rattle.sheet_words.specs.Words.{member}
+use Rattle.sheet_reading.specs.Sheet.{Known, Sheet, knownSettings, knownTrue}
+use Rattle.sheet_reading.specs.Desk.{TablesOf}
+use Rattle.sheet_reading.proofs.HoldLaws.{zero-at, zero-truth}
+use Rattle.sheet_reading.specs.Grammar.{PostsFit, KnownFit, WellFormed}
 use Rattle.sheet.specs.Answer.{Question}
 
 -- ---- what is named

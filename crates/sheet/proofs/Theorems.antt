@@ -8,29 +8,29 @@ use native.Mathlib.Omega.{arith}
 use lib.ListN.{length, take, length-append}
 use lib.Seq.{take-at}
 use Rattle.ground.specs.Text.{bytes}
-use Rattle.grammar.specs.Grammar.{text, meaning as truthOf, one, one-unit, one-product}
-use Rattle.grammar.proofs.Meaning.{unambiguous}
+use Rattle.formula_grammar.specs.Grammar.{text, meaning as truthOf, one, one-unit, one-product}
+use Rattle.formula_grammar.proofs.Meaning.{unambiguous}
 use Rattle.formula.specs.Read.{Accepts}
 use Rattle.book.specs.Written.{bookOf}
-use Rattle.acts.specs.declared.act.Act.the-variants.{Set, Look}
+use Rattle.knowledge_acts.specs.declared.act.Act.the-variants.{Set, Look}
 use Rattle.plan.specs.Plans.{System, Plan, stop, set-then, look-then, Permitted, Works, height}
 use Rattle.plan.specs.Secret.{Twins}
 use Rattle.plan.proofs.Ranks.{rank-least}
 use Rattle.plan.proofs.Written.{written-works, written-height}
 use Rattle.plan.proofs.Secret.{secret}
-use Rattle.text.specs.Decimal.{decimal}
-use Rattle.listing.specs.Listed.{line, numbered, actText, planText}
-use Rattle.printing.specs.Printed.{cannotText, reachText, Prints}
-use Rattle.printing.proofs.Theorems.{prints-unique, refused-length, reach-length}
+use Rattle.print_room.specs.Decimal.{decimal}
+use Rattle.print_answer.specs.Listed.{line, numbered, actText, planText}
+use Rattle.print_answer.specs.Printed.{cannotText, reachText, Prints}
+use Rattle.print_answer.proofs.Theorems.{prints-unique, refused-length, reach-length}
 use Rattle.knowledge.specs.Goal.{learnTable}
 use Rattle.question.specs.Question.{systemOf, startNumber, NoMaking}
 use Rattle.finder.proofs.Theorems.{enough}
-use Rattle.desk.specs.Sheet.{Sheet}
-use Rattle.desk.specs.Desk.{TablesOf}
-use Rattle.lines.specs.Reading.{Meaning, refused, stated, meaning}
-use Rattle.lines.specs.Grammar.{WellFormed}
-use Rattle.lines.proofs.Taken.{stated-written}
-use Rattle.lines.proofs.Bounds.{Small, small-meaning}
+use Rattle.sheet_reading.specs.Sheet.{Sheet}
+use Rattle.sheet_reading.specs.Desk.{TablesOf}
+use Rattle.sheet_reading.specs.Reading.{Meaning, refused, stated, meaning}
+use Rattle.sheet_reading.specs.Grammar.{WellFormed}
+use Rattle.sheet_reading.proofs.Taken.{stated-written}
+use Rattle.sheet_reading.proofs.Bounds.{Small, small-meaning}
 use Rattle.sheet.specs.Answer.{Question, PrintsFound, Prints-outcome, Answers}
 use Rattle.sheet.proofs.SheetQuestion.{tables-length, asked-lawful, asked-most}
 use Rattle.sheet.proofs.OneQuestion.{same-system, same-start, tells-one}

@@ -8,18 +8,18 @@ use lib.ListN.{length, replicate}
 use Rattle.ground.specs.Digits.{bit}
 use Rattle.ground.specs.Search.{Least}
 use Rattle.formula.specs.Read.{Accepts}
-use Rattle.block.specs.Rule.{table}
-use Rattle.sound.specs.Sound.{tablesOf}
+use Rattle.book_block.specs.Rule.{table}
+use Rattle.book_sound.specs.Sound.{tablesOf}
 use Rattle.book.specs.Written.{bookOf}
-use Rattle.block.specs.declared.rule.Right.{Right}
+use Rattle.book_block.specs.declared.rule.Right.{Right}
 use Rattle.plan.specs.Plans.{System, Plan}
 use Rattle.plan.specs.Ranks.{Reach, Cannot, Written}
-use Rattle.printing.specs.Printed.{refusedText, cannotText, reachText, Prints}
+use Rattle.print_answer.specs.Printed.{refusedText, cannotText, reachText, Prints}
 use Rattle.question.specs.Question.{systemOf, startNumber}
-use Rattle.words.specs.Words.{member}
-use Rattle.desk.specs.Sheet.{Sheet, ruleText, knownSettings, knownTrue}
-use Rattle.desk.specs.Desk.{TablesOf}
-use Rattle.lines.specs.Reading.{Meaning, refused, stated, meaning}
+use Rattle.sheet_words.specs.Words.{member}
+use Rattle.sheet_reading.specs.Sheet.{Sheet, ruleText, knownSettings, knownTrue}
+use Rattle.sheet_reading.specs.Desk.{TablesOf}
+use Rattle.sheet_reading.specs.Reading.{Meaning, refused, stated, meaning}
 
 -- the question that a sheet asks: "Every rule and goal is worked on as a table", and a mask has a bit for each post or setting that is named
 pub record Question (sheet : Sheet) (rights make learn : List ℕ) (team known values : ℕ) : Type 0 where

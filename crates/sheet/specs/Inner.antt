@@ -5,10 +5,10 @@ use lib.ListN.{take}
 use Rattle.book.specs.Written.{bookOf}
 use Rattle.plan.specs.Plans.{System}
 use Rattle.question.specs.Question.{systemOf, startNumber}
-use Rattle.desk.specs.Sheet.{Sheet}
-use Rattle.desk.specs.Desk.{Holds}
-use Rattle.desk.specs.declared.desk.Desk.{Desk}
-use Rattle.lines.specs.Grammar.{WellFormed}
+use Rattle.sheet_reading.specs.Sheet.{Sheet}
+use Rattle.sheet_reading.specs.Desk.{Holds}
+use Rattle.sheet_reading.specs.declared.desk.Desk.{Desk}
+use Rattle.sheet_reading.specs.Grammar.{WellFormed}
 
 -- a whole sheet is on the desk
 pub record Whole (d : Desk) : Type 0 where

@@ -1,12 +1,12 @@
 // The question that a whole sheet asks, through the same book and the same finder as stored books. For
 // this crate alone: a whole sheet is on the desk.
-use answer::Answer;
-use desk::Desk;
+use finder::Answer;
 use question::Question;
+use sheet_reading::Desk;
 ghost use mathlib.Core.Path.{_≡_};
 ghost use Prim.Native.Nat.{_+_, _*_};
 ghost use lib.ListN.{length, take};
-ghost use Rattle.answer.specs.Answers.{Answers};
+ghost use Rattle.finder.specs.Answers.{Answers};
 ghost use Rattle.sheet.specs.Answer.{PrintsFound};
 ghost use Rattle.sheet.specs.Inner.{Whole, bookIn, systemIn, startIn};
 
@@ -36,7 +36,7 @@ fn find(desk: Desk, plan: &mut [u8]) -> Answer
 {
     let mut book = [0u8; BOOK_MOST];
     write_book(desk, &mut book);
-    let blocks = sums::BLOCK * (1 + (desk.settings as usize));
+    let blocks = book_block::BLOCK * (1 + (desk.settings as usize));
     let question = Question {
         team: desk.team,
         known: desk.known,
@@ -64,8 +64,8 @@ pub(crate) fn ask(desk: Desk, out: &mut [u8]) -> usize
 {
     let mut plan = [0u8; PLAN_MOST];
     match find(desk, &mut plan) {
-        Answer::Reach { height, length } => printing::reach(height, &plan[..length], out),
-        Answer::Cannot => printing::cannot(out),
+        Answer::Reach { height, length } => print_answer::reach(height, &plan[..length], out),
+        Answer::Cannot => print_answer::cannot(out),
         Answer::Refused(_) => 0,
     }
 }

@@ -4,8 +4,8 @@
 mod asking;
 
 use asking::ask;
-use lines::Told;
-use lines::read;
+use sheet_reading::Told;
+use sheet_reading::read;
 ghost use Rattle.sheet.specs.Answer.{Answers};
 
 // The most bytes that an answer has: 10 for `reach` and a height of up to three digits, and 14 for each of
@@ -20,7 +20,7 @@ pub fn answer(sheet: &[u8], out: &mut [u8]) -> usize
     let told = reading.told;
     let desk = reading.desk;
     match told {
-        Told::Refused(why, line) => printing::refused(why.number(), line, out),
+        Told::Refused(why, line) => print_answer::refused(why.number(), line, out),
         Told::Stated => ask(desk, out),
     }
 }

@@ -1,5 +1,5 @@
 -- `pj_book_read` meets its contract: the answer and the room are the reader's.
-use Rattle.packing.proofs.Fitting.{read-fits}
+use Rattle.exports.proofs.Fitting.{read-fits}
 use borrow.Author.Needs.{needs}
 use Rattle.exports.proofs.pj_book_read.Statement.{statement}
 use Rattle.exports.proofs.pj_book_read.Tie as tie

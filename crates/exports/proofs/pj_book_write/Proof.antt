@@ -1,5 +1,5 @@
 -- `pj_book_write` meets its contract: the answer and the room are the writer's.
-use Rattle.packing.proofs.Fitting.{write-fits}
+use Rattle.exports.proofs.Fitting.{write-fits}
 use borrow.Author.Needs.{needs}
 use Rattle.exports.proofs.pj_book_write.Statement.{statement}
 use Rattle.exports.proofs.pj_book_write.Tie as tie

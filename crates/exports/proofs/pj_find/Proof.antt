@@ -1,5 +1,5 @@
 -- `pj_find` meets its contract: the answer and the rooms are the finder's.
-use Rattle.packing.proofs.Fitting.{find-fits}
+use Rattle.exports.proofs.Fitting.{find-fits}
 use borrow.Author.Needs.{needs}
 use Rattle.exports.proofs.pj_find.Statement.{statement}
 use Rattle.exports.proofs.pj_find.Tie as tie

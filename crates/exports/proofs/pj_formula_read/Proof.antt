@@ -2,7 +2,7 @@
 use mathlib.Core.Path.{sym, ap, _∙_}
 use mathlib.Core.Logic.{inl, inr}
 use Rattle.formula.specs.declared.Answer.{Answer}
-use Rattle.packing.proofs.Fitting.{formula-fits}
+use Rattle.exports.proofs.Fitting.{formula-fits}
 use Rattle.exports.specs.Formula.{onReturn}
 use borrow.Author.Needs.{needs}
 use Rattle.exports.proofs.pj_formula_read.Statement.{statement}

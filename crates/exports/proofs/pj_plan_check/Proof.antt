@@ -1,5 +1,5 @@
 -- `pj_plan_check` meets its contract: the answer is the plan check's.
-use Rattle.packing.proofs.Fitting.{check-fits}
+use Rattle.exports.proofs.Fitting.{check-fits}
 use borrow.Author.Needs.{needs}
 use Rattle.exports.proofs.pj_plan_check.Statement.{statement}
 use Rattle.exports.proofs.pj_plan_check.Tie as tie

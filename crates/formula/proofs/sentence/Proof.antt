@@ -1,7 +1,7 @@
 -- `sentence` meets its contract: the sum that begins the text ends with it, or the text breaks.
 use native.Mathlib.Omega.{arith}
-use Rattle.grammar.specs.Grammar as G
-use Rattle.grammar.proofs.PartLaws.{as-read, as-broken, sum-short}
+use Rattle.formula_grammar.specs.Grammar as G
+use Rattle.formula_grammar.proofs.PartLaws.{as-read, as-broken, sum-short}
 use Rattle.formula.specs.declared.Refusal.the-variants.{NotSentence}
 use Rattle.formula.proofs.Answers.{refusal, broken, whole}
 use borrow.Author.Needs.{needs}

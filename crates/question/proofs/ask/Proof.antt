@@ -1,5 +1,5 @@
 -- `ask` meets its contract: the book's refusals, then 10, 11 and 12.
-use Rattle.sound.specs.Refusals as B
+use Rattle.book_sound.specs.Refusals as B
 use Rattle.ground.proofs.Answers.{told, untold}
 use Rattle.question.specs.Rows.{TeamFits, KnownFits, GoalFits}
 use Rattle.question.proofs.RowLaws.{as-sound, as-refused, book-row, team-row, known-row, goal-row}

@@ -6,7 +6,7 @@ use native.Mathlib.Omega.{arith}
 use denote.Ref.{now}
 use lib.ListN.{length}
 use lib.Seq.{sets}
-use Rattle.sound.specs.Sound.{inOrder, rightsOf}
+use Rattle.book_sound.specs.Sound.{inOrder, rightsOf}
 use Rattle.book.proofs.WriteLaws.{rights-step}
 use Rattle.book.proofs.reading.copy_rights.Statement.{statement}
 use Rattle.book.proofs.reading.copy_rights.Tie as tie

@@ -2,8 +2,8 @@
 use native.Mathlib.Omega.{arith}
 use mathlib.Core.Path.{refl}
 use denote.Ref.{now}
-use Rattle.sound.specs.Sound.{Sound}
-use Rattle.sound.proofs.SoundLaws.{judged-book, judged-refused, no-room}
+use Rattle.book_sound.specs.Sound.{Sound}
+use Rattle.book_sound.proofs.SoundLaws.{judged-book, judged-refused, no-room}
 use Rattle.book.proofs.RoomLaws.{read-room}
 use borrow.Author.Needs.{needs}
 use Rattle.book.proofs.reading.read.Statement.{statement}

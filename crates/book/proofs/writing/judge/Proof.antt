@@ -2,11 +2,11 @@
 use native.Mathlib.Omega.{arith}
 use denote.Ref.{now}
 use Rattle.ground.specs.Bounds.{SettingsFit, PostsFit}
-use Rattle.block.specs.Kinds.{Tables}
-use Rattle.sound.specs.Sound.{tablesOf}
+use Rattle.book_block.specs.Kinds.{Tables}
+use Rattle.book_sound.specs.Sound.{tablesOf}
 use Rattle.ground.specs.Search.{Lowest}
 use Rattle.ground.proofs.Answers.{lowest-all}
-use Rattle.sound.proofs.RefusalLaws.{refuse-settings, refuse-posts, refuse-size, refuse-tables, refuse-room, lowest-tables}
+use Rattle.book_sound.proofs.RefusalLaws.{refuse-settings, refuse-posts, refuse-size, refuse-tables, refuse-room, lowest-tables}
 use borrow.Author.Needs.{needs}
 use Rattle.book.proofs.writing.judge.Statement.{statement}
 use Rattle.book.proofs.writing.judge.Tie as tie

@@ -5,8 +5,8 @@ use mathlib.Core.List.{[], _∷_}
 use Prim.Native.Nat.{ℕ, suc}
 use denote.Ref.{now}
 use lib.ListN.{length-set, replicate, length-replicate}
-use Rattle.block.specs.Sealed.{headBlock}
-use Rattle.sums.proofs.SealLaws.{run-on, seal-on}
+use Rattle.book_block.specs.Sealed.{headBlock}
+use Rattle.book_block.proofs.SealLaws.{run-on, seal-on}
 use borrow.Author.Needs.{needs}
 use Rattle.book.proofs.writing.write_head.Statement.{statement}
 use Rattle.book.proofs.writing.write_head.Tie as tie

@@ -5,10 +5,10 @@ use mathlib.Core.List.{_++_}
 use Prim.Native.Nat.{_+_, _*_}
 use denote.Ref.{now}
 use lib.ListN.{length, length-append, length-replicate, replicate}
-use Rattle.sound.specs.Sound.{tablesOf}
-use Rattle.block.specs.Sealed.{settingBlock}
-use Rattle.sums.proofs.SealLaws.{run-on, seal-on}
-use Rattle.sound.proofs.RightsLaws.{length-tables}
+use Rattle.book_sound.specs.Sound.{tablesOf}
+use Rattle.book_block.specs.Sealed.{settingBlock}
+use Rattle.book_block.proofs.SealLaws.{run-on, seal-on}
+use Rattle.book_sound.proofs.RightsLaws.{length-tables}
 use borrow.Author.Needs.{needs}
 use Rattle.book.proofs.writing.write_setting.Statement.{statement}
 use Rattle.book.proofs.writing.write_setting.Tie as tie

@@ -6,7 +6,7 @@ use native.Mathlib.Omega.{arith}
 use denote.Ref.{now}
 use lib.ListN.{length}
 use lib.Seq.{sets}
-use Rattle.sound.specs.Sound.{inOrder}
+use Rattle.book_sound.specs.Sound.{inOrder}
 use Rattle.book.specs.Written.{settingBlocks}
 use Rattle.book.proofs.WriteLaws.{settings-step}
 use Rattle.book.proofs.writing.write_settings.Statement.{statement}

@@ -3,7 +3,7 @@ use mathlib.Core.Path.{sym, subst}
 use Prim.Native.Nat.{ℕ, _^_, _<_}
 use native.Mathlib.Omega.{arith}
 use Rattle.question.specs.Question.{systemOf}
-use Rattle.answer.specs.Answers.{Answers}
+use Rattle.finder.specs.Answers.{Answers}
 use Rattle.finder.proofs.Tables.{marks-ready, tables-tell}
 use Rattle.question.proofs.AskLaws.{start-is}
 use Rattle.finder.proofs.FindLaws.{start-below, filled}

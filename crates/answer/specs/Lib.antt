@@ -1,2 +1,0 @@
--- What a reader must believe of an answer.
-pub mod Answers

@@ -1,6 +1,0 @@
--- What a reader must believe of one block: where a rule's table stands, what the head and a setting's block may hold, and the bytes that are stored;
--- its check is crate sums'. `Live` is for this repository alone.
-pub mod Rule
-pub mod Kinds
-pub mod Sealed
-pub mod Live

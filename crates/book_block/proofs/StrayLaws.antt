@@ -1,0 +1,177 @@
+-- Byte by byte and bit by bit: a setting's tables have no bit that must be zero exactly where each byte has only its live bits.
+use mathlib.Core.Path.{_≡_, sym, ap, ap₂, _∙_, subst}
+use mathlib.Core.List.{List}
+use mathlib.Core.Bool.{Bool, false}
+use mathlib.Core.Logic.{⊎-elim}
+use Prim.Native.Nat.{ℕ, _+_, _-_, _*_, _/_, _%_, _^_, _≤_, _<_, min}
+use native.Mathlib.Nat.{one-mul, mod-eq-of-lt, lt-of-le-of-lt, pow-le-pow-right}
+use native.Mathlib.Omega.{arith}
+use lib.Arith.{lt-one}
+use lib.Dec.{lit<}
+use lib.Pow.{pow-pos}
+use lib.ListN.{getD, drop}
+use lib.Seq.{getD-drop}
+use borrow.Author.Tests.{le-leb, lt-leb}
+use Rattle.ground.specs.Digits.{bit}
+use Rattle.ground.specs.Table.{truth, Within}
+use Rattle.book_block.specs.declared.rule.Right.{Right}
+use Rattle.book_block.specs.declared.rule.Right.the-variants.{Look, Set}
+use Rattle.book_block.specs.Rule.{tablePlace, table}
+use Rattle.book_block.specs.Kinds.{Zeros, Tables, SettingBlock}
+use Rattle.ground.specs.Tells.{Tells}
+use Rattle.book_block.specs.Live.{live, Clean}
+use Rattle.ground.proofs.Lists.{getD-part}
+use Rattle.ground.proofs.Bools.{lt-or-ge}
+use Rattle.ground.proofs.HighBits.{high-bit, low-bits}
+
+pub live-none : (all m j : ℕ) → 32 * m ≤ j → live all m j ≡ 0
+unfolding live
+live-none all m j h = rw (live, le-leb (32 * m) j h)
+
+pub live-some : (all m j : ℕ) → j < 32 * m → live all m j ≡ min 8 (all - 8 * (j % 16))
+unfolding live
+live-some all m j h = rw (live, lt-leb (32 * m) j h)
+
+pub live-most : (all m j : ℕ) → live all m j ≤ 8
+live-most all m j =
+    ⊎-elim (λ h. rw (live-some all m j h) (omega arith)) (λ h. rw (live-none all m j h) (omega arith)) (lt-or-ge j (32 * m))
+
+-- where byte j of a setting's tables stands: post, right, byte of the table
+pub record Spot (j : ℕ) : Type 0 where
+  pub q : ℕ
+  pub right : Right
+  pub o : ℕ
+  pub post : q < 8
+  pub low : o < 16
+  pub here : tablePlace q right + o ≡ j
+
+pub spot : (j : ℕ) → j < 256 → Spot j
+unfolding tablePlace
+spot j h =
+    ⊎-elim
+    (λ (l : j % 32 < 16). record { q = j / 32; right = Look; o = j % 32; post = omega arith; low = l; here = omega arith })
+    (λ (l : 16 ≤ j % 32). record { q = j / 32; right = Set; o = j % 32 - 16; post = omega arith; low = omega arith; here = omega arith })
+    (lt-or-ge (j % 32) 16)
+
+-- byte o of a table, in the setting's bytes; the place of the table decides the post and the byte
+pub table-byte : (bytes : List ℕ) (q : ℕ) (right : Right) (o : ℕ) → o < 16 → getD (table bytes q right) o 0 ≡ getD bytes (tablePlace q right + o) 0
+unfolding table
+table-byte bytes q right o h = getD-part bytes (tablePlace q right) 16 o h
+
+place-mod : (q : ℕ) (right : Right) (o : ℕ) → o < 16 → (tablePlace q right + o) % 16 ≡ o
+unfolding tablePlace
+place-mod q Look o h = omega arith
+place-mod q Set o h = omega arith
+
+pub place-post : (q : ℕ) (right : Right) (o : ℕ) → o < 16 → (32 * q ≤ tablePlace q right + o) × (tablePlace q right + o < 32 * q + 32)
+unfolding tablePlace
+place-post q Look o h = omega arith
+place-post q Set o h = omega arith
+
+-- from the tables to the bytes
+module _ (n m : ℕ) (bytes : List ℕ) (byte : (j : ℕ) → j < 256 → getD bytes j 0 < 256) (good : Tables n m bytes) where
+  bits-off : (q : ℕ) (right : Right) (o b : ℕ) → q < 8 → o < 16 → b < 8 → 2 ^ n ≤ 8 * o + b → bit (getD bytes (tablePlace q right + o) 0) b ≡ false
+  unfolding Within truth
+  bits-off q right o b hq ho hb h =
+      let d : (8 * o + b) / 8 ≡ o = omega arith in
+      let r : (8 * o + b) % 8 ≡ b = omega arith in
+      let w : bit (getD (table bytes q right) ((8 * o + b) / 8) 0) ((8 * o + b) % 8) ≡ false = good .within q right hq (8 * o + b) h (omega arith) in
+      rw (← table-byte bytes q right o ho) (rw (d, r) at w)
+
+  clean-at : (j : ℕ) → j < 256 → getD bytes j 0 < 2 ^ live (2 ^ n) m j
+  unfolding Zeros
+  clean-at j h =
+      let s = spot j h in
+      let e : getD (table bytes (s .q) (s .right)) (s .o) 0 ≡ getD bytes j 0 = table-byte bytes (s .q) (s .right) (s .o) (s .low) ∙ ap (λ (k : ℕ). getD bytes k 0) (s .here) in
+      let u : (32 * s .q ≤ tablePlace (s .q) (s .right) + s .o) × (tablePlace (s .q) (s .right) + s .o < 32 * s .q + 32) = place-post (s .q) (s .right) (s .o) (s .low) in
+      let v : (tablePlace (s .q) (s .right) + s .o) % 16 ≡ s .o = place-mod (s .q) (s .right) (s .o) (s .low) in
+      let here = s .here in
+      ⊎-elim
+      (λ (l : j < 32 * m).
+      let k = min 8 (2 ^ n - 8 * (j % 16)) in
+      let full : k + (8 - k) ≡ 8 = omega arith in
+      rw (live-some (2 ^ n) m j l)
+      (low-bits (min 8 (2 ^ n - 8 * (j % 16))) (8 - min 8 (2 ^ n - 8 * (j % 16))) (getD bytes j 0) (rw full (byte j h))
+      (λ b lo hi.
+      rw (← here)
+      (bits-off (s .q) (s .right) (s .o) b (s .post) (s .low) (omega arith) (omega arith)))))
+      (λ (l : 32 * m ≤ j).
+      let z : getD bytes j 0 ≡ 0 = sym e ∙ good .nobody (s .q) (s .right) (omega arith) (s .post) (s .o) (omega arith) (s .low) in
+      rw (live-none (2 ^ n) m j l, z) (lit< tt))
+      (lt-or-ge j (32 * m))
+
+  pub tables-clean : Clean (2 ^ n) m 256 bytes
+  unfolding Clean
+  tables-clean = clean-at
+
+-- from the bytes to the tables
+module _ (n m : ℕ) (bytes : List ℕ) (clean : Clean (2 ^ n) m 256 bytes) where
+  spot-clean : (q : ℕ) (right : Right) (o : ℕ) → q < 8 → o < 16 → getD (table bytes q right) o 0 < 2 ^ live (2 ^ n) m (tablePlace q right + o)
+  unfolding Clean
+  spot-clean q right o hq ho =
+      let u : (32 * q ≤ tablePlace q right + o) × (tablePlace q right + o < 32 * q + 32) = place-post q right o ho in
+      rw (table-byte bytes q right o ho) (clean (tablePlace q right + o) (omega arith))
+
+  off : (q : ℕ) (right : Right) (o : ℕ) → m ≤ q → q < 8 → o < 16 → getD (table bytes q right) o 0 ≡ 0
+  off q right o hm hq ho =
+      let u : (32 * q ≤ tablePlace q right + o) × (tablePlace q right + o < 32 * q + 32) = place-post q right o ho in
+      let z : live (2 ^ n) m (tablePlace q right + o) ≡ 0 = live-none (2 ^ n) m (tablePlace q right + o) (omega arith) in
+      lt-one (rw z at (spot-clean q right o hq ho))
+
+  live-under : (q : ℕ) (right : Right) (o b : ℕ) → o < 16 → 2 ^ n ≤ 8 * o + b → live (2 ^ n) m (tablePlace q right + o) ≤ b
+  live-under q right o b ho h =
+      let v : (tablePlace q right + o) % 16 ≡ o = place-mod q right o ho in
+      ⊎-elim
+      (λ l. rw (live-some (2 ^ n) m (tablePlace q right + o) l) (omega arith))
+      (λ l. rw (live-none (2 ^ n) m (tablePlace q right + o) l) (omega arith))
+      (lt-or-ge (tablePlace q right + o) (32 * m))
+
+  pub clean-tables : Tables n m bytes
+  unfolding Zeros Within truth
+  clean-tables =
+      record {
+        nobody = λ q right hm hq o _ ho. off q right o hm hq ho;
+        within =
+            λ q right hq v h l.
+            high-bit (getD (table bytes q right) (v / 8) 0) (live (2 ^ n) m (tablePlace q right + v / 8)) (v % 8)
+            (spot-clean q right (v / 8) hq (omega arith))
+            (live-under q right (v / 8) (v % 8) (omega arith) (omega arith));
+      }
+
+-- the whole block: its tables, and nothing after them
+pub block-clean : (n m : ℕ) (bytes : List ℕ) → ((j : ℕ) → j < 256 → getD bytes j 0 < 256) → SettingBlock n m bytes → Clean (2 ^ n) m 508 bytes
+unfolding Clean Zeros
+block-clean n m bytes byte good j h =
+    ⊎-elim (λ l. tables-clean n m bytes byte (good .tables) j l)
+    (λ l. rw (good .rest j l h) (pow-pos (live (2 ^ n) m j)))
+    (lt-or-ge j 256)
+
+pub clean-block : (n m : ℕ) (bytes : List ℕ) → m ≤ 8 → Clean (2 ^ n) m 508 bytes → SettingBlock n m bytes
+unfolding Clean Zeros
+clean-block n m bytes hm clean =
+    record {
+      tables = clean-tables n m bytes (λ j h. clean j (omega arith));
+      rest = λ j l h. lt-one (rw (live-none (2 ^ n) m j (omega arith)) at (clean j h));
+    }
+
+-- only the bytes looked at count
+pub clean-same : (all m count : ℕ) (a b : List ℕ) → ((j : ℕ) → j < count → getD a j 0 ≡ getD b j 0) → Clean all m count a → Clean all m count b
+unfolding Clean
+clean-same all m count a b same clean j h = rw (← same j h) (clean j h)
+
+-- the first `count` bytes, one of them at a time
+abbrev pub Alive : ℕ → ℕ → List ℕ → ℕ → Type 0
+Alive all m bytes j = getD bytes j 0 < 2 ^ live all m j
+
+pub byte-tells : (bytes : List ℕ) (from j p l all m : ℕ) (r : Bool) → p ≡ getD bytes (from + j) 0 → l ≡ live all m j → Tells r (p < 2 ^ l) → Tells r (Alive all m (drop from bytes) j)
+byte-tells bytes from j p l all m r e f t =
+    subst (λ (A : Type 0). Tells r A)
+    (ap₂ (λ x y. x < 2 ^ y) (e ∙ sym (getD-drop from bytes j 0)) f)
+    t
+
+-- 2^n, as a shift gives it
+pub one-shifted : (n : ℕ) → n ≤ 7 → 1 * 2 ^ n % 2 ^ 64 ≡ 2 ^ n
+one-shifted n h = rw one-mul (mod-eq-of-lt (lt-of-le-of-lt (pow-le-pow-right (lit< tt) h) (lit< tt)))
+
+pub clean-tells : (all n m count : ℕ) (bytes : List ℕ) (r : Bool) → all ≡ 2 ^ n → Tells r (Clean all m count bytes) → Tells r (Clean (2 ^ n) m count bytes)
+clean-tells all n m count bytes r e t = subst (λ (x : ℕ). Tells r (Clean x m count bytes)) e t

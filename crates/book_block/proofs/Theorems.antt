@@ -1,0 +1,29 @@
+-- What is promised of the check: it is one alone, and the marked checks.
+-- What is promised of a block: the place of a rule is one alone.
+use mathlib.Core.Path.{_≡_, refl, sym, _∙_}
+use mathlib.Core.List.{List}
+use Prim.Native.Nat.{ℕ}
+use lib.ListN.{drop, replicate}
+use Rattle.book_block.specs.declared.sums.Sums.{Sums}
+use Rattle.book_block.specs.Check.{check, sumsAfter, added}
+use Rattle.book_block.specs.declared.rule.Right.{Right}
+use Rattle.book_block.specs.Rule.{rulePlace}
+
+-- `check_of`
+pub check-one : (bytes : List ℕ) (from : ℕ) (a b : Sums) → a ≡ check (drop from bytes) → b ≡ check (drop from bytes) → a ≡ b
+check-one bytes from a b p q = p ∙ sym q
+
+-- ---- P13
+
+-- "check of 508 zero bytes: 1 and 508; of 508 bytes 255: 64005 and 3830"
+pub p13-zeros : check (replicate 508 0) ≡ record { s = 1; t = 508 }
+unfolding check sumsAfter added
+p13-zeros = refl
+
+pub p13-ones : check (replicate 508 255) ≡ record { s = 64005; t = 3830 }
+unfolding check sumsAfter added
+p13-ones = refl
+
+-- `rule_at`
+pub rule-at-one : (setting post : ℕ) (right : Right) (a b : ℕ) → a ≡ rulePlace setting post right → b ≡ rulePlace setting post right → a ≡ b
+rule-at-one setting post right a b p q = p ∙ sym q

@@ -1,0 +1,51 @@
+-- `is_head` meets its contract: each test is one part of `RightHead`.
+use native.Mathlib.Omega.{arith}
+use Rattle.ground.proofs.Answers.{tells-iff}
+use Rattle.book_sound.proofs.BookLaws.{whole-length, right-head, head-settings, head-posts, head-rest}
+use Rattle.book_sound.proofs.is_head.Statement.{statement}
+use Rattle.book_sound.proofs.is_head.Tie as tie
+
+shared-slice-read-n : tie.Need-shared-slice-read-n
+shared-slice-read-n c = omega (arith, whole-length (c .before .before .pre))
+
+cast-n : tie.Need-cast-n
+cast-n c = omega (arith, c .shared-slice-known2 .given 0)
+
+sub-if1 : tie.Need-sub-if1
+sub-if1 c = omega (arith, whole-length (c .before .before .pre))
+
+returns : tie.Need-returns
+returns c = λ right. c .if1 .taken (head-settings right)
+
+shared-slice-read-m : tie.Need-shared-slice-read-m
+shared-slice-read-m c = omega (arith, whole-length (c .before .before .before .before .pre))
+
+cast-m : tie.Need-cast-m
+cast-m c = omega (arith, c .shared-slice-known3 .given 1)
+
+returns-2 : tie.Need-returns-2
+returns-2 c = λ right. omega (arith, head-posts right)
+
+returns-3 : tie.Need-returns-3
+returns-3 c = λ right. omega (arith, head-posts right)
+
+is-plain-requires : tie.Need-is-plain-requires
+is-plain-requires c κs = omega (arith, whole-length (c .before .before .before .before .before .before .pre))
+
+returns-4 : tie.Need-returns-4
+returns-4 c = tells-iff (c .is-plain .result) (right-head (c .before .before .before .before .if1 .left) (c .before .before .if2 .left) (c .before .if3 .left)) head-rest (c .is-plain .ensures)
+
+pub is-head-spec : {M : Type 1} → statement M
+is-head-spec =
+    tie.close
+    (tie.spec
+    shared-slice-read-n
+    cast-n
+    sub-if1
+    returns
+    shared-slice-read-m
+    cast-m
+    returns-2
+    returns-3
+    is-plain-requires
+    returns-4)

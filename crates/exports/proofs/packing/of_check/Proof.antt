@@ -1,0 +1,43 @@
+-- `of_check` meets its contract: the case of the answer, which fits.
+use mathlib.Core.Path.{sym, ap, ap₂, subst, _∙_}
+use native.Mathlib.Omega.{arith}
+use Rattle.exports.specs.Packed.{packed}
+use Rattle.exports.specs.Returned.{checkReturned}
+use Rattle.exports.specs.Fits.{CheckFits}
+use Rattle.plancheck.proofs.RefusalLaws.{number-small}
+use borrow.Author.Needs.{needs}
+use Rattle.exports.proofs.packing.of_check.Statement.{statement}
+use Rattle.exports.proofs.packing.of_check.Tie as tie
+
+enum-told : tie.Need-enum-told
+enum-told c = search needs
+
+enum-known-answer : tie.Need-enum-known-answer
+enum-known-answer c = search needs
+
+number-requires : tie.Need-number-requires
+number-requires c κs = search needs
+
+place-requires : tie.Need-place-requires
+place-requires c κs = search needs
+
+refusal-requires : tie.Need-refusal-requires
+refusal-requires c κs = (omega (arith, c .before .number .ensures, number-small (c .before .before .before .answer .given .0 .0)), omega (arith, c .place .ensures, subst CheckFits (c .before .before .before .answer .given .1) (c .before .before .before .before .before .pre)))
+
+returns : tie.Need-returns
+returns c = ap checkReturned (sym (c .enum-told .given .1))
+
+returns-2 : tie.Need-returns-2
+returns-2 c = c .refusal .ensures ∙ ap₂ packed (c .before .before .number .ensures) (c .before .place .ensures) ∙ ap checkReturned (sym (c .before .before .before .before .answer .given .1))
+
+pub of-check-spec : {M : Type 1} → statement M
+of-check-spec =
+    tie.close
+    (tie.spec
+    enum-told
+    enum-known-answer
+    number-requires
+    place-requires
+    refusal-requires
+    returns
+    returns-2)

@@ -1,0 +1,21 @@
+-- `look_at` meets its contract: the digits of the state after the look are those of its number.
+use Rattle.knowledge.proofs.States.{look-number}
+use borrow.Author.Needs.{needs}
+use Rattle.finder.proofs.steps.look_at.Statement.{statement}
+use Rattle.finder.proofs.steps.look_at.Tie as tie
+
+from-number-requires : tie.Need-from-number-requires
+from-number-requires c κs = search needs
+
+after-look-requires : tie.Need-after-look-requires
+after-look-requires c κs = search needs
+
+number-requires : tie.Need-number-requires
+number-requires c κs = search needs
+
+returns : tie.Need-returns
+returns c = look-number (c .before .before .before .args .k) (c .before .before .before .args .setting) (c .before .before .before .args .value) (c .before .before .before .pre .0) (c .before .before .before .pre .1) (c .before .before .from-number .ensures) (c .before .after-look .ensures) (c .number .ensures)
+
+pub look-at-spec : {M : Type 1} → statement M
+look-at-spec =
+    tie.close (tie.spec from-number-requires after-look-requires number-requires returns)

@@ -1,0 +1,20 @@
+-- `set_to` meets its contract: the digits of the state after the set are those of its number.
+use Rattle.knowledge.proofs.States.{set-number}
+use borrow.Author.Needs.{needs}
+use Rattle.finder.proofs.steps.set_to.Statement.{statement}
+use Rattle.finder.proofs.steps.set_to.Tie as tie
+
+from-number-requires : tie.Need-from-number-requires
+from-number-requires c κs = search needs
+
+after-set-requires : tie.Need-after-set-requires
+after-set-requires c κs = search needs
+
+number-requires : tie.Need-number-requires
+number-requires c κs = search needs
+
+returns : tie.Need-returns
+returns c = set-number (c .before .before .before .args .k) (c .before .before .before .args .setting) (c .before .before .before .args .value) (c .before .before .before .pre .0) (c .before .before .before .pre .1) (c .before .before .from-number .ensures) (c .before .after-set .ensures) (c .number .ensures)
+
+pub set-to-spec : {M : Type 1} → statement M
+set-to-spec = tie.close (tie.spec from-number-requires after-set-requires number-requires returns)

@@ -1,0 +1,60 @@
+-- What the tables over all sides say of a knowledge number: the entry at the side that it shows is the judgement that paper 01 words over its
+-- digits, since a judgement reads nothing of a state but that side.
+use mathlib.Core.Path.{_≡_, ap, ap₂, _∙_}
+use mathlib.Core.List.{List}
+use mathlib.Core.Bool.{Bool, true, false, not, _&&_, _||_}
+use Prim.Native.Nat.{ℕ, _^_, _<_}
+use lib.Dec.{eqb}
+use lib.ListN.{getD}
+use Rattle.ground.specs.Digits.{digit, bit}
+use Rattle.ground.proofs.Search.{all-ext}
+use Rattle.book_block.specs.Rule.{rule}
+use Rattle.book_block.specs.declared.rule.Right.{Right}
+use Rattle.knowledge.specs.Fits.{always, nowSide, startSide, known, oneValue, learnSettled}
+use Rattle.knowledge.specs.Goal.{learnCount, learnTable, allSettled}
+use Rattle.knowledge.proofs.Fits.{always-ext}
+use Rattle.finder_sides.specs.Sides.{nowSideNumber, startSideNumber}
+use Rattle.finder_sides.specs.Over.{entry, rankIf, markOf, Marks}
+use Rattle.finder_sides.proofs.Shown.{now-number-lt, start-number-lt, now-digit, start-digit}
+use Rattle.finder_sides.proofs.Ones.{side-some}
+use Rattle.finder_sides.specs.Tables.{PostTables, Made, Learnt}
+
+-- a judgement at the side that a knowledge number shows
+module _ (n k : ℕ) (t : List ℕ) where
+  pub always-now : (b : Bool) → always b n (digit 3 (nowSideNumber n k)) t ≡ always b n (nowSide (digit 7 k)) t
+  always-now b = always-ext b n (digit 3 (nowSideNumber n k)) (nowSide (digit 7 k)) t (now-digit n k)
+
+  pub always-start : (b : Bool) → always b n (digit 3 (startSideNumber n k)) t ≡ always b n (startSide (digit 7 k)) t
+  always-start b = always-ext b n (digit 3 (startSideNumber n k)) (startSide (digit 7 k)) t (start-digit n k)
+
+  pub known-now : always true n (digit 3 (nowSideNumber n k)) t ≡ known n (digit 7 k) t
+  unfolding known
+  known-now = always-now true
+
+  pub settled-start : oneValue n (digit 3 (startSideNumber n k)) t ≡ learnSettled n (digit 7 k) t
+  unfolding learnSettled
+  settled-start = ap₂ _||_ (always-start true) (always-start false)
+
+-- "A rule is known to hold", "the make formula is true at every fitting present valuation"
+module _ (n : ℕ) (rule t : List ℕ) where
+  pub made-known : Made n rule t → (k : ℕ) → not (eqb (getD t (nowSideNumber n k) 0) 0) ≡ known n (digit 7 k) rule
+  made-known table k = side-some table (nowSideNumber n k) (now-number-lt n k) ∙ known-now n k rule
+
+-- "each learn formula has one same value at all fitting start valuations"
+pub learnt-settled : (n : ℕ) (learn t : List ℕ) → Learnt n learn t → (k : ℕ) → not (eqb (getD t (startSideNumber n k) 0) 0) ≡ allSettled n (digit 7 k) learn
+unfolding allSettled
+learnt-settled n learn t table k =
+    side-some table (startSideNumber n k) (start-number-lt n k)
+    ∙ all-ext (learnCount learn) _ _ (λ j h. settled-start n k (learnTable learn j))
+
+-- "by a post of the team", where "its set rule for that post is known to hold", or its look rule
+pub post-known : {n team : ℕ} {book : List ℕ} {right : Right} {t : List (List ℕ)} → PostTables n book team right t → (k i q : ℕ) → i < n → q < 8
+    → bit (entry t i (nowSideNumber n k)) q ≡ (bit team q && known n (digit 7 k) (rule book i q right))
+post-known {n} {team} {book} {right} table k i q h l =
+    table .posts i (nowSideNumber n k) q h (now-number-lt n k) l ∙ ap (λ (x : Bool). bit team q && x) (known-now n k (rule book i q right))
+
+-- "The goal is settled": a mark is 0 exactly where both halves of the goal hold
+pub goal-marked : {n : ℕ} (make learn : List ℕ) {made learnt old new : List ℕ} → Made n make made → Learnt n learn learnt → Marks n made learnt old new
+    → (k : ℕ) → k < 7 ^ n → getD new k 0 ≡ rankIf (known n (digit 7 k) make && allSettled n (digit 7 k) learn)
+unfolding markOf
+goal-marked {n} make learn {made} {learnt} m l marks k h = marks .marked k h ∙ ap rankIf (ap₂ _&&_ (made-known n make made m k) (learnt-settled n learn learnt l k))

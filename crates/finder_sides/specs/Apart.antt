@@ -1,0 +1,13 @@
+-- A state taken apart: its digits, and its present side.
+use mathlib.Core.Path.{_≡_}
+use mathlib.Core.List.{List}
+use Prim.Native.Nat.{ℕ, _<_}
+use lib.ListN.{length, getD}
+use Rattle.ground.specs.Digits.{digit}
+use Rattle.finder_sides.specs.Sides.{nowSideNumber}
+
+-- a state k of n settings taken apart
+pub record Apart (n k side : ℕ) (digits : List ℕ) : Type 0 where
+  pub long : length digits ≡ 7
+  pub each : (i : ℕ) → i < n → getD digits i 0 ≡ digit 7 k i
+  pub side-is : side ≡ nowSideNumber n k

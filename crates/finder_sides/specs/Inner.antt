@@ -1,0 +1,77 @@
+-- What this crate's own functions promise one another; no other crate cites it.
+-- What this crate's own functions promise one another; no other crate cites it.
+use mathlib.Core.Path.{_≡_}
+use mathlib.Core.List.{List}
+use mathlib.Core.Bool.{Bool, true, false, not, _&&_}
+use Prim.Native.Nat.{ℕ, _+_, _*_, _^_, _≤_, _<_}
+use lib.Dec.{eqb}
+use lib.ListN.{length, getD, drop}
+use Rattle.ground.specs.Digits.{digit, bit}
+use Rattle.ground.specs.Table.{truth}
+use Rattle.book_block.specs.Rule.{rulePlace}
+use Rattle.book_block.specs.declared.rule.Right.{Right}
+use Rattle.knowledge.specs.Fits.{oneValue}
+use Rattle.finder_sides.specs.Tables.{oneOf}
+use Rattle.knowledge_acts.specs.Seven.{unknown, told}
+use Rattle.finder_sides.specs.Sides.{nowSideNumber, startSideNumber}
+use Rattle.finder_sides.specs.Over.{markOf}
+use Rattle.finder_sides.specs.Fill.{FilledAt}
+use Rattle.finder_sides.specs.declared.told.Told.{Told}
+use Rattle.finder_sides.specs.declared.told.Told.the-variants.{Unknown, Valuation}
+
+-- what holds of each of the first m columns
+abbrev pub EachColumn : (ℕ → ℕ → Type 0) → ℕ → List ℕ → Type 0
+EachColumn P m columns = (v : ℕ) → v < m → P v (getD columns v 0)
+
+-- bits one place up, with one more below them
+abbrev pub doubled : ℕ → Bool → ℕ
+doubled x b = x * 2 + oneOf b
+
+-- the column of the posts at a valuation
+pub record PostsAt (book : List ℕ) (team i : ℕ) (right : Right) (v x : ℕ) : Type 0 where
+  pub byte : x < 256
+  pub posts : (q : ℕ) → q < 8 → bit x q ≡ (bit team q && truth (drop (rulePlace i q right) book) v)
+
+-- the column of the make formula, and of a learn formula: true is 1 and false is 2
+abbrev pub MadeAt : List ℕ → ℕ → ℕ → Type 0
+MadeAt make v x = x ≡ oneOf (truth make v)
+
+abbrev pub sameOf : Bool → ℕ
+sameOf true = 1
+sameOf false = 2
+
+abbrev pub SettledAt : List ℕ → ℕ → ℕ → Type 0
+SettledAt t v x = x ≡ sameOf (truth t v)
+
+-- not 0 exactly where the formula is settled
+pub record Settled (n : ℕ) (table t : List ℕ) : Type 0 where
+  pub long : length t ≡ 2187
+  pub each : (s : ℕ) → s < 3 ^ n → not (eqb (getD t s 0) 0) ≡ oneValue n (digit 3 s) table
+  pub past : (s : ℕ) → 3 ^ n ≤ s → getD t s 0 ≡ 0
+
+unfoldable pub bothOf : ℕ → ℕ → ℕ
+bothOf a b = oneOf (not (eqb a 0) && not (eqb b 0))
+
+pub record Meets (a b t : List ℕ) : Type 0 where
+  pub long : length t ≡ 2187
+  pub each : (s : ℕ) → s < 2187 → getD t s 0 ≡ bothOf (getD a s 0) (getD b s 0)
+
+-- what a side tells: a setting that is unknown, by its power of 3, or the valuation that the side tells whole
+abbrev pub SideTells : ℕ → ℕ → Told → Type 0
+SideTells n side (Unknown power) = (i : ℕ) × (i < n) × (digit 3 side i ≡ unknown) × (power ≡ 3 ^ i)
+SideTells n side (Valuation v) = (v < 2 ^ n) × ((i : ℕ) → i < n → digit 3 side i ≡ told (bit v i))
+
+-- the entries from side x on
+abbrev pub FilledFrom : ℕ → List ℕ → ℕ → List ℕ → Type 0
+FilledFrom n columns x t = (s : ℕ) → x ≤ s → s < 3 ^ n → FilledAt n columns s (getD t s 0)
+
+-- the mark of a knowledge number
+unfoldable pub markAt : ℕ → List ℕ → List ℕ → ℕ → ℕ
+markAt n made learnt k = markOf (getD made (nowSideNumber n k) 0) (getD learnt (startSideNumber n k) 0)
+
+-- f was stored at each place from a to e, and nothing elsewhere
+pub record Stored (f : ℕ → ℕ) (a e : ℕ) (old new : List ℕ) : Type 0 where
+  pub long : length new ≡ length old
+  pub here : (k : ℕ) → a ≤ k → k < e → getD new k 0 ≡ f k
+  pub before : (k : ℕ) → k < a → getD new k 0 ≡ getD old k 0
+  pub after : (k : ℕ) → e ≤ k → getD new k 0 ≡ getD old k 0

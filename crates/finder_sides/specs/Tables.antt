@@ -1,0 +1,45 @@
+-- The tables over all sides that the finder works with: which posts of a team may act there, and the two halves of the goal.
+use mathlib.Core.Path.{_≡_}
+use mathlib.Core.List.{List, []}
+use mathlib.Core.Bool.{Bool, true, false, _&&_}
+use Prim.Native.Nat.{ℕ, _^_, _≤_, _<_}
+use lib.ListN.{length, getD}
+use Rattle.ground.specs.Digits.{digit, bit}
+use Rattle.ground.specs.Search.{all}
+use Rattle.book_block.specs.Rule.{rule}
+use Rattle.book_block.specs.declared.rule.Right.{Right}
+use Rattle.knowledge.specs.Fits.{always, oneValue}
+use Rattle.knowledge.specs.Goal.{learnCount, learnTable}
+use Rattle.finder_sides.specs.Over.{entry}
+
+-- bit q of the entry of setting i and side s: the post q is of the team, and its rule on the setting is known to hold at the side
+abbrev pub Posts : ℕ → List ℕ → ℕ → Right → List (List ℕ) → Type 0
+Posts n book team right t =
+    (i s q : ℕ) → i < n → s < 3 ^ n → q < 8 → bit (entry t i s) q ≡ (bit team q && always true n (digit 3 s) (rule book i q right))
+
+-- the tables of `posts_allowed`: seven settings of 2187 sides, bytes, and 0 at every setting past n and every side past 3^n
+pub record PostTables (n : ℕ) (book : List ℕ) (team : ℕ) (right : Right) (t : List (List ℕ)) : Type 0 where
+  pub posts : Posts n book team right t
+  pub bytes : (i s : ℕ) → entry t i s < 256
+  pub settings : length t ≡ 7
+  pub sides : (i : ℕ) → i < 7 → length (getD t i []) ≡ 2187
+  pub no-setting : (i s : ℕ) → n ≤ i → entry t i s ≡ 0
+  pub no-side : (i s : ℕ) → 3 ^ n ≤ s → entry t i s ≡ 0
+
+abbrev pub oneOf : Bool → ℕ
+oneOf true = 1
+oneOf false = 0
+
+-- a table over the sides of n settings: entry s is 1 where f holds at the side s, else 0; past 3^n it is 0
+pub record SideTable (n : ℕ) (f : ℕ → Bool) (t : List ℕ) : Type 0 where
+  pub long : length t ≡ 2187
+  pub each : (s : ℕ) → s < 3 ^ n → getD t s 0 ≡ oneOf (f s)
+  pub past : (s : ℕ) → 3 ^ n ≤ s → getD t s 0 ≡ 0
+
+-- "the make formula is true at every fitting present valuation", at each side
+abbrev pub Made : ℕ → List ℕ → List ℕ → Type 0
+Made n make t = SideTable n (λ s. always true n (digit 3 s) make) t
+
+-- "each learn formula has one same value at all fitting start valuations", at each side
+abbrev pub Learnt : ℕ → List ℕ → List ℕ → Type 0
+Learnt n learn t = SideTable n (λ s. all (learnCount learn) (λ j. oneValue n (digit 3 s) (learnTable learn j))) t

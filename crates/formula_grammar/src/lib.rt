@@ -1,0 +1,11 @@
+// The sentences that the signs of a formula make: the reader of a sum, which gives its truths and where
+// it ends, or the place where no sentence goes on. For this repository alone, though it takes any text;
+// nothing is written to what a caller lends.
+mod parts;
+mod signs;
+
+pub use parts::Part;
+pub use parts::sum;
+pub use signs::Scanned;
+pub use signs::is_letter;
+pub use signs::scan;

@@ -1,0 +1,23 @@
+-- `Truths::letter` meets its contract: the table of letters by a computed test over its entries.
+use native.Mathlib.Omega.{arith}
+use Rattle.formula_table.proofs.TwoWords.{letter-holds, last-letter-holds, letters}
+use lib.Arith.{lt-of-le-ne}
+use borrow.Author.Needs.{needs}
+use Rattle.formula_table.proofs.Truths.letter.Statement.{statement}
+use Rattle.formula_table.proofs.Truths.letter.Tie as tie
+
+returns : tie.Need-returns
+returns c = last-letter-holds (c .before .args .i) (c .if1 .taken)
+
+mul-word : tie.Need-mul-word
+mul-word c = search needs
+
+array-read-word : tie.Need-array-read-word
+array-read-word c = search needs
+
+returns-2 : tie.Need-returns-2
+unfolding letters
+returns-2 c = letter-holds (c .before .args .i) (lt-of-le-ne (omega arith) (c .if1 .left))
+
+pub letter-spec : {M : Type 1} → statement M
+letter-spec = tie.close (tie.spec returns mul-word array-read-word returns-2)

@@ -1,0 +1,139 @@
+// The truths of a formula at all 128 valuations of seven settings, in two words: its table while it is worked
+// on. A letter, `~`, `&` and `|` are one or two operations. For this repository alone, where it says so.
+ghost use mathlib.Core.Path.{_≡_};
+ghost use mathlib.Core.Bool.{true, false, not, _&&_, _||_, cond};
+ghost use Prim.Native.Nat.{ℕ, _<_, _^_};
+ghost use lib.Dec.{ltb};
+ghost use Rattle.ground.specs.Digits.{bit};
+ghost use Rattle.formula_table.specs.Two.{has, Holds, wordsByte, BytesOf};
+
+// Bit v of `low` for the valuations below 64, and bit v - 64 of `high` for the others.
+pub struct Truths {
+    pub low: u64,
+    pub high: u64,
+}
+
+const EVERY: u64 = 0xffff_ffff_ffff_ffff;
+
+// Bit v of entry i is bit i of v, for v below 64. Letter g is false there, and true at all others.
+const LETTERS: [u64; 6] = [
+    0xaaaa_aaaa_aaaa_aaaa,
+    0xcccc_cccc_cccc_cccc,
+    0xf0f0_f0f0_f0f0_f0f0,
+    0xff00_ff00_ff00_ff00,
+    0xffff_0000_ffff_0000,
+    0xffff_ffff_0000_0000,
+];
+
+// Bit v of entry n is set for v below 2^n: the valuations of n settings below 64.
+const WITHIN: [u64; 6] = [0x1, 0x3, 0xf, 0xff, 0xffff, 0xffff_ffff];
+
+impl Truths {
+    pub fn constant(value: bool) -> Truths
+        ensures { λ r. ⌜ Holds r (λ v. value) ⌝ }
+    {
+        if value {
+            Truths {
+                low: EVERY,
+                high: EVERY,
+            }
+        } else {
+            Truths { low: 0, high: 0 }
+        }
+    }
+
+    // The letter with index i, for this repository alone: a is 0, g is 6.
+    pub fn letter(i: u8) -> Truths
+        requires { ⌜ i < 7 ⌝ }
+        ensures { λ r. ⌜ Holds r (λ v. bit v i) ⌝ }
+    {
+        if i == 6 {
+            return Truths {
+                low: 0,
+                high: EVERY,
+            };
+        }
+        let word = LETTERS[i as usize];
+        Truths {
+            low: word,
+            high: word,
+        }
+    }
+
+    pub fn negated(self) -> Truths
+        ensures { λ r. ⌜ Holds r (λ v. not (has self v)) ⌝ }
+    {
+        Truths {
+            low: self.low ^ EVERY,
+            high: self.high ^ EVERY,
+        }
+    }
+
+    pub fn and(self, other: Truths) -> Truths
+        ensures { λ r. ⌜ Holds r (λ v. has self v && has other v) ⌝ }
+    {
+        Truths {
+            low: self.low & other.low,
+            high: self.high & other.high,
+        }
+    }
+
+    pub fn or(self, other: Truths) -> Truths
+        ensures { λ r. ⌜ Holds r (λ v. has self v || has other v) ⌝ }
+    {
+        Truths {
+            low: self.low | other.low,
+            high: self.high | other.high,
+        }
+    }
+
+    // No bit past 2^n, for this repository alone: n is at most 7.
+    pub fn within(self, n: usize) -> Truths
+        requires { ⌜ n < 8 ⌝ }
+        ensures { λ r. ⌜ Holds r (λ v. has self v && ltb v (2 ^ n)) ⌝ }
+    {
+        if n == 7 {
+            return self;
+        }
+        if n == 6 {
+            return Truths {
+                low: self.low,
+                high: 0,
+            };
+        }
+        Truths {
+            low: self.low & WITHIN[n],
+            high: 0,
+        }
+    }
+
+    // The word that holds byte j.
+    fn word(self, j: usize) -> u64
+        ensures { λ r. ⌜ r ≡ cond (ltb j 8) (self .low) (self .high) ⌝ }
+    {
+        if j < 8 {
+            return self.low;
+        }
+        self.high
+    }
+
+    fn byte(self, j: usize) -> u8
+        ensures { λ r. ⌜ r ≡ wordsByte self j ⌝ }
+    {
+        let word = self.word(j);
+        ((word >> (8 * (j % 8))) % 256) as u8
+    }
+
+    // The sixteen bytes of the table.
+    pub fn bytes(self) -> [u8; 16]
+        ensures { λ r. ⌜ BytesOf self r ⌝ }
+    {
+        let mut table = [0u8; 16];
+        let mut j = 0;
+        while j < 16 {
+            table[j] = self.byte(j);
+            j += 1;
+        }
+        table
+    }
+}

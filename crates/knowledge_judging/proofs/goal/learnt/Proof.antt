@@ -1,0 +1,58 @@
+-- `learnt` meets its contract: the loop has found the first j learn formulas settled.
+use borrow.Author.Needs.{needs}
+use mathlib.Core.Path.{sym, _∙_}
+use Prim.Native.Nat.{_-_, _/_, _≤_}
+use native.Mathlib.Omega.{arith}
+use lib.ListN.{length}
+use borrow.Author.Count.{below-more}
+use borrow.Author.Tests.{not-true, not-false}
+use Rattle.ground.proofs.Bools.{true→T}
+use Rattle.knowledge.specs.Number.{digitIn}
+use Rattle.knowledge_judging.proofs.GoalLaws.{learn-at, Learnt, learnt-all, learnt-not}
+use Rattle.knowledge_judging.proofs.goal.learnt.Statement.{statement}
+use Rattle.knowledge_judging.proofs.goal.learnt.Tie as tie
+
+abbrev Inv-loop : tie.InvT-loop
+Inv-loop n learn state count j₀ j = (n ≤ 7) × (j ≤ length learn / 16) × Learnt n (digitIn (state .digits)) learn j
+
+abbrev μ-loop : tie.MeasureT-loop
+μ-loop n learn state count j₀ j = length learn / 16 - j
+
+loop-holds : tie.Need-loop-holds Inv-loop μ-loop
+loop-holds c = (c .before .pre, omega arith, λ i l. absurd (omega arith))
+
+mul-learn-settled : tie.Need-mul-learn-settled Inv-loop μ-loop
+mul-learn-settled c = omega arith
+
+learn-settled-requires : tie.Need-learn-settled-requires Inv-loop μ-loop
+learn-settled-requires c κs = search needs
+
+returns : tie.Need-returns Inv-loop μ-loop
+returns c = learnt-not (c .before .before .before .before .before .args .n) (digitIn (c .before .before .before .before .before .args .state .digits)) (c .before .before .before .before .before .args .learn .now) (c .before .before .before .loop .inv .0) (c .before .before .before .loop .j) (c .before .before .loop-test .taken) (sym (learn-at (c .before .before .before .before .before .args .n) (digitIn (c .before .before .before .before .before .args .state .digits)) (c .before .before .before .before .before .args .learn .now) (c .before .before .before .loop .inv .0) (c .before .before .before .loop .j)) ∙ sym (c .before .learn-settled .ensures) ∙ not-true _ (c .if1 .taken))
+
+add-j : tie.Need-add-j Inv-loop μ-loop
+add-j c = omega arith
+
+loop-less : tie.Need-loop-less Inv-loop μ-loop
+loop-less c = omega arith
+
+loop-again : tie.Need-loop-again Inv-loop μ-loop
+loop-again c = (c .before .before .before .loop .inv .0, omega arith, below-more _ _ (c .before .before .before .loop .inv .2) (true→T (sym (learn-at (c .before .before .before .before .before .args .n) (digitIn (c .before .before .before .before .before .args .state .digits)) (c .before .before .before .before .before .args .learn .now) (c .before .before .before .loop .inv .0) (c .before .before .before .loop .j)) ∙ sym (c .before .learn-settled .ensures) ∙ not-false _ (c .if1 .left))))
+
+returns-2 : tie.Need-returns-2 Inv-loop μ-loop
+returns-2 c = learnt-all (c .before .before .before .args .n) (digitIn (c .before .before .before .args .state .digits)) (c .before .before .before .args .learn .now) (c .before .loop .inv .0) (c .before .loop .j) (c .before .loop .inv .2) (c .loop-test .left)
+
+pub learnt-spec : {M : Type 1} → statement M
+learnt-spec =
+    tie.close
+    (tie.spec
+    Inv-loop
+    μ-loop
+    loop-holds
+    mul-learn-settled
+    learn-settled-requires
+    returns
+    add-j
+    loop-less
+    loop-again
+    returns-2)

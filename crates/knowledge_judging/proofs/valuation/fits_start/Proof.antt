@@ -1,0 +1,58 @@
+-- `judging::valuation::fits_start` meets its contract. The loop's invariant: every setting passed agrees. The measure is
+-- what is left of the n settings.
+use borrow.Author.Needs.{needs}
+use mathlib.Core.Path.{_≡_, sym, _∙_}
+use mathlib.Core.Bool.{true}
+use Prim.Native.Nat.{_≤_, _-_}
+use native.Mathlib.Omega.{arith}
+use borrow.Author.Tests.{not-true, not-false}
+use Rattle.ground.specs.Digits.{bit}
+use Rattle.ground.specs.Search.{all}
+use Rattle.knowledge.specs.Number.{digitIn}
+use Rattle.knowledge.specs.Fits.{agrees, fits, fitsStart, startSide}
+use Rattle.knowledge_judging.proofs.Loop.{none-yet, one-more, fails, passes}
+use Rattle.knowledge_judging.proofs.valuation.fits_start.Statement.{statement}
+use Rattle.knowledge_judging.proofs.valuation.fits_start.Tie as tie
+
+abbrev Inv-loop : tie.InvT-loop
+Inv-loop self n v i₀ i = (i ≤ n) × (all i (λ j. agrees (startSide (digitIn (self .digits)) j) (bit (v .0) j)) ≡ true)
+
+abbrev μ-loop : tie.MeasureT-loop
+μ-loop self n v i₀ i = n - i
+
+loop-holds : tie.Need-loop-holds Inv-loop μ-loop
+loop-holds c = (omega arith, none-yet _)
+
+agrees-at-start-requires : tie.Need-agrees-at-start-requires Inv-loop μ-loop
+agrees-at-start-requires c κs = search needs
+
+returns : tie.Need-returns Inv-loop μ-loop
+unfolding fitsStart fits
+returns c = fails _ (c .before .before .loop-test .taken) (sym (c .before .agrees-at-start .ensures) ∙ not-true _ (c .if1 .taken))
+
+add-i : tie.Need-add-i Inv-loop μ-loop
+add-i c = omega arith
+
+loop-less : tie.Need-loop-less Inv-loop μ-loop
+loop-less c = omega arith
+
+loop-again : tie.Need-loop-again Inv-loop μ-loop
+loop-again c = (omega arith, one-more _ (c .before .before .before .loop .inv .1) (sym (c .before .agrees-at-start .ensures) ∙ not-false _ (c .if1 .left)))
+
+returns-2 : tie.Need-returns-2 Inv-loop μ-loop
+unfolding fitsStart fits
+returns-2 c = passes _ (c .before .loop .inv .1) (c .before .loop .inv .0) (c .loop-test .left)
+
+pub fits-start-spec : {M : Type 1} → statement M
+fits-start-spec =
+    tie.close
+    (tie.spec
+    Inv-loop
+    μ-loop
+    loop-holds
+    agrees-at-start-requires
+    returns
+    add-i
+    loop-less
+    loop-again
+    returns-2)

@@ -1,2 +1,0 @@
--- Every answer that a function gives fits one number.
-pub mod Fitting

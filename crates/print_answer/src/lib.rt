@@ -1,0 +1,43 @@
+// How an answer of the sheet program is written out: one of its three forms, line by line, into a room
+// that the caller lends. It refuses nothing: a room shorter than the answer holds as much of it as fits,
+// and the length given is the whole answer's. Nothing past the answer is touched.
+mod listing;
+
+ghost use mathlib.Core.Path.{_≡_};
+ghost use Prim.Native.Nat.{_≤_};
+ghost use lib.ListN.{length};
+ghost use Rattle.plan.specs.Plans.{Plan};
+ghost use Rattle.plan.specs.Bytes.{encode};
+ghost use Rattle.print_answer.specs.Listed.{Lettered};
+ghost use Rattle.print_answer.specs.Printed.{refusedText, cannotText, reachText, Prints};
+
+// The answer `refused NUMBER PLACE`, and its length.
+pub fn refused(number: u64, place: usize, out: &mut [u8]) -> usize
+    ensures { λ r. ⌜ Prints (now (out .entry)) (refusedText number place) r (now (out .exit)) ⌝ }
+{
+    let to = print_room::word(b"refused ", out, 0);
+    let to = print_room::number(number, out, to);
+    let to = print_room::put(b' ', out, to);
+    let to = print_room::number(place as u64, out, to);
+    print_room::put(b'\n', out, to)
+}
+
+// The answer `cannot`, and its length.
+pub fn cannot(out: &mut [u8]) -> usize
+    ensures { λ r. ⌜ Prints (now (out .entry)) cannotText r (now (out .exit)) ⌝ }
+{
+    print_room::word(b"cannot\n", out, 0)
+}
+
+// The answer `reach H` with a line for each byte of the plan, and its length. For this repository alone:
+// the bytes are a whole plan's, as a finder writes it, so that each act has a letter and a digit.
+pub fn reach(height: u8, plan: &[u8], out: &mut [u8]) -> usize
+    requires { ⌜ ((p : Plan) × (now plan ≡ encode p) × Lettered p) × (length (now plan) ≤ 32640) ⌝ }
+    ensures { λ r. ⌜ ((p : Plan) → now (plan .entry) ≡ encode p → Lettered p → Prints (now (out .entry)) (reachText height p) r (now (out .exit))) ⌝ }
+{
+    let to = print_room::word(b"reach ", out, 0);
+    let to = print_room::number(height as u64, out, to);
+    let to = print_room::put(b'\n', out, to);
+    let end = listing::lines(plan, 0, 0, out, to);
+    end.to
+}

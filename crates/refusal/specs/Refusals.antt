@@ -1,0 +1,52 @@
+-- The table of numbered refusals, a line a refusal. "A refusal gives a number and a place [..] Place is 0 unless named." When each is given is said
+-- by those who give it, as rows (Order).
+use Prim.Native.Nat.{ℕ}
+use Rattle.refusal.specs.declared.Refusal.{Refusal}
+use Rattle.refusal.specs.declared.Refusal.the-variants.{FormulaLength, StrayByte, LetterPast, NotSentence, Settings, BookLength, Check, Head}
+use Rattle.refusal.specs.declared.Refusal.the-variants.{StrayBit, Team, Known, Goal, RankRoom, PlanRoom, Room, PlanLength, NoAct, NotPermitted}
+use Rattle.refusal.specs.declared.Refusal.the-variants.{NotSettled, TooSoon, LeftOver, Malformed, Twice, SheetLength, SheetSettings}
+use Rattle.refusal.specs.declared.Numbers.{Numbers}
+
+-- "a number and a place", and no second number
+abbrev pub numbered : ℕ → ℕ → Numbers
+numbered number place = record { number = number; place = place; second = 0 }
+
+-- the columns "no." and "place"
+abbrev pub numbers : Refusal → Numbers
+numbers FormulaLength = numbered 1 0
+numbers (StrayByte index) = numbered 2 index
+numbers (LetterPast index) = numbered 3 index
+numbers (NotSentence index) = numbered 4 index
+numbers Settings = numbered 5 0
+numbers BookLength = numbered 6 0
+numbers (Check block) = numbered 7 block
+numbers Head = numbered 8 0
+numbers (StrayBit block) = numbered 9 block
+numbers Team = numbered 10 0
+numbers Known = numbered 11 0
+numbers Goal = numbered 12 0
+numbers (RankRoom table) = numbered 13 table
+numbers PlanRoom = numbered 14 0
+numbers Room = numbered 15 0
+numbers PlanLength = numbered 16 0
+numbers (NoAct index) = numbered 17 index
+numbers (NotPermitted index) = numbered 18 index
+numbers (NotSettled index) = numbered 19 index
+numbers (TooSoon length) = numbered 20 length
+numbers (LeftOver first) = numbered 21 first
+numbers (Malformed line) = numbered 22 line
+numbers (Twice line) = numbered 23 line
+numbers SheetLength = numbered 24 0
+numbers SheetSettings = numbered 25 1
+
+-- the number that a refusal gives
+abbrev pub number : Refusal → ℕ
+number r = numbers r .number
+
+-- the place that it gives
+abbrev pub place : Refusal → ℕ
+place r = numbers r .place
+
+-- its second number and one, or 0 where it has none
+abbrev pub second : Refusal → ℕ
+second r = numbers r .second

@@ -1,0 +1,134 @@
+-- The place of 22 is the grammar's: the lines before the refused one begin a well-formed sheet and the lines up to it begin none, since a sheet
+-- that began with them would be refused with 22 itself.
+use mathlib.Core.Path.{_≡_, refl, sym, ap, _∙_, subst}
+use mathlib.Core.Logic.{_⊎_, inl, inr}
+use mathlib.Core.List.{List, [], _∷_, _++_, append-assoc}
+use mathlib.Core.Bool.{Bool, true, false, cond}
+use Prim.Native.Nat.{ℕ, zero, suc, _+_, _-_, _≤_, _<_}
+use native.Mathlib.Omega.{arith}
+use lib.Dec.{eqb, ltb, eqb→eq}
+use lib.ListN.{length, take, drop}
+use lib.Seq.{take-add}
+use Rattle.ground.proofs.Bools.{decide, both, eq→eqb, lt-or-ge}
+use Rattle.ground.proofs.Search.{least-unique}
+use Rattle.sheet_words.specs.Words.{split, newline}
+use Rattle.sheet_words.proofs.Split.{joined, some-piece, joined-split}
+use Rattle.sheet_reading.specs.Reading.{Meaning, refused, stated, firstLine, meaning}
+use Rattle.sheet_reading.specs.Grammar.{ended, text}
+use Rattle.sheet_reading.specs.Place.{BeginsSheet, IsSheet, allEnded, firstLines, Breaks, MalformedAt, at-line, at-end}
+use Rattle.sheet_reading.proofs.SoFar.{begins-less}
+use Rattle.sheet_reading.proofs.Taken.{taken-only-well-formed}
+use Rattle.sheet_reading.proofs.Grammar.{Fine, lines-fine, twenty-two-never}
+use Rattle.sheet_reading.proofs.RefusedAt.{At, Placed, empty-begins, sheet-placed}
+
+-- ---- fewer lines of a sheet that begins so begin one too
+
+ended-append : (p q : List (List ℕ)) → allEnded (p ++ q) ≡ allEnded p ++ allEnded q
+unfolding allEnded
+ended-append [] q = refl
+ended-append (line ∷ p) q = ap (_++_ (ended line)) (ended-append p q) ∙ sym (append-assoc (ended line) (allEnded p) (allEnded q))
+
+fewer-lines : (s : List ℕ) (K L : ℕ) → K ≤ L → BeginsSheet (firstLines L s) → BeginsSheet (firstLines K s)
+unfolding firstLines
+fewer-lines s K L h b =
+    let pieces : List (List ℕ) = split newline s in
+    let sum : L ≡ K + (L - K) = omega arith in
+    let cut : take L pieces ≡ take K pieces ++ take (L - K) (drop K pieces) = ap (λ (n : ℕ). take n pieces) sum ∙ take-add K (L - K) pieces in
+    begins-less (allEnded (take K pieces)) (allEnded (take (L - K) (drop K pieces)))
+    (subst BeginsSheet (ap allEnded cut ∙ ended-append (take K pieces) (take (L - K) (drop K pieces))) b)
+
+-- ---- a refusal is the first line's fault, or 24
+
+-- what a refusal says of the sheet's lines
+abbrev Refusal : List ℕ → ℕ → ℕ → Type 0
+Refusal s x L = At [] (split newline s) (λ t. firstLine (split newline t)) 1 x L
+
+refusal : (s : List ℕ) (x L : ℕ) → meaning s ≡ refused x L → ((x ≡ 24) × (L ≡ 0)) ⊎ Refusal s x L
+unfolding meaning
+refusal s x L e = by-length (ltb 32768 (length s)) e
+  where
+    by-length : (over : Bool) → cond over (refused 24 0) (firstLine (split newline s)) ≡ refused x L → ((x ≡ 24) × (L ≡ 0)) ⊎ Refusal s x L
+    by-length true e = inl (cc, cc)
+    by-length false e = inr (subst (Placed [] (split newline s) (λ t. firstLine (split newline t)) 1) e (sheet-placed s))
+
+-- ---- the place of 22
+
+-- no well-formed sheet begins with the lines up to the one that is 22
+begins-none : (s : List ℕ) (L : ℕ) → Refusal s 22 L → L < length (split newline s) → BeginsSheet (firstLines L s) → ⊥
+unfolding firstLines
+begins-none s L a l b =
+    let up-to : L ≡ suc (a .taken) = omega (arith, a .place) in
+    let again : firstLine (split newline (text (b .sheet))) ≡ refused 22 L =
+    ap (λ (t : List ℕ). firstLine (split newline t)) (b .written ∙ ap (λ (n : ℕ). allEnded (take n (split newline s)) ++ b .rest) up-to)
+    ∙ a .same (omega arith) (b .rest) in
+    subst (Fine (b .sheet)) again (lines-fine (b .sheet) (b .well-formed)) refl
+
+-- THE PLACE OF 22
+pub malformed-line : (s : List ℕ) (L : ℕ) → meaning s ≡ refused 22 L → MalformedAt s L
+unfolding firstLines
+malformed-line s L e = elim (refusal s 22 L e) [ inl h ↦ absurd (omega (arith, h .0)) | inr a ↦ by-place a ]
+  where
+    by-place : Refusal s 22 L → MalformedAt s L
+    by-place a =
+        let before : (K : ℕ) → K < L → Breaks s K → ⊥ = λ K l k. k .1 (fewer-lines s K (a .taken) (omega (arith, a .place)) (a .begun)) in
+        elim (lt-or-ge L (length (split newline s))) [
+          | inl l ↦ at-line (record { here = (l, begins-none s L a l); none-below = before })
+          | inr l ↦ (let end : length (split newline s) ≡ L = omega (arith, a .place, a .inside) in
+              subst (MalformedAt s) end (at-end (λ K k. before K (omega (arith, k .0)) k) (λ w. twenty-two-never (w .sheet) (w .well-formed) L (ap meaning (w .written) ∙ e))))
+        ]
+
+-- ---- and every sheet with such a place is refused there, or at an earlier line
+
+malformed-unique : {s : List ℕ} {K L : ℕ} → MalformedAt s K → MalformedAt s L → K ≡ L
+malformed-unique (at-line a) (at-line b) = least-unique a b
+malformed-unique (at-line {L = K} a) (at-end f g) = absurd (f K (a .here))
+malformed-unique (at-end f g) (at-line {L = L} b) = absurd (f L (b .here))
+malformed-unique (at-end f g) (at-end h k) = refl
+
+-- a well-formed sheet has none
+joined-take : (L : ℕ) (pieces : List (List ℕ)) → L < length pieces → joined newline pieces ≡ allEnded (take L pieces) ++ joined newline (drop L pieces)
+unfolding allEnded ended
+joined-take zero pieces h = refl
+joined-take (suc L) [] h = absurd (omega arith)
+joined-take (suc L) (line ∷ []) h = absurd (omega arith)
+joined-take (suc L) (line ∷ another ∷ more) h =
+    ap (λ (t : List ℕ). line ++ newline ∷ t) (joined-take L (another ∷ more) (omega arith)) ∙ sym (simp append-assoc)
+
+sheet-sound : {s : List ℕ} {L : ℕ} → MalformedAt s L → IsSheet s → ⊥
+unfolding firstLines
+sheet-sound {s} (at-line {L = L} a) w =
+    a .here .1 (record {
+      sheet = w .sheet;
+      well-formed = w .well-formed;
+      rest = joined newline (drop L (split newline s));
+      written = w .written ∙ sym (joined-split newline s) ∙ joined-take L (split newline s) (a .here .0);
+    })
+sheet-sound (at-end f g) w = g w
+
+-- a place where the form is right comes before it
+formed-before : {s : List ℕ} {L : ℕ} → MalformedAt s L → (K : ℕ) → K < length (split newline s) → BeginsSheet (firstLines K s) → K < L
+formed-before {s} (at-line {L = L} a) K l b = elim (lt-or-ge K L) [ inl h ↦ h | inr h ↦ absurd (a .here .1 (fewer-lines s L K h b)) ]
+formed-before (at-end f g) K l b = l
+
+pub malformed-refused : (s : List ℕ) (L : ℕ) → MalformedAt s L → (meaning s ≡ refused 22 L) ⊎ ((x : ℕ) × (p : ℕ) × (meaning s ≡ refused x p) × (x ≡ 22 → ⊥) × (p < L))
+unfolding firstLines allEnded
+malformed-refused s L m = by-outcome (meaning s) refl
+  where
+    by-outcome : (o : Meaning) → meaning s ≡ o → (o ≡ refused 22 L) ⊎ ((x : ℕ) × (p : ℕ) × (o ≡ refused x p) × (x ≡ 22 → ⊥) × (p < L))
+    by-outcome (stated w) e = absurd (sheet-sound m (taken-only-well-formed s w e))
+    by-outcome (refused x p) e =
+        elim (decide (eqb x 22)) [
+          | inl h ↦ (let is : x ≡ 22 = eqb→eq x 22 h in
+              inl (ap (λ (y : ℕ). refused y p) is ∙ ap (refused 22) (malformed-unique (malformed-line s p (e ∙ ap (λ (y : ℕ). refused y p) is)) m)))
+          | inr h ↦ (let other : x ≡ 22 → ⊥ = λ k. both (eqb x 22) (eq→eqb k) h in
+              inr (
+                x,
+                p,
+                refl,
+                other,
+                elim (refusal s x p e) [
+                  | inl k ↦ rw (k .1) (formed-before m 0 (some-piece newline (λ q. 0 < length q) (λ r rs. omega arith) s) empty-begins)
+                  | inr a ↦ (let form = a .formed other in let at : p ≡ suc (a .taken) = omega (arith, a .place) in rw at (formed-before m (suc (a .taken)) (form .0) (form .1)))
+                ],
+              ))
+        ]

@@ -1,0 +1,71 @@
+-- `ending` meets its contract, by what is due.
+use mathlib.Core.Path.{_≡_, sym, ap, _∙_, subst}
+use Prim.Native.Nat.{ℕ}
+use native.Mathlib.Omega.{arith}
+use Rattle.sheet_reading.specs.declared.desk.Due.{Due}
+use Rattle.sheet_reading.specs.declared.desk.Due.the-variants.{Asks}
+use Rattle.sheet_reading.specs.declared.desk.Fault.the-variants.{Malformed}
+use Rattle.sheet_reading.specs.Reading.{Meaning, ending}
+use Rattle.sheet_reading.specs.Reads.{Reads}
+use Rattle.sheet_reading.specs.declared.Told.the-variants.{Stated}
+use Rattle.sheet_reading.proofs.ReadLaws.{refused-is, ended, ended-late, ended-whole}
+use borrow.Author.Needs.{needs}
+use Rattle.sheet_reading.proofs.ending.Statement.{statement}
+use Rattle.sheet_reading.proofs.ending.Tie as tie
+
+enum-told : tie.Need-enum-told
+enum-told c = search needs
+
+refused-requires : tie.Need-refused-requires
+refused-requires c κs = search needs
+
+enum-told-2 : tie.Need-enum-told-2
+enum-told-2 c = search needs
+
+refused-requires-2 : tie.Need-refused-requires-2
+refused-requires-2 c κs = search needs
+
+enum-told-3 : tie.Need-enum-told-3
+enum-told-3 c = search needs
+
+refused-requires-3 : tie.Need-refused-requires-3
+refused-requires-3 c κs = search needs
+
+enum-told-4 : tie.Need-enum-told-4
+enum-told-4 c = search needs
+
+refused-requires-4 : tie.Need-refused-requires-4
+refused-requires-4 c κs = search needs
+
+returns : tie.Need-returns
+returns c = λ sheet h. refused-is (c .refused4 .result .desk) Malformed (c .before .before .before .before .before .args .number) tt (ap (λ (x : Due). ending x sheet (c .before .before .before .before .before .args .rest .now) (c .before .before .before .before .before .args .number)) (c .before .before .enum-told4 .given .1) ∙ ended-late sheet (c .before .before .before .before .before .args .rest .now) (c .before .before .before .before .before .args .number) (c .before .if1 .taken)) (c .refused4 .ensures)
+
+returns-2 : tie.Need-returns-2
+returns-2 c = λ sheet h. refused-is (c .refused .result .desk) Malformed (c .before .before .before .before .args .number) tt (ended (c .before .before .before .before .args .due) sheet (c .before .before .before .before .args .rest .now) (c .before .before .before .before .args .number) (λ e. let z : _≡_ {A = Due} Asks _ = sym e ∙ c .before .enum-told .given .1 in let y : _≡_ {A = ℕ} 0 1 = cc in omega arith)) (c .refused .ensures)
+
+returns-3 : tie.Need-returns-3
+returns-3 c = λ sheet h. refused-is (c .refused2 .result .desk) Malformed (c .before .before .before .before .args .number) tt (ended (c .before .before .before .before .args .due) sheet (c .before .before .before .before .args .rest .now) (c .before .before .before .before .args .number) (λ e. let z : _≡_ {A = Due} Asks _ = sym e ∙ c .before .enum-told2 .given .1 in let y : _≡_ {A = ℕ} 0 1 = cc in omega arith)) (c .refused2 .ensures)
+
+returns-4 : tie.Need-returns-4
+returns-4 c = λ sheet h. refused-is (c .refused3 .result .desk) Malformed (c .before .before .before .before .args .number) tt (ended (c .before .before .before .before .args .due) sheet (c .before .before .before .before .args .rest .now) (c .before .before .before .before .args .number) (λ e. let z : _≡_ {A = Due} Asks _ = sym e ∙ c .before .enum-told3 .given .1 in let y : _≡_ {A = ℕ} 0 1 = cc in omega arith)) (c .refused3 .ensures)
+
+returns-5 : tie.Need-returns-5
+returns-5 c = λ sheet h. subst (λ (o : Meaning). Reads o Stated (c .before .before .before .before .args .desk)) (sym (ap (λ (x : Due). ending x sheet (c .before .before .before .before .args .rest .now) (c .before .before .before .before .args .number)) (c .before .enum-told4 .given .1) ∙ ended-whole sheet (c .before .before .before .before .args .rest .now) (c .before .before .before .before .args .number) (c .if1 .left))) h
+
+pub ending-spec : {M : Type 1} → statement M
+ending-spec =
+    tie.close
+    (tie.spec
+    enum-told
+    refused-requires
+    enum-told-2
+    refused-requires-2
+    enum-told-3
+    refused-requires-3
+    enum-told-4
+    refused-requires-4
+    returns
+    returns-2
+    returns-3
+    returns-4
+    returns-5)

@@ -1,0 +1,36 @@
+-- `asked` meets its contract: the table is written, and counted.
+use mathlib.Core.Path.{refl}
+use Rattle.sheet_reading.specs.Places.{askedDesk}
+use borrow.Author.Needs.{needs}
+use Rattle.sheet_reading.proofs.formulas.asked.Statement.{statement}
+use Rattle.sheet_reading.proofs.formulas.asked.Tie as tie
+
+slice-aggregate-put-table : tie.Need-slice-aggregate-put-table
+slice-aggregate-put-table c = search needs
+
+cast-put-table : tie.Need-cast-put-table
+cast-put-table c = search needs
+
+mul-put-table : tie.Need-mul-put-table
+mul-put-table c = search needs
+
+put-table-requires : tie.Need-put-table-requires
+put-table-requires c κs = search needs
+
+add-next : tie.Need-add-next
+add-next c = search needs
+
+returns : tie.Need-returns
+unfolding askedDesk
+returns c = rw (c .before .before .put-table .ensures) refl
+
+pub asked-spec : {M : Type 1} → statement M
+asked-spec =
+    tie.close
+    (tie.spec
+    slice-aggregate-put-table
+    cast-put-table
+    mul-put-table
+    put-table-requires
+    add-next
+    returns)

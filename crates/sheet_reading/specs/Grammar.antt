@@ -1,0 +1,100 @@
+-- The grammar of well-formed sheets: how each line is written, and what it may say. A sheet that is written so is never 22, whatever else is
+-- wrong with it (proofs/Grammar).
+use mathlib.Core.Path.{_≡_}
+use mathlib.Core.Bool.{cond}
+use mathlib.Core.List.{List, [], _∷_, _++_}
+use Prim.Native.Nat.{ℕ, _+_, _≤_, _<_}
+use lib.ListN.{length}
+use Rattle.ground.specs.Text.{byte, bytes}
+use Rattle.book_block.specs.declared.rule.Right.{Right}
+use Rattle.book_block.specs.declared.rule.Right.the-variants.{Look, Set}
+use Rattle.sheet_words.specs.Words.{newline, space}
+use Rattle.sheet_reading.specs.Sheet.{Rule, Known, Sheet}
+
+-- "Lines [..] end in byte 10"
+unfoldable pub ended : List ℕ → List ℕ
+ended line = line ++ (newline ∷ [])
+
+-- `size N M`
+unfoldable pub sizeText : ℕ → ℕ → List ℕ
+sizeText n m = bytes "size " ++ ((byte "0" + n) ∷ space ∷ (byte "0" + m) ∷ [])
+
+-- `read P G F` and `write P G F`
+unfoldable pub word : Right → List ℕ
+word Look = bytes "read "
+word Set = bytes "write "
+
+unfoldable pub ruleLine : Rule → List ℕ
+ruleLine r = word (r .right) ++ ((byte "a" + r .setting) ∷ space ∷ (byte "1" + r .post) ∷ space ∷ r .text)
+
+unfoldable pub ruleLines : List Rule → List ℕ
+ruleLines [] = []
+ruleLines (r ∷ rs) = ended (ruleLine r) ++ ruleLines rs
+
+-- `team G ..`: "Words are split by one space"
+unfoldable pub postsText : List ℕ → List ℕ
+postsText [] = []
+postsText (q ∷ qs) = space ∷ (byte "1" + q) ∷ postsText qs
+
+unfoldable pub teamLine : List ℕ → List ℕ
+teamLine posts = bytes "team" ++ postsText posts
+
+-- "`known` with settings, `~` before a false one, or alone"
+unfoldable pub knownWord : Known → List ℕ
+knownWord k = cond (k .value) ((byte "a" + k .setting) ∷ []) (byte "~" ∷ (byte "a" + k .setting) ∷ [])
+
+unfoldable pub knownsText : List Known → List ℕ
+knownsText [] = []
+knownsText (k ∷ ks) = space ∷ (knownWord k ++ knownsText ks)
+
+unfoldable pub knownLine : List Known → List ℕ
+knownLine ks = bytes "known" ++ knownsText ks
+
+-- `make F` and `ask F`
+unfoldable pub makeLine : List ℕ → List ℕ
+makeLine F = bytes "make " ++ F
+
+unfoldable pub askLines : List (List ℕ) → List ℕ
+askLines [] = []
+askLines (F ∷ Fs) = ended (bytes "ask " ++ F) ++ askLines Fs
+
+-- the whole sheet
+unfoldable pub text : Sheet → List ℕ
+text sheet =
+    ended (sizeText (sheet .settings) (sheet .posts)) ++ (ruleLines (sheet .rules) ++ (ended (teamLine (sheet .team)) ++ (ended (knownLine (sheet .known)) ++ (ended (makeLine (sheet .make)) ++ askLines (sheet .asks)))))
+
+-- "F is all that follows the space before it" in its line
+abbrev pub InLine : List ℕ → Type 0
+InLine [] = Unit
+InLine (c ∷ F) = (c ≡ newline → ⊥) × InLine F
+
+-- "P a setting letter, G a post digit", not "past the size"
+abbrev pub RulesFit : ℕ → ℕ → List Rule → Type 0
+RulesFit n m [] = Unit
+RulesFit n m (r ∷ rs) = ((r .setting < n) × (r .post < m) × InLine (r .text)) × RulesFit n m rs
+
+abbrev pub PostsFit : ℕ → List ℕ → Type 0
+PostsFit m [] = Unit
+PostsFit m (q ∷ qs) = (q < m) × PostsFit m qs
+
+abbrev pub KnownFit : ℕ → List Known → Type 0
+KnownFit n [] = Unit
+KnownFit n (k ∷ ks) = (k .setting < n) × KnownFit n ks
+
+abbrev pub AsksFit : List (List ℕ) → Type 0
+AsksFit [] = Unit
+AsksFit (F ∷ Fs) = InLine F × AsksFit Fs
+
+-- what a well-formed sheet may say: "N outside 1 to 7, M outside 1 to 8 [..] are 22", "(one or more)", "up to four"
+pub record WellFormed (sheet : Sheet) : Type 0 where
+  pub settings-least : 1 ≤ sheet .settings
+  pub settings-most : sheet .settings ≤ 7
+  pub posts-least : 1 ≤ sheet .posts
+  pub posts-most : sheet .posts ≤ 8
+  pub rules : RulesFit (sheet .settings) (sheet .posts) (sheet .rules)
+  pub someone : 1 ≤ length (sheet .team)
+  pub team : PostsFit (sheet .posts) (sheet .team)
+  pub known : KnownFit (sheet .settings) (sheet .known)
+  pub make : InLine (sheet .make)
+  pub asks : AsksFit (sheet .asks)
+  pub asks-most : length (sheet .asks) ≤ 4
