@@ -11,6 +11,7 @@ use Rattle.knowledge_acts.specs.Acts.{settingOf, postOf, setTo, lookAt}
 use Rattle.knowledge_acts.specs.declared.act.Act.{Act}
 use Rattle.knowledge_acts.specs.declared.act.Act.the-variants.{Set, Look}
 use Rattle.plan.specs.Plans.{System, may, Outcome, after-set, after-look}
+use Rattle.plan.specs.Layers.{leads, can, oneOf, someAct}
 
 -- what holds at the states after an act holds at its outcomes
 pub after-a-set : (P : ℕ → Type 0) {k i q x : ℕ} {b : Bool} → P (setTo k i b) → Outcome k (Set i q b) x → P x
@@ -19,11 +20,6 @@ after-a-set P h (after-set i q b) = h
 pub after-a-look : (P : ℕ → Type 0) {k i q x : ℕ} → P (lookAt k i false) → P (lookAt k i true) → Outcome k (Look i q) x → P x
 after-a-look P f t (after-look i q false) = f
 after-a-look P f t (after-look i q true) = t
-
--- f holds at each outcome of the act
-abbrev pub leads : (ℕ → Bool) → ℕ → Act → Bool
-leads f k (Set i q b) = f (setTo k i b)
-leads f k (Look i q) = f (lookAt k i false) && f (lookAt k i true)
 
 pub leads-to : {k x : ℕ} {a : Act} (f : ℕ → Bool) → T (leads f k a) → Outcome k a x → T (f x)
 leads-to f h (after-set i q b) = h
@@ -35,16 +31,7 @@ leads-in f k (Set i q b) h = h (setTo k i b) (after-set i q b)
 leads-in f k (Look i q) h =
     and-in (f (lookAt k i false)) (f (lookAt k i true)) (h (lookAt k i false) (after-look i q false)) (h (lookAt k i true) (after-look i q true))
 
--- f at one of the acts on a setting by a post
-abbrev pub one-of : (Act → Bool) → ℕ → ℕ → Bool
-one-of f i q = f (Set i q false) || (f (Set i q true) || f (Look i q))
-
--- f at some act of n settings and eight posts
-unfoldable pub some-act : ℕ → (Act → Bool) → Bool
-unfolding any
-some-act n f = any n (λ i. any 8 (λ q. one-of f i q))
-
-one-in : (f : Act → Bool) (a : Act) → T (f a) → T (one-of f (settingOf a) (postOf a))
+one-in : (f : Act → Bool) (a : Act) → T (f a) → T (oneOf f (settingOf a) (postOf a))
 one-in f (Set i q false) h = or-left (f (Set i q false)) (f (Set i q true) || f (Look i q)) h
 one-in f (Set i q true) h =
     or-right (f (Set i q false)) (f (Set i q true) || f (Look i q)) (or-left (f (Set i q true)) (f (Look i q)) h)
@@ -55,7 +42,7 @@ one-in f (Look i q) h =
 abbrev pub Found : ℕ → (Act → Bool) → Type 0
 Found n f = (a : Act) × T (f a) × (settingOf a < n) × (postOf a < 8)
 
-one-out : (n : ℕ) (f : Act → Bool) (i q : ℕ) → i < n → q < 8 → T (one-of f i q) → Found n f
+one-out : (n : ℕ) (f : Act → Bool) (i q : ℕ) → i < n → q < 8 → T (oneOf f i q) → Found n f
 one-out n f i q hi hq h =
     elim (or-out (f (Set i q false)) (f (Set i q true) || f (Look i q)) h) [
       | inl l ↦ (Set i q false, l, hi, hq)
@@ -65,17 +52,17 @@ one-out n f i q hi hq h =
       ]
     ]
 
-pub some-in : (n : ℕ) (f : Act → Bool) (a : Act) → T (f a) → settingOf a < n → postOf a < 8 → T (some-act n f)
-unfolding some-act
+pub some-in : (n : ℕ) (f : Act → Bool) (a : Act) → T (f a) → settingOf a < n → postOf a < 8 → T (someAct n f)
+unfolding someAct
 some-in n f a h hi hq =
-    any-intro n (λ i. any 8 (λ q. one-of f i q)) (settingOf a) hi
-    (any-intro 8 (λ q. one-of f (settingOf a) q) (postOf a) hq (one-in f a h))
+    any-intro n (λ i. any 8 (λ q. oneOf f i q)) (settingOf a) hi
+    (any-intro 8 (λ q. oneOf f (settingOf a) q) (postOf a) hq (one-in f a h))
 
-pub some-out : (n : ℕ) (f : Act → Bool) → T (some-act n f) → Found n f
-unfolding some-act
+pub some-out : (n : ℕ) (f : Act → Bool) → T (someAct n f) → Found n f
+unfolding someAct
 some-out n f h =
-    let r = any-elim n (λ i. any 8 (λ q. one-of f i q)) h in
-    let s = any-elim 8 (λ q. one-of f (r .0) q) (r .2) in
+    let r = any-elim n (λ i. any 8 (λ q. oneOf f i q)) h in
+    let s = any-elim 8 (λ q. oneOf f (r .0) q) (r .2) in
     one-out n f (r .0) (s .0) (r .1) (s .1) (s .2)
 
 -- f at every act of n settings and eight posts
@@ -97,10 +84,6 @@ every-at n f a h hi hq =
         and-left (f (Set i q true)) (f (Look i q)) (and-right (f (Set i q false)) (f (Set i q true) && f (Look i q)) t)
     pick (Look i q) t =
         and-right (f (Set i q true)) (f (Look i q)) (and-right (f (Set i q false)) (f (Set i q true) && f (Look i q)) t)
-
--- the act may be done at k, and f holds at each outcome
-abbrev pub can : System → (ℕ → Bool) → ℕ → Act → Bool
-can S f k a = may S k a && leads f k a
 
 pub can-in : (S : System) (f : ℕ → Bool) (k : ℕ) (a : Act) → T (may S k a) → ((x : ℕ) → Outcome k a x → T (f x)) → T (can S f k a)
 can-in S f k a m h = and-in (may S k a) (leads f k a) m (leads-in f k a h)

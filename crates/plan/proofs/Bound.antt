@@ -11,7 +11,8 @@ use Rattle.plan.specs.Plans.{System, Lawful, Plan, Works, height}
 use Rattle.plan.specs.Pending.{unknowns}
 use Rattle.plan.proofs.Unknowns.{unknowns-le}
 use Rattle.plan.proofs.Class.{Mates, mates-self, class, covers, class-length, stays}
-use Rattle.plan.proofs.Layers.{below, Within, sound, complete, step, next, to-higher}
+use Rattle.plan.specs.Layers.{below}
+use Rattle.plan.proofs.Layers.{Within, sound, complete, step, next, to-higher}
 use Rattle.plan.proofs.Pigeonhole.{settles}
 
 -- the layer that suffices for states with fewer than u unknown settings

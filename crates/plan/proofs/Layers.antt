@@ -1,4 +1,4 @@
--- A working plan of height below h exists exactly where layer h says so: a layer has the goal's states and those with an act
+-- A working plan of height below h exists exactly where layer h says so (`sound`, `complete`): a layer has the goal's states and those with an act
 -- into the layer before it, so a plan's first act takes both from one layer to the one before.
 use mathlib.Core.Logic.{_⊎_, inl, inr}
 use mathlib.Core.Bool.{Bool, true, false, _||_}
@@ -11,12 +11,8 @@ use Rattle.knowledge_acts.specs.Acts.{setTo, lookAt}
 use Rattle.knowledge_acts.specs.declared.act.Act.{Act}
 use Rattle.knowledge_acts.specs.declared.act.Act.the-variants.{Set, Look}
 use Rattle.plan.specs.Plans.{System, may, Lawful, Outcome, after-set, after-look, Plan, stop, set-then, look-then, Works, height}
-use Rattle.plan.proofs.Acts.{after-a-set, after-a-look, some-act, some-in, some-out, can, can-in, can-may, can-at}
-
--- layer h: no state at 0; then the goal's states, and those with an act whose outcomes are all in the layer before
-unfoldable pub below : ℕ → System → ℕ → ℕ → Bool
-below n S zero k = false
-below n S (suc h) k = S .goal k || some-act n (can S (below n S h) k)
+use Rattle.plan.specs.Layers.{can, someAct, below}
+use Rattle.plan.proofs.Acts.{after-a-set, after-a-look, some-in, some-out, can-in, can-may, can-at}
 
 -- a working plan of height below h
 abbrev pub Within : System → ℕ → ℕ → Type 0
@@ -35,19 +31,19 @@ act-then S h k (Look i q) m f =
 module _ {n : ℕ} {S : System} (law : Lawful n S) where
   pub layer-goal : (h k : ℕ) → T (S .goal k) → T (below n S (suc h) k)
   unfolding below
-  layer-goal h k g = or-left (S .goal k) (some-act n (can S (below n S h) k)) g
+  layer-goal h k g = or-left (S .goal k) (someAct n (can S (below n S h) k)) g
 
   pub layer-act : (h k : ℕ) (a : Act) → T (may S k a) → ((x : ℕ) → Outcome k a x → T (below n S h x)) → T (below n S (suc h) k)
   unfolding below
   layer-act h k a m f =
-      or-right (S .goal k) (some-act n (can S (below n S h) k))
+      or-right (S .goal k) (someAct n (can S (below n S h) k))
       (some-in n (can S (below n S h) k) a (can-in S (below n S h) k a m f) (law .setting-of k a m) (law .post-of k a m))
 
   -- what a state of a layer has: the goal, or an act into the layer before
   pub layer-out : (h k : ℕ) → T (below n S (suc h) k) → T (S .goal k) ⊎ ((a : Act) × T (may S k a) × ((x : ℕ) → Outcome k a x → T (below n S h x)))
   unfolding below
   layer-out h k t =
-      elim (or-out (S .goal k) (some-act n (can S (below n S h) k)) t) [
+      elim (or-out (S .goal k) (someAct n (can S (below n S h) k)) t) [
         | inl g ↦ inl g
         | inr s ↦ (let r = some-out n (can S (below n S h) k) s in
             inr (r .0, can-may S (below n S h) k (r .0) (r .1), λ x o. can-at S (below n S h) k (r .0) (r .1) o))

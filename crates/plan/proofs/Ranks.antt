@@ -12,7 +12,8 @@ use Rattle.ground.proofs.Bools.{decide, both, lt-or-ge}
 use Rattle.ground.proofs.Search.{least-unique}
 use Rattle.plan.specs.Plans.{System, Lawful, Plan, Works, height}
 use Rattle.plan.specs.Ranks.{Reach, IsRank}
-use Rattle.plan.proofs.Layers.{below, sound, complete}
+use Rattle.plan.specs.Layers.{below}
+use Rattle.plan.proofs.Layers.{sound, complete}
 use Rattle.plan.proofs.Bound.{bound, short-plan}
 
 -- the least number below h at which a test holds, or it holds at none

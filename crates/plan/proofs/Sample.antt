@@ -14,7 +14,8 @@ use Rattle.knowledge.specs.Fits.{implies}
 use Rattle.plan.specs.Plans.{System, may, Lawful, Outcome, after-set, after-look, Plan, stop, set-then, look-then}
 use Rattle.plan.specs.Ranks.{IsRank, Chosen, Written}
 use Rattle.plan.specs.Certificate.{Leads, Certified}
-use Rattle.plan.proofs.Acts.{leads, leads-to, some-act, some-out, every-act, every-at, can, can-in, can-may, can-at}
+use Rattle.plan.specs.Layers.{leads, can, someAct}
+use Rattle.plan.proofs.Acts.{leads-to, some-out, every-act, every-at, can-in, can-may, can-at}
 use Rattle.plan.proofs.States.{elem, each, each-at, holds}
 use Rattle.plan.proofs.Certificate.{Closed, certified}
 use Rattle.plan.proofs.Table.{chosen}
@@ -43,11 +44,11 @@ abbrev pub clauses : ℕ → System → List ℕ → (ℕ → ℕ) → ℕ → B
 clauses n S ks table k =
     leb (table k) 255
     && (implies (S .goal k) (eqb (table k) 0)
-    && (implies (ltb (table k) 255) (S .goal k || some-act n (drops S table k (table k))) && every-act n (minds S ks table k)))
+    && (implies (ltb (table k) 255) (S .goal k || someAct n (drops S table k (table k))) && every-act n (minds S ks table k)))
 
 -- the entries of the states are their ranks: who names it on an `unfolding` line unfolds all of it, so that the test computes
 unfoldable pub ranked : ℕ → System → List ℕ → (ℕ → ℕ) → Bool
-unfolding each elem some-act every-act entry
+unfolding each elem someAct every-act entry
 ranked n S ks table = each (clauses n S ks table) ks
 
 -- an act with a byte no larger than that of the act a, or one that does not lower the entry
@@ -87,11 +88,11 @@ module _ {n : ℕ} {S : System} (ks : List ℕ) (table : ℕ → ℕ) (law : Law
 
   four : (k : ℕ) → Has k
       → T (leb (table k) 255) × T (implies (S .goal k) (eqb (table k) 0))
-      × T (implies (ltb (table k) 255) (S .goal k || some-act n (drops S table k (table k)))) × T (every-act n (minds S ks table k))
+      × T (implies (ltb (table k) 255) (S .goal k || someAct n (drops S table k (table k)))) × T (every-act n (minds S ks table k))
   unfolding ranked
   four k m =
       all-four (leb (table k) 255) (implies (S .goal k) (eqb (table k) 0))
-      (implies (ltb (table k) 255) (S .goal k || some-act n (drops S table k (table k)))) (every-act n (minds S ks table k))
+      (implies (ltb (table k) 255) (S .goal k || someAct n (drops S table k (table k)))) (every-act n (minds S ks table k))
       (each-at (clauses n S ks table) ks k t m)
 
   -- what an act at a state of the list comes to
@@ -114,8 +115,8 @@ module _ {n : ℕ} {S : System} (ks : List ℕ) (table : ℕ → ℕ) (law : Law
   is-certified = record {
     most = λ k m. leb→le (table k) 255 (four k m .0);
     settled = λ k m g. eqb→eq (table k) 0 (holds (S .goal k) (eqb (table k) 0) g (four k m .1));
-    reached = λ k m l. elim (or-out (S .goal k) (some-act n (drops S table k (table k)))
-        (holds (ltb (table k) 255) (S .goal k || some-act n (drops S table k (table k))) (lt→ltb (table k) 255 l) (four k m .2))) [
+    reached = λ k m l. elim (or-out (S .goal k) (someAct n (drops S table k (table k)))
+        (holds (ltb (table k) 255) (S .goal k || someAct n (drops S table k (table k))) (lt→ltb (table k) 255 l) (four k m .2))) [
           | inl g ↦ inl g
           | inr s ↦ (let r = some-out n (drops S table k (table k)) s in inr (r .0, drops-out k (table k) (r .0) (r .1)))
         ];

@@ -16,8 +16,9 @@ use Rattle.knowledge_acts.specs.declared.act.Named.{Named}
 use Rattle.knowledge_acts.specs.declared.act.Named.the-variants.{One, Nothing}
 use Rattle.plan.specs.Plans.{System, Lawful, Outcome, after-set, after-look, Plan, stop, set-then, look-then, Works, height}
 use Rattle.plan.specs.Ranks.{IsRank, Lowers, Chosen, Written}
-use Rattle.plan.proofs.Acts.{can, can-in, can-may, can-at}
-use Rattle.plan.proofs.Layers.{below, complete, layer-out}
+use Rattle.plan.proofs.Acts.{can-in, can-may, can-at}
+use Rattle.plan.specs.Layers.{can, below}
+use Rattle.plan.proofs.Layers.{complete, layer-out}
 use Rattle.knowledge_acts.proofs.Acts.{act-of-byte}
 use Rattle.plan.proofs.Bytes.{byte-of-act, byte-injective}
 use Rattle.plan.proofs.Ranks.{first-of, rank-unique, rank-least, rank-in, rank-out}
