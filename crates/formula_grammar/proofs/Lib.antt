@@ -1,5 +1,5 @@
--- The laws of the bytes of a formula: each test as code makes it, and the first look.
--- The laws of sentences: the automaton is the grammar, one text has one meaning, and what the readers find.
+-- The laws of a formula's text: each test on a byte as code makes it, and the first look; the automaton is the grammar, one text has one meaning, and
+-- what the readers find.
 pub mod ScanLaws
 pub mod Automaton
 pub mod Begins

@@ -14,7 +14,7 @@ use Rattle.ground.specs.Digits.{bit}
 use Rattle.ground.proofs.Bools.{T→false, lt-or-ge}
 use Rattle.formula_grammar.specs.Grammar.{Kind, sum, product, unit, Sentence, letter, nought, one, negated, bracketed, one-unit, unit-and, one-product, product-or, text, meaning}
 use Rattle.formula_grammar.specs.Signs.{isLetter}
-use Rattle.formula_table.specs.Two.{has, Holds}
+use Rattle.formula_table.specs.Two.{has, WordsOf}
 use Rattle.formula_grammar.specs.Automaton as A
 use Rattle.formula_grammar.specs.Automaton.{State, wants, dead, step, isAtom, breaks, ends, verdict, stops, Parsed, Parses}
 use Rattle.formula_grammar.specs.declared.parts.Part.{Part}
@@ -80,8 +80,8 @@ breaks-here st s i f g = elim (lt-or-ge i (length s)) [
 
 -- ---- units
 
-pub negated-read : {s : List ℕ} {i : ℕ} {w : Truths} {next : ℕ} (u : Truths) → getD s i 0 ≡ 126 → Parsed unit s (i + 1) w next → Holds u (λ v. not (has w v)) → Parsed unit s i u next
-unfolding text meaning Holds stops
+pub negated-read : {s : List ℕ} {i : ℕ} {w : Truths} {next : ℕ} (u : Truths) → getD s i 0 ≡ 126 → Parsed unit s (i + 1) w next → WordsOf u (λ v. not (has w v)) → Parsed unit s i u next
+unfolding text meaning WordsOf stops
 negated-read {s} {i} u e p h = record {
   sentence = negated (p .sentence);
   spans = from-byte s i 125 e ∙ ap (λ (t : List ℕ). 126 ∷ t) (p .spans);
@@ -117,7 +117,7 @@ unclosed s i {w} {next} e p c d =
     ∙ breaks-here (A.has (suc d)) s next (λ l. sum-dies (suc d) (getD s next 0) (p .stopped) (ne-eqb (getD s next 0) 41 c)) (λ l. refl)
 
 -- one byte that is a unit by itself
-atom-read : (u : Sentence unit) (w : Truths) {s : List ℕ} {i c : ℕ} → getD s i 0 ≡ suc c → text u ≡ suc c ∷ [] → Holds w (meaning u) → Parsed unit s i w (i + 1)
+atom-read : (u : Sentence unit) (w : Truths) {s : List ℕ} {i c : ℕ} → getD s i 0 ≡ suc c → text u ≡ suc c ∷ [] → WordsOf w (meaning u) → Parsed unit s i w (i + 1)
 unfolding stops
 atom-read u w {s} {i} {c} e t h = record {
   sentence = u;
@@ -127,15 +127,15 @@ atom-read u w {s} {i} {c} e t h = record {
   stopped = tt;
 }
 
-pub nought-read : {s : List ℕ} {i : ℕ} (w : Truths) → getD s i 0 ≡ 48 → Holds w (λ v. false) → Parsed unit s i w (i + 1)
+pub nought-read : {s : List ℕ} {i : ℕ} (w : Truths) → getD s i 0 ≡ 48 → WordsOf w (λ v. false) → Parsed unit s i w (i + 1)
 unfolding text meaning
 nought-read w e h = atom-read nought w e refl h
 
-pub one-read : {s : List ℕ} {i : ℕ} (w : Truths) → getD s i 0 ≡ 49 → Holds w (λ v. true) → Parsed unit s i w (i + 1)
+pub one-read : {s : List ℕ} {i : ℕ} (w : Truths) → getD s i 0 ≡ 49 → WordsOf w (λ v. true) → Parsed unit s i w (i + 1)
 unfolding text meaning
 one-read w e h = atom-read one w e refl h
 
-pub letter-read : {s : List ℕ} {i : ℕ} (w : Truths) (c : ℕ) → getD s i 0 ≡ c → 97 ≤ c → c - 97 < 7 → Holds w (λ v. bit v (c - 97)) → Parsed unit s i w (i + 1)
+pub letter-read : {s : List ℕ} {i : ℕ} (w : Truths) (c : ℕ) → getD s i 0 ≡ c → 97 ≤ c → c - 97 < 7 → WordsOf w (λ v. bit v (c - 97)) → Parsed unit s i w (i + 1)
 unfolding text meaning
 letter-read {s} {i} w c e low high h =
     let number : c ≡ suc (96 + (c - 97)) = omega arith in
@@ -170,8 +170,8 @@ module _ (c : ℕ) (k l : Kind) (join : Sentence k → Sentence l → Sentence l
     (writes : (a : Sentence k) (b : Sentence l) → text (join a b) ≡ text a ++ suc c ∷ text b)
     (tells : (a : Sentence k) (b : Sentence l) (v : ℕ) → meaning (join a b) v ≡ g (meaning a v) (meaning b v)) where
   joined : {s : List ℕ} {i : ℕ} {w x : Truths} {next end : ℕ} (u : Truths) → Parsed k s i w next → getD s next 0 ≡ suc c → Parsed l s (next + 1) x end
-      → Holds u (λ v. g (has w v) (has x v)) → Parsed l s i u end
-  unfolding Holds
+      → WordsOf u (λ v. g (has w v) (has x v)) → Parsed l s i u end
+  unfolding WordsOf
   joined {s} {i} {w} {x} {next} {end} u p e q h = record {
     sentence = join (p .sentence) (q .sentence);
     spans =
@@ -183,12 +183,12 @@ module _ (c : ℕ) (k l : Kind) (join : Sentence k → Sentence l → Sentence l
   }
 
 pub product-more : {s : List ℕ} {i : ℕ} {w x : Truths} {next end : ℕ} (u : Truths) → Parsed unit s i w next → getD s next 0 ≡ 38 → Parsed product s (next + 1) x end
-    → Holds u (λ v. has w v && has x v) → Parsed product s i u end
+    → WordsOf u (λ v. has w v && has x v) → Parsed product s i u end
 unfolding text meaning
 product-more u p e q h = joined 37 unit product unit-and _&&_ (λ a b. refl) (λ a b v. refl) u p e q h
 
 pub sum-more : {s : List ℕ} {i : ℕ} {w x : Truths} {next end : ℕ} (u : Truths) → Parsed product s i w next → getD s next 0 ≡ 124 → Parsed sum s (next + 1) x end
-    → Holds u (λ v. has w v || has x v) → Parsed sum s i u end
+    → WordsOf u (λ v. has w v || has x v) → Parsed sum s i u end
 unfolding text meaning
 sum-more u p e q h = joined 123 product sum product-or _||_ (λ a b. refl) (λ a b v. refl) u p e q h
 

@@ -9,7 +9,7 @@ use lib.ListN.{length, getD, drop}
 use Rattle.ground.specs.Text.{byte}
 use Rattle.formula_grammar.specs.Grammar.{Kind, sum, product, unit, Sentence, text, meaning}
 use Rattle.formula_grammar.specs.Signs.{isLetter}
-use Rattle.formula_table.specs.Two.{Holds}
+use Rattle.formula_table.specs.Two.{WordsOf}
 use Rattle.formula_table.specs.declared.Truths.{Truths}
 use Rattle.formula_grammar.specs.declared.parts.Part.{Part}
 use Rattle.formula_grammar.specs.declared.parts.Part.the-variants.{Read, Broken}
@@ -58,7 +58,7 @@ pub record Parsed (k : Kind) (s : List ℕ) (i : ℕ) (w : Truths) (next : ℕ) 
   pub sentence : Sentence k
   pub spans : drop i s ≡ text sentence ++ drop next s
   pub until : next ≡ i + length (text sentence)
-  pub holds : Holds w (meaning sentence)
+  pub holds : WordsOf w (meaning sentence)
   pub stopped : T (stops k (getD s next 0))
 
 -- what a reader of the given kind finds at place i: a part, or the place where no sentence goes on, however many brackets are open

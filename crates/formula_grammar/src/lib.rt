@@ -1,6 +1,6 @@
-// The sentences that the signs of a formula make: the reader of a sum, which gives its truths and where
-// it ends, or the place where no sentence goes on. For this repository alone, though it takes any text;
-// nothing is written to what a caller lends.
+// The text of a formula: the first look over its bytes, and the reader of a sum, which gives its truths
+// and where it ends, or the place where no sentence goes on. Every function takes any text; nothing is
+// refused here, and nothing is written to what a caller lends.
 mod parts;
 mod signs;
 

@@ -1,6 +1,5 @@
 // The bytes of a formula, and the first look over a text: the lowest place of a byte that no formula
-// has, or of a letter past the settings. For this repository alone, though every function takes any
-// byte or text; nothing is refused, and nothing is written to what a caller lends.
+// has, or of a letter past the settings.
 ghost use mathlib.Core.Path.{_≡_};
 ghost use Rattle.formula_grammar.specs.Signs.{isLetter, isSign, isStray, isPast};
 ghost use Rattle.formula_grammar.specs.Scans.{Scans};

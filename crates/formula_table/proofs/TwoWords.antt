@@ -3,8 +3,8 @@ use mathlib.Core.Path.{_≡_, refl, sym, ap, ap₂, _∙_, subst}
 use mathlib.Core.Logic.{inl, inr}
 use mathlib.Core.List.{List, [], _∷_}
 use mathlib.Core.Bool.{Bool, true, false, not, _&&_, _||_, cond, Bool·beq}
-use Prim.Native.Nat.{ℕ, _+_, _*_, _-_, _/_, _%_, _^_, _<_}
-use native.Mathlib.Nat.{mod-lt}
+use Prim.Native.Nat.{ℕ, _+_, _*_, _-_, _/_, _%_, _^_, _≤_, _<_}
+use native.Mathlib.Nat.{mod-lt, div-eq-of-lt}
 use native.Mathlib.Omega.{arith}
 use lib.Dec.{T, ltb, lit<}
 use lib.Bits.{bitAnd, bitOr, bitXor}
@@ -17,8 +17,8 @@ use Rattle.ground.specs.Search.{all}
 use Rattle.ground.specs.Table.{truth, Within, TableOf}
 use Rattle.ground.proofs.Bools.{beq→eq, lt-or-ge, and-true, and-false}
 use Rattle.ground.proofs.Search.{all-at}
-use Rattle.ground.proofs.Bits.{bit-and, bit-or, bit-xor, bit-shr, bit-mod, bit-of-zero}
-use Rattle.formula_table.specs.Two.{has, Holds, wordsByte, BytesOf}
+use Rattle.ground.proofs.Bits.{bit-and, bit-or, bit-xor, bit-shr, bit-mod, bit-of-zero, bit-off}
+use Rattle.formula_table.specs.Two.{has, WordsOf, wordsByte, BytesOf}
 use Rattle.formula_table.specs.declared.Truths.{Truths}
 
 abbrev words : ℕ → ℕ → Truths
@@ -27,25 +27,25 @@ words low high = record { low = low; high = high }
 abbrev every : ℕ
 every = 0xffff_ffff_ffff_ffff
 
--- a test over all 128 valuations is what `Holds` says
-by-test : (w : Truths) (f : ℕ → Bool) → T (all 128 (λ v. Bool·beq (has w v) (f v))) → Holds w f
-unfolding Holds
+-- a test over all 128 valuations is what `WordsOf` says
+by-test : (w : Truths) (f : ℕ → Bool) → T (all 128 (λ v. Bool·beq (has w v) (f v))) → WordsOf w f
+unfolding WordsOf
 by-test w f t v h = beq→eq (has w v) (f v) (all-at 128 (λ v. Bool·beq (has w v) (f v)) t v h)
 
-true-holds : Holds (words every every) (λ v. true)
+true-holds : WordsOf (words every every) (λ v. true)
 unfolding all has bit digit
 true-holds = by-test (words every every) (λ v. true) tt
 
-false-holds : Holds (words 0 0) (λ v. false)
+false-holds : WordsOf (words 0 0) (λ v. false)
 unfolding all has bit digit
 false-holds = by-test (words 0 0) (λ v. false) tt
 
 -- the constant that a test found
-pub constant-true : (b : Bool) → b ≡ true → Holds (words every every) (λ v. b)
-constant-true b e = subst (λ (b : Bool). Holds (words every every) (λ v. b)) (sym e) true-holds
+pub constant-true : (b : Bool) → b ≡ true → WordsOf (words every every) (λ v. b)
+constant-true b e = subst (λ (b : Bool). WordsOf (words every every) (λ v. b)) (sym e) true-holds
 
-pub constant-false : (b : Bool) → b ≡ false → Holds (words 0 0) (λ v. b)
-constant-false b e = subst (λ (b : Bool). Holds (words 0 0) (λ v. b)) (sym e) false-holds
+pub constant-false : (b : Bool) → b ≡ false → WordsOf (words 0 0) (λ v. b)
+constant-false b e = subst (λ (b : Bool). WordsOf (words 0 0) (λ v. b)) (sym e) false-holds
 
 -- ---- letters
 
@@ -56,13 +56,21 @@ letters = 0xaaaa_aaaa_aaaa_aaaa ∷ 0xcccc_cccc_cccc_cccc ∷ 0xf0f0_f0f0_f0f0_f
 letter-test : ℕ → Bool
 letter-test i = all 128 (λ v. Bool·beq (has (words (getD letters i 0) (getD letters i 0)) v) (bit v i))
 
-pub letter-holds : (i : ℕ) → i < 6 → Holds (words (getD letters i 0) (getD letters i 0)) (λ v. bit v i)
+pub letter-holds : (i : ℕ) → i < 6 → WordsOf (words (getD letters i 0) (getD letters i 0)) (λ v. bit v i)
 unfolding letters all has bit digit letter-test
 letter-holds i h = by-test (words (getD letters i 0) (getD letters i 0)) (λ v. bit v i) (all-at 6 letter-test tt i h)
 
-pub last-letter-holds : (i : ℕ) → i ≡ 6 → Holds (words 0 every) (λ v. bit v i)
+pub last-letter-holds : (i : ℕ) → i ≡ 6 → WordsOf (words 0 every) (λ v. bit v i)
 unfolding all has bit digit
-last-letter-holds i e = subst (λ (i : ℕ). Holds (words 0 every) (λ v. bit v i)) (sym e) (by-test (words 0 every) (λ v. bit v 6) tt)
+last-letter-holds i e = subst (λ (i : ℕ). WordsOf (words 0 every) (λ v. bit v i)) (sym e) (by-test (words 0 every) (λ v. bit v 6) tt)
+
+-- a valuation of seven settings has no bit past 6
+pub past-letter-holds : (i : ℕ) → 6 < i → WordsOf (words 0 0) (λ v. bit v i)
+unfolding WordsOf
+past-letter-holds i h v l = false-holds v l ∙ sym (bit-off v i (λ e. omega (arith, e, div-eq-of-lt (small v i l h))))
+  where
+    small : (v i : ℕ) → v < 128 → 6 < i → v < 2 ^ i
+    small v i l h = omega (arith, pow-mono {i = 7} {j = i} h)
 
 -- ---- the operations
 
@@ -72,24 +80,24 @@ picked g false x y x′ y′ = refl
 
 -- a law of bits, at every valuation
 module _ (op : ℕ → ℕ → ℕ) (g : Bool → Bool → Bool) (law : (a b i : ℕ) → bit (op a b) i ≡ g (bit a i) (bit b i)) where
-  both-words : (a b : Truths) → Holds (words (op (a .low) (b .low)) (op (a .high) (b .high))) (λ v. g (has a v) (has b v))
-  unfolding Holds has
+  both-words : (a b : Truths) → WordsOf (words (op (a .low) (b .low)) (op (a .high) (b .high))) (λ v. g (has a v) (has b v))
+  unfolding WordsOf has
   both-words a b v h =
       ap₂ (cond (ltb v 64)) (law (a .low) (b .low) v) (law (a .high) (b .high) (v - 64))
       ∙ picked g (ltb v 64) (bit (a .low) v) (bit (b .low) v) (bit (a .high) (v - 64)) (bit (b .high) (v - 64))
 
-pub and-holds : (a b : Truths) → Holds (words (bitAnd (a .low) (b .low)) (bitAnd (a .high) (b .high))) (λ v. has a v && has b v)
+pub and-holds : (a b : Truths) → WordsOf (words (bitAnd (a .low) (b .low)) (bitAnd (a .high) (b .high))) (λ v. has a v && has b v)
 and-holds a b = both-words bitAnd _&&_ bit-and a b
 
-pub or-holds : (a b : Truths) → Holds (words (bitOr (a .low) (b .low)) (bitOr (a .high) (b .high))) (λ v. has a v || has b v)
+pub or-holds : (a b : Truths) → WordsOf (words (bitOr (a .low) (b .low)) (bitOr (a .high) (b .high))) (λ v. has a v || has b v)
 or-holds a b = both-words bitOr _||_ bit-or a b
 
 unlike : (x y : Bool) → y ≡ true → not (Bool·beq x y) ≡ not x
 unlike true y e = rw e
 unlike false y e = rw e
 
-pub not-holds : (a : Truths) → Holds (words (bitXor (a .low) every) (bitXor (a .high) every)) (λ v. not (has a v))
-unfolding Holds
+pub not-holds : (a : Truths) → WordsOf (words (bitXor (a .low) every) (bitXor (a .high) every)) (λ v. not (has a v))
+unfolding WordsOf
 not-holds a v h =
     both-words bitXor (λ x y. not (Bool·beq x y)) bit-xor a (words every every) v h ∙ unlike (has a v) (has (words every every) v) (true-holds v h)
 
@@ -104,28 +112,28 @@ below n v = ltb v (2 ^ n)
 mask-test : ℕ → Bool
 mask-test n = all 128 (λ v. Bool·beq (has (words (getD masks n 0) 0) v) (below n v))
 
-mask-holds : (n : ℕ) → n < 6 → Holds (words (getD masks n 0) 0) (below n)
+mask-holds : (n : ℕ) → n < 6 → WordsOf (words (getD masks n 0) 0) (below n)
 unfolding masks all has bit digit mask-test
 mask-holds n h = by-test (words (getD masks n 0) 0) (below n) (all-at 6 mask-test tt n h)
 
 -- the low word through a mask, the high one gone
-pub within-low : (a : Truths) (n : ℕ) → n < 6 → Holds (words (bitAnd (a .low) (getD masks n 0)) 0) (λ v. has a v && below n v)
-unfolding Holds has
+pub within-low : (a : Truths) (n : ℕ) → n < 6 → WordsOf (words (bitAnd (a .low) (getD masks n 0)) 0) (λ v. has a v && below n v)
+unfolding WordsOf has
 within-low a n h v l =
     ap₂ (cond (ltb v 64)) (bit-and (a .low) (getD masks n 0) v) (bit-of-zero (v - 64) ∙ sym (and-false (bit (a .high) (v - 64))) ∙ ap (λ (x : Bool). bit (a .high) (v - 64) && x) (sym (bit-of-zero (v - 64))))
     ∙ picked _&&_ (ltb v 64) (bit (a .low) v) (bit (getD masks n 0) v) (bit (a .high) (v - 64)) (bit 0 (v - 64))
     ∙ ap (λ (x : Bool). has a v && x) (mask-holds n h v l)
 
-pub within-six : (a : Truths) (n : ℕ) → n ≡ 6 → Holds (words (a .low) 0) (λ v. has a v && below n v)
-unfolding Holds has
+pub within-six : (a : Truths) (n : ℕ) → n ≡ 6 → WordsOf (words (a .low) 0) (λ v. has a v && below n v)
+unfolding WordsOf has
 within-six a n e v l = elim (lt-or-ge v 64) [
   | inl h ↦ rw (e, lt-ltb v 64 h) (sym (and-true (bit (a .low) v)))
   | inr h ↦ rw (e, le-ltb v 64 h) (bit-of-zero (v - 64) ∙ sym (and-false (bit (a .high) (v - 64))))
 ]
 
-pub within-seven : (a : Truths) (n : ℕ) → n ≡ 7 → Holds a (λ v. has a v && below n v)
-unfolding Holds
-within-seven a n e v l = rw (e, lt-ltb v 128 l) (sym (and-true (has a v)))
+pub within-seven : (a : Truths) (n : ℕ) → 7 ≤ n → WordsOf a (λ v. has a v && below n v)
+unfolding WordsOf
+within-seven a n h v l = rw (lt-ltb v (2 ^ n) (omega (arith, pow-mono {i = 7} {j = n} h))) (sym (and-true (has a v)))
 
 -- ---- the bytes
 
@@ -151,8 +159,8 @@ bytes-small w t b j = elim (lt-or-ge j 16) [
 ]
 
 -- the bytes of the words of f, cut to n settings, are f's table
-pub table-of : {n : ℕ} {f : ℕ → Bool} (w : Truths) {u : Truths} {t : List ℕ} → n < 8 → Holds w f → Holds u (λ v. has w v && below n v) → BytesOf u t → TableOf n f t
-unfolding Holds Within
+pub table-of : {n : ℕ} {f : ℕ → Bool} (w : Truths) {u : Truths} {t : List ℕ} → n < 8 → WordsOf w f → WordsOf u (λ v. has w v && below n v) → BytesOf u t → TableOf n f t
+unfolding WordsOf Within
 table-of {n} {f} w {u} {t} h hw hu b = record {
   sixteen = b .sixteen;
   bytes = bytes-small u t b;

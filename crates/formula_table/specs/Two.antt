@@ -13,8 +13,8 @@ unfoldable pub has : Truths → ℕ → Bool
 has w v = cond (ltb v 64) (bit (w .low) v) (bit (w .high) (v - 64))
 
 -- the words say what f says, at each of the 128 valuations of seven settings
-unfoldable pub Holds : Truths → (ℕ → Bool) → Type 0
-Holds w f = (v : ℕ) → v < 128 → has w v ≡ f v
+unfoldable pub WordsOf : Truths → (ℕ → Bool) → Type 0
+WordsOf w f = (v : ℕ) → v < 128 → has w v ≡ f v
 
 -- byte j of the words
 unfoldable pub wordsByte : Truths → ℕ → ℕ

@@ -1,11 +1,12 @@
 // The truths of a formula at all 128 valuations of seven settings, in two words: its table while it is worked
-// on. A letter, `~`, `&` and `|` are one or two operations. For this repository alone, where it says so.
+// on. A letter, `~`, `&` and `|` are one or two operations. Every function takes any words and any number;
+// nothing is refused.
 ghost use mathlib.Core.Path.{_≡_};
 ghost use mathlib.Core.Bool.{true, false, not, _&&_, _||_, cond};
 ghost use Prim.Native.Nat.{ℕ, _<_, _^_};
 ghost use lib.Dec.{ltb};
 ghost use Rattle.ground.specs.Digits.{bit};
-ghost use Rattle.formula_table.specs.Two.{has, Holds, wordsByte, BytesOf};
+ghost use Rattle.formula_table.specs.Two.{has, WordsOf, wordsByte, BytesOf};
 
 // Bit v of `low` for the valuations below 64, and bit v - 64 of `high` for the others.
 pub struct Truths {
@@ -30,7 +31,7 @@ const WITHIN: [u64; 6] = [0x1, 0x3, 0xf, 0xff, 0xffff, 0xffff_ffff];
 
 impl Truths {
     pub fn constant(value: bool) -> Truths
-        ensures { λ r. ⌜ Holds r (λ v. value) ⌝ }
+        ensures { λ r. ⌜ WordsOf r (λ v. value) ⌝ }
     {
         if value {
             Truths {
@@ -42,16 +43,18 @@ impl Truths {
         }
     }
 
-    // The letter with index i, for this repository alone: a is 0, g is 6.
+    // The letter with index i: a is 0, g is 6. A valuation has no bit past 6, so a letter past g is false.
     pub fn letter(i: u8) -> Truths
-        requires { ⌜ i < 7 ⌝ }
-        ensures { λ r. ⌜ Holds r (λ v. bit v i) ⌝ }
+        ensures { λ r. ⌜ WordsOf r (λ v. bit v i) ⌝ }
     {
         if i == 6 {
             return Truths {
                 low: 0,
                 high: EVERY,
             };
+        }
+        if 6 < i {
+            return Truths { low: 0, high: 0 };
         }
         let word = LETTERS[i as usize];
         Truths {
@@ -61,7 +64,7 @@ impl Truths {
     }
 
     pub fn negated(self) -> Truths
-        ensures { λ r. ⌜ Holds r (λ v. not (has self v)) ⌝ }
+        ensures { λ r. ⌜ WordsOf r (λ v. not (has self v)) ⌝ }
     {
         Truths {
             low: self.low ^ EVERY,
@@ -70,7 +73,7 @@ impl Truths {
     }
 
     pub fn and(self, other: Truths) -> Truths
-        ensures { λ r. ⌜ Holds r (λ v. has self v && has other v) ⌝ }
+        ensures { λ r. ⌜ WordsOf r (λ v. has self v && has other v) ⌝ }
     {
         Truths {
             low: self.low & other.low,
@@ -79,7 +82,7 @@ impl Truths {
     }
 
     pub fn or(self, other: Truths) -> Truths
-        ensures { λ r. ⌜ Holds r (λ v. has self v || has other v) ⌝ }
+        ensures { λ r. ⌜ WordsOf r (λ v. has self v || has other v) ⌝ }
     {
         Truths {
             low: self.low | other.low,
@@ -87,12 +90,11 @@ impl Truths {
         }
     }
 
-    // No bit past 2^n, for this repository alone: n is at most 7.
+    // No bit past 2^n. There are 128 bits in all, so seven settings or more keep every one.
     pub fn within(self, n: usize) -> Truths
-        requires { ⌜ n < 8 ⌝ }
-        ensures { λ r. ⌜ Holds r (λ v. has self v && ltb v (2 ^ n)) ⌝ }
+        ensures { λ r. ⌜ WordsOf r (λ v. has self v && ltb v (2 ^ n)) ⌝ }
     {
-        if n == 7 {
+        if 7 <= n {
             return self;
         }
         if n == 6 {

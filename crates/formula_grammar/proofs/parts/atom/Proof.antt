@@ -36,7 +36,7 @@ sub-letter : tie.Need-sub-letter
 sub-letter c = letter-low (c .before .before .before .before .peek .result) (sym (c .if3 .taken) ∙ c .before .is-letter .ensures)
 
 letter-requires : tie.Need-letter-requires
-letter-requires c κs = letter-small (c .before .before .before .before .peek .result) (sym (c .if3 .taken) ∙ c .before .is-letter .ensures)
+letter-requires c κs = search needs
 
 add-t12 : tie.Need-add-t12
 add-t12 c = let low = letter-low (c .before .before .before .before .before .peek .result) (sym (c .before .if3 .taken) ∙ c .before .before .is-letter .ensures) in omega (arith, beyond (c .before .before .before .before .before .before .before .args .text .now) (c .before .before .before .before .before .before .before .args .at) (c .before .before .before .before .before .peek .result) (c .before .before .before .before .before .peek .ensures) low)

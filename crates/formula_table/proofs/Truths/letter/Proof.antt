@@ -1,6 +1,6 @@
 -- `Truths::letter` meets its contract: the table of letters by a computed test over its entries.
 use native.Mathlib.Omega.{arith}
-use Rattle.formula_table.proofs.TwoWords.{letter-holds, last-letter-holds, letters}
+use Rattle.formula_table.proofs.TwoWords.{letter-holds, last-letter-holds, past-letter-holds, letters}
 use lib.Arith.{lt-of-le-ne}
 use borrow.Author.Needs.{needs}
 use Rattle.formula_table.proofs.Truths.letter.Statement.{statement}
@@ -9,15 +9,18 @@ use Rattle.formula_table.proofs.Truths.letter.Tie as tie
 returns : tie.Need-returns
 returns c = last-letter-holds (c .before .args .i) (c .if1 .taken)
 
+returns-2 : tie.Need-returns-2
+returns-2 c = past-letter-holds (c .before .before .args .i) (c .if2 .taken)
+
 mul-word : tie.Need-mul-word
-mul-word c = search needs
+mul-word c = omega (arith, lt-of-le-ne (c .if2 .left) (c .before .if1 .left))
 
 array-read-word : tie.Need-array-read-word
-array-read-word c = search needs
+array-read-word c = omega (arith, lt-of-le-ne (c .if2 .left) (c .before .if1 .left))
 
-returns-2 : tie.Need-returns-2
+returns-3 : tie.Need-returns-3
 unfolding letters
-returns-2 c = letter-holds (c .before .args .i) (lt-of-le-ne (omega arith) (c .if1 .left))
+returns-3 c = letter-holds (c .before .before .args .i) (lt-of-le-ne (c .if2 .left) (c .before .if1 .left))
 
 pub letter-spec : {M : Type 1} → statement M
-letter-spec = tie.close (tie.spec returns mul-word array-read-word returns-2)
+letter-spec = tie.close (tie.spec returns returns-2 mul-word array-read-word returns-3)
