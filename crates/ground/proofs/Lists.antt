@@ -1,12 +1,14 @@
 -- Runs of bytes written one after the other: `sets` composes along `++`, and what was written is read back. By induction on the first run.
-use mathlib.Core.Path.{_≡_, sym, ap, _∙_, subst}
+use mathlib.Core.Path.{_≡_, refl, sym, ap, _∙_, subst}
+use mathlib.Core.Logic.{⊎-elim}
 use mathlib.Core.List.{List, [], _∷_, _++_, append-assoc}
-use Prim.Native.Nat.{ℕ, suc, _+_, _≤_, _<_}
-use native.Mathlib.Nat.{add-zero, add-suc, suc-add, zero-add}
+use Prim.Native.Nat.{ℕ, zero, suc, _+_, _-_, _≤_, _<_, min}
+use native.Mathlib.Nat.{add-zero, add-suc, suc-add, zero-add, min-eq-left, min-eq-right, not-suc-le-zero, le-of-suc-le-suc}
 use native.Mathlib.Omega.{arith}
 use native.Mathlib.Numerals.{add-one}
-use lib.ListN.{length, getD, take, drop, set, length-take, length-drop, List·getD-append}
-use lib.Seq.{ext-getD, sets, sets-eq, length-take-le, take-all, take-suc, getD-append-add, getD-take, getD-drop}
+use Rattle.ground.proofs.Bools.{lt-or-ge}
+use lib.ListN.{length, getD, take, drop, set, length-take, length-drop, length-set, replicate, length-replicate, take-append-drop, List·getD-append}
+use lib.Seq.{ext-getD, sets, sets-eq, length-take-le, take-all, take-take, take-suc, set-out, length-sets, getD-append-add, getD-take, getD-drop}
 
 pub sets-append : (l : List ℕ) (i : ℕ) (a b : List ℕ) → sets l i (a ++ b) ≡ sets (sets l i a) (i + length a) b
 sets-append l i [] b = rw add-zero
@@ -47,6 +49,54 @@ write-done room₀ room text to i h inv = inv ∙ ap (sets room₀ to) (take-all
 -- the length of a part that is there
 pub length-part : (l : List ℕ) (from n : ℕ) → from + n ≤ length l → length (take n (drop from l)) ≡ n
 length-part l from n h = simp (length-take, length-drop) (omega arith)
+
+pub length-part-there : (l : List ℕ) (from n : ℕ) → n ≤ length l - from → length (take n (drop from l)) ≡ n
+length-part-there l from n h = simp (length-take, length-drop) (omega arith)
+
+-- what would be written past the end of a room is not
+pub sets-past : (l : List ℕ) (i : ℕ) (vs : List ℕ) → length l ≤ i → sets l i vs ≡ l
+sets-past l i [] h = refl
+sets-past l i (x ∷ vs) h = ap (λ (s : List ℕ). sets s (suc i) vs) (set-out l i x h) ∙ sets-past l (suc i) vs (omega arith)
+
+-- so the bytes of a run that fit are as good as all of it
+pub sets-clipped : (l : List ℕ) (i : ℕ) (vs : List ℕ) → sets l i (take (min (length vs) (length l - i)) vs) ≡ sets l i vs
+sets-clipped l i vs =
+    ⊎-elim
+    (λ h. ap (λ k. sets l i (take k vs)) (min-eq-left {m = length l - i} (omega (arith, h))) ∙ ap (sets l i) (take-all (length vs) vs (omega arith)))
+    (λ h. ap (λ k. sets l i (take k vs)) (min-eq-right h) ∙ sym (rest-past h))
+    (lt-or-ge (length vs) (length l - i))
+  where
+    rest-past : length l - i ≤ length vs → sets l i vs ≡ sets l i (take (length l - i) vs)
+    rest-past h =
+        let k = length l - i in
+        let e : length (take k vs) ≡ k = length-take-le k vs h in
+        ap (sets l i) (sym (take-append-drop k vs))
+        ∙ sets-append l i (take k vs) (drop k vs)
+        ∙ sets-past (sets l i (take k vs)) (i + length (take k vs)) (drop k vs) (rw (length-sets, e) (omega arith))
+
+take-replicate : (k count : ℕ) → k ≤ count → take {A = ℕ} k (replicate count 0) ≡ replicate k 0
+take-replicate zero count h = refl
+take-replicate (suc k) zero h = absurd (not-suc-le-zero h)
+take-replicate (suc k) (suc count) h = ap (λ (s : List ℕ). 0 ∷ s) (take-replicate k count (le-of-suc-le-suc h))
+
+-- a run that is taken as far as it is there and as it fits
+pub copy-clipped : (source room : List ℕ) (from count to : ℕ)
+    → sets room to (take (min (min count (length source - from)) (length room - to)) (drop from source)) ≡ sets room to (take count (drop from source))
+copy-clipped source room from count to =
+    let vs = take count (drop from source) in
+    let e : length vs ≡ min count (length source - from) = simp (length-take, length-drop) refl in
+    let k = min (min count (length source - from)) (length room - to) in
+    ap (sets room to) (sym (take-take k count (drop from source) (omega arith)))
+    ∙ ap (λ n. sets room to (take (min n (length room - to)) vs)) (sym e)
+    ∙ sets-clipped room to vs
+
+pub zeros-clipped : (room : List ℕ) (count to : ℕ) → sets room to (replicate (min count (length room - to)) 0) ≡ sets room to (replicate count 0)
+zeros-clipped room count to =
+    let vs : List ℕ = replicate count 0 in
+    let k = min count (length room - to) in
+    ap (sets room to) (sym (take-replicate k count (omega arith)))
+    ∙ ap (λ n. sets room to (take (min n (length room - to)) vs)) (sym (length-replicate count 0))
+    ∙ sets-clipped room to vs
 
 -- two parts are equal where their bytes are
 pub part-same : (a b : List ℕ) (i j w : ℕ) → i + w ≤ length a → j + w ≤ length b → ((o : ℕ) → o < w → getD a (i + o) 0 ≡ getD b (j + o) 0) → take w (drop i a) ≡ take w (drop j b)

@@ -6,7 +6,7 @@ mod bytes;
 pub use bytes::copy;
 pub use bytes::zeros;
 ghost use mathlib.Core.Path.{_≡_};
-ghost use Prim.Native.Nat.{_^_, _≤_};
+ghost use Prim.Native.Nat.{_^_, min};
 ghost use lib.ListN.{drop, getD};
 ghost use Rattle.ground.specs.Digits.{bit};
 ghost use Rattle.ground.specs.Table.{truth, Within};
@@ -27,11 +27,14 @@ pub const POSTS_MOST: usize = 8;
 // The bytes of one formula's table: "A formula's table is 16 bytes".
 pub const TABLE: usize = 16;
 
-// How many valuations n settings have, up to seven; for this repository alone.
+// How many valuations n settings have; for more than seven the 128 of seven, which is all that a table
+// tells.
 pub fn valuations(n: u8) -> u8
-    requires { ⌜ n ≤ 7 ⌝ }
-    ensures { λ r. ⌜ r ≡ 2 ^ n ⌝ }
+    ensures { λ r. ⌜ r ≡ 2 ^ min n 7 ⌝ }
 {
+    if n as usize >= SETTINGS_MOST {
+        return 128;
+    }
     1 << n
 }
 
@@ -72,7 +75,7 @@ fn truth_at(bytes: &[u8], from: usize, v: u8) -> bool
 pub fn within(bytes: &[u8], from: usize, n: u8) -> bool
     ensures { λ r. ⌜ Tells r (Within n (drop from (now (bytes .entry)))) ⌝ }
 {
-    if 7 <= n {
+    if SETTINGS_MOST <= n as usize {
         return true;
     }
     let mut v: u8 = 1 << n;

@@ -1,78 +1,38 @@
--- `copy` meets its contract: after i turns the first i bytes of the part stand in the room.
+-- `copy` meets its contract: what is there of the run and fits is as good as all of it.
 use borrow.Author.Needs.{needs}
-use mathlib.Core.Path.{_≡_, refl}
-use Prim.Native.Nat.{_≤_, _-_}
+use mathlib.Core.Path.{ap, _∙_}
 use native.Mathlib.Omega.{arith}
-use denote.Ref.{now}
-use lib.ListN.{length, take, drop, length-set}
+use Prim.Native.Nat.{ℕ, _-_, min}
+use lib.ListN.{length, take, drop}
 use lib.Seq.{sets}
-use Rattle.ground.proofs.Lists.{write-step, write-done, getD-part, length-part}
+use denote.Ref.{now}
+use Rattle.ground.proofs.Lists.{copy-clipped}
 use Rattle.ground.proofs.bytes.copy.Statement.{statement}
 use Rattle.ground.proofs.bytes.copy.Tie as tie
 
-abbrev Inv-loop : tie.InvT-loop
-Inv-loop source from count room₀ to i₀ room i = (i ≤ count) × (length room ≡ length room₀) × (room ≡ sets room₀ to (take i (take count (drop from source))))
+part-of-requires : tie.Need-part-of-requires
+part-of-requires c κs = search needs
 
-abbrev μ-loop : tie.MeasureT-loop
-μ-loop source from count room₀ to i₀ room i = count - i
+part-of-requires-2 : tie.Need-part-of-requires-2
+part-of-requires-2 c κs = search needs
 
-loop-holds : tie.Need-loop-holds Inv-loop μ-loop
-loop-holds c = (search needs, refl, refl)
+copy-run-requires : tie.Need-copy-run-requires
+copy-run-requires c κs =
+    let there = c .before .before .part-of .ensures in
+    (omega (arith, c .before .part-of2 .ensures, there), omega (arith, c .before .part-of2 .ensures))
 
-add-room : tie.Need-add-room Inv-loop μ-loop
-add-room c = omega arith
+same-length : tie.Need-same-length
+same-length c = search needs
 
-shared-slice-read-room : tie.Need-shared-slice-read-room Inv-loop μ-loop
-shared-slice-read-room c = omega arith
-
-add-room-2 : tie.Need-add-room-2 Inv-loop μ-loop
-add-room-2 c = omega arith
-
-slice-write-room : tie.Need-slice-write-room Inv-loop μ-loop
-slice-write-room c = omega arith
-
-add-i : tie.Need-add-i Inv-loop μ-loop
-add-i c = omega arith
-
-loop-less : tie.Need-loop-less Inv-loop μ-loop
-loop-less c = omega arith
-
-loop-again : tie.Need-loop-again Inv-loop μ-loop
-loop-again c =
-    let a = c .before .before .before .args in
-    let r = c .before .before .loop in (
-      omega arith,
-      simp length-set (r .inv .1),
-      write-step _ (r .room) (take (a .count) (drop (a .from) (now (a .source)))) (a .to) (r .i) _
-          (rw (length-part (now (a .source)) (a .from) (a .count) (c .before .before .before .pre .0)) (c .before .loop-test .taken))
-          (getD-part (now (a .source)) (a .from) (a .count) (r .i) (c .before .loop-test .taken))
-          (r .inv .2),
-    )
-
-same-length : tie.Need-same-length Inv-loop μ-loop
-same-length c = omega arith
-
-returns : tie.Need-returns Inv-loop μ-loop
+returns : tie.Need-returns
 returns c =
-    let a = c .before .before .args in
-    let r = c .before .loop in
-    write-done _ (r .room) (take (a .count) (drop (a .from) (now (a .source)))) (a .to) (r .i)
-    (rw (length-part (now (a .source)) (a .from) (a .count) (c .before .before .pre .0)) (c .loop-test .left))
-    (r .inv .2)
+    let second = c .before .before .before .before in
+    let first = second .before in
+    let a = first .before .before .before .args in
+    c .before .before .copy-run .ensures
+    ∙ ap (λ (k : ℕ). sets (now (a .room)) (a .to) (take k (drop (a .from) (now (a .source)))))
+    (second .part-of2 .ensures ∙ ap (λ (k : ℕ). min k (length (now (a .room)) - a .to)) (first .part-of .ensures))
+    ∙ copy-clipped (now (a .source)) (now (a .room)) (a .from) (a .count) (a .to)
 
 pub copy-spec : {M : Type 1} → statement M
-copy-spec =
-    tie.close
-    (tie.spec
-    Inv-loop
-    μ-loop
-    loop-holds
-    add-room
-    shared-slice-read-room
-    add-room-2
-    slice-write-room
-    add-i
-    loop-less
-    loop-again
-    same-length
-    returns)
+copy-spec = tie.close (tie.spec part-of-requires part-of-requires-2 copy-run-requires same-length returns)

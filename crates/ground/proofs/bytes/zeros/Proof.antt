@@ -1,65 +1,31 @@
--- `zeros` meets its contract: after i turns i zero bytes stand in the room.
+-- `zeros` meets its contract: what fits of the run is as good as all of it.
 use borrow.Author.Needs.{needs}
-use mathlib.Core.Path.{_≡_, refl}
-use Prim.Native.Nat.{_≤_, _-_}
-use native.Mathlib.Omega.{arith}
-use lib.ListN.{length, take, replicate, length-set, length-replicate, getD-replicate}
+use mathlib.Core.Path.{ap, _∙_}
+use Prim.Native.Nat.{ℕ}
+use lib.ListN.{replicate}
 use lib.Seq.{sets}
-use Rattle.ground.proofs.Lists.{write-step, write-done}
+use denote.Ref.{now}
+use native.Mathlib.Omega.{arith}
+use Rattle.ground.proofs.Lists.{zeros-clipped}
 use Rattle.ground.proofs.bytes.zeros.Statement.{statement}
 use Rattle.ground.proofs.bytes.zeros.Tie as tie
 
-abbrev Inv-loop : tie.InvT-loop
-Inv-loop count room₀ to i₀ room i = (i ≤ count) × (length room ≡ length room₀) × (room ≡ sets room₀ to (take i (replicate count 0)))
+part-of-requires : tie.Need-part-of-requires
+part-of-requires c κs = search needs
 
-abbrev μ-loop : tie.MeasureT-loop
-μ-loop count room₀ to i₀ room i = count - i
+zeros-run-requires : tie.Need-zeros-run-requires
+zeros-run-requires c κs = omega (arith, c .before .part-of .ensures)
 
-loop-holds : tie.Need-loop-holds Inv-loop μ-loop
-loop-holds c = (search needs, refl, refl)
+same-length : tie.Need-same-length
+same-length c = search needs
 
-add-room : tie.Need-add-room Inv-loop μ-loop
-add-room c = omega arith
-
-slice-write-room : tie.Need-slice-write-room Inv-loop μ-loop
-slice-write-room c = omega arith
-
-add-i : tie.Need-add-i Inv-loop μ-loop
-add-i c = omega arith
-
-loop-less : tie.Need-loop-less Inv-loop μ-loop
-loop-less c = omega arith
-
-loop-again : tie.Need-loop-again Inv-loop μ-loop
-loop-again c =
-    let a = c .before .before .args in
-    let r = c .before .loop in (
-      omega arith,
-      simp length-set (r .inv .1),
-      write-step _ (r .room) (replicate (a .count) 0) (a .to) (r .i) 0
-          (rw length-replicate (c .loop-test .taken)) (getD-replicate (a .count) (r .i) 0 0 (c .loop-test .taken)) (r .inv .2),
-    )
-
-same-length : tie.Need-same-length Inv-loop μ-loop
-same-length c = omega arith
-
-returns : tie.Need-returns Inv-loop μ-loop
+returns : tie.Need-returns
 returns c =
-    let a = c .before .before .args in
-    let r = c .before .loop in
-    write-done _ (r .room) (replicate (a .count) 0) (a .to) (r .i) (rw length-replicate (c .loop-test .left)) (r .inv .2)
+    let fits = c .before .before .before .before in
+    let a = fits .before .before .args in
+    c .before .before .zeros-run .ensures
+    ∙ ap (λ (k : ℕ). sets (now (a .room)) (a .to) (replicate {A = ℕ} k 0)) (fits .part-of .ensures)
+    ∙ zeros-clipped (now (a .room)) (a .count) (a .to)
 
 pub zeros-spec : {M : Type 1} → statement M
-zeros-spec =
-    tie.close
-    (tie.spec
-    Inv-loop
-    μ-loop
-    loop-holds
-    add-room
-    slice-write-room
-    add-i
-    loop-less
-    loop-again
-    same-length
-    returns)
+zeros-spec = tie.close (tie.spec part-of-requires zeros-run-requires same-length returns)
