@@ -10,13 +10,13 @@ use lib.Seq.{ext-getD, take-suc, take-add, getD-take, getD-append-add, length-ta
 use Rattle.ground.specs.Digits.{bit}
 use Rattle.ground.specs.Table.{truth, Within}
 use Rattle.book_block.specs.declared.rule.Right.{Right}
-use Rattle.book_block.specs.Check.{RightCheck}
-use Rattle.book_block.specs.Sealed.{sealed}
+use Rattle.book_block.specs.Check.{block, RightCheck}
 use Rattle.book_block.specs.Rule.{tablePlace, table}
 use Rattle.book_block.specs.Kinds.{Zeros, Head, Tables, SettingBlock}
-use Rattle.book_block.specs.Sealed.{headBlock, settingBlock}
+use Rattle.book_block.specs.Sealed.{sealed, headBlock, settingBlock}
 use Rattle.ground.proofs.Lists.{getD-part, length-part}
 use Rattle.book_block.proofs.SealLaws.{length-sealed, right-sealed, sealed-byte, sealed-right}
+use Rattle.book_block.proofs.CheckLaws.{block-byte}
 use Rattle.book_block.proofs.StrayLaws.{table-byte, place-post}
 
 -- bytes that are zero, as a list
@@ -64,6 +64,22 @@ tables-same n m a b same t =
     at q right o hq ho =
         let u : (32 * q ≤ tablePlace q right + o) × (tablePlace q right + o < 32 * q + 32) = place-post q right o ho in
         table-byte a q right o ho ∙ same (tablePlace q right + o) (omega arith) ∙ sym (table-byte b q right o ho)
+
+-- and a setting's blocks that agree in the bytes before their checks
+setting-same : (n m : ℕ) (a b : List ℕ) → ((j : ℕ) → j < 508 → getD a j 0 ≡ getD b j 0) → SettingBlock n m a → SettingBlock n m b
+unfolding Zeros
+setting-same n m a b same s =
+    record {
+      tables = tables-same n m a b (λ j h. same j (omega arith)) (s .tables);
+      rest = λ j l h. sym (same j h) ∙ s .rest j l h;
+    }
+
+-- block k, and all from its first byte on
+pub setting-block : {n m : ℕ} (book : List ℕ) (k : ℕ) → SettingBlock n m (drop (512 * k) book) → SettingBlock n m (block book k)
+setting-block {n} {m} book k = setting-same n m _ _ (λ j h. sym (block-byte book k j (omega arith)))
+
+pub setting-drop : {n m : ℕ} (book : List ℕ) (k : ℕ) → SettingBlock n m (block book k) → SettingBlock n m (drop (512 * k) book)
+setting-drop {n} {m} book k = setting-same n m _ _ (λ j h. block-byte book k j (omega arith))
 
 head-length : (n m : ℕ) → length (n ∷ m ∷ replicate 506 0) ≡ 508
 head-length n m = ap (λ k. suc (suc k)) (length-replicate {A = ℕ} 506 0)

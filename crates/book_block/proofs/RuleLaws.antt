@@ -1,14 +1,17 @@
 -- Where a rule's table stands: within its setting's tables, so the rule of a book is a table of its setting's block.
 use mathlib.Core.Path.{_≡_, sym, ap, _∙_}
 use mathlib.Core.List.{List}
-use Prim.Native.Nat.{ℕ, _+_, _*_, _≤_, _<_}
+use Prim.Native.Nat.{ℕ, _+_, _*_, _/_, _%_, _≤_, _<_}
 use native.Mathlib.Nat.{add-assoc}
 use native.Mathlib.Omega.{arith}
 use lib.ListN.{length, getD, take, drop}
+use lib.Seq.{getD-take}
 use Rattle.book_block.specs.Check.{block}
 use Rattle.book_block.specs.declared.rule.Right.{Right}
 use Rattle.book_block.specs.declared.rule.Right.the-variants.{Look, Set}
 use Rattle.book_block.specs.Rule.{tablePlace, table, rulePlace, rule}
+use Rattle.ground.specs.Digits.{bit}
+use Rattle.ground.specs.Table.{truth}
 use Rattle.ground.proofs.Lists.{getD-part, length-part, part-same}
 
 -- a table ends within its setting's 256 table bytes
@@ -27,3 +30,10 @@ rule-table book i q right h l =
     (λ o k.
     ap (λ n. getD book n 0) (add-assoc (512 * (1 + i)) (tablePlace q right) o)
     ∙ sym (getD-part book (512 * (1 + i)) 512 (tablePlace q right + o) (omega arith)))
+
+-- what a rule says at a valuation stands at its place in the book
+pub rule-truth : (book : List ℕ) (i q : ℕ) (right : Right) (v : ℕ) → v < 128
+    → truth (drop (rulePlace book i q right) book) v ≡ truth (rule book i q right) v
+unfolding rule truth
+rule-truth book i q right v h =
+    ap (λ (x : ℕ). bit x (v % 8)) (sym (getD-take 16 (drop (rulePlace book i q right) book) (v / 8) 0 (omega arith)))

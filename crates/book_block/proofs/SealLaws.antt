@@ -9,7 +9,8 @@ use lib.ListN.{length, getD, take, drop, take-append-drop, length-append, drop-o
 use lib.Seq.{sets, drop-cons, getD-drop, getD-take, getD-append-add}
 use Rattle.book_block.specs.declared.sums.Sums.{Sums}
 use Rattle.book_block.specs.Check.{check, number16, RightCheck}
-use Rattle.book_block.specs.Sealed.{bytes16, sealed}
+use borrow.Author.Tests.{le-leb, lt-leb}
+use Rattle.book_block.specs.Sealed.{bytes16, checkBytes, sealed, sealedAt}
 use Rattle.ground.proofs.Lists.{sets-append, getD-sets}
 use Rattle.book_block.proofs.CheckLaws.{check-same}
 
@@ -26,16 +27,25 @@ written-check l body at e h =
     check-same _ _
     (λ j k. getD-drop at (sets l at body) j 0 ∙ getD-sets l at body j (omega arith) (omega arith))
 
+-- where the room has a whole block, and where it has none
+pub sealed-at : (room : List ℕ) (at : ℕ) → at + 512 ≤ length room → sealedAt room at ≡ sets room (at + 508) (checkBytes (drop at room))
+unfolding sealedAt
+sealed-at room at h = rw (sealedAt, le-leb (at + 512) (length room) h)
+
+pub not-sealed : (room : List ℕ) (at : ℕ) → length room < at + 512 → sealedAt room at ≡ room
+unfolding sealedAt
+not-sealed room at h = rw (sealedAt, lt-leb (at + 512) (length room) h)
+
 pub seal-on : (l r₁ r₂ body : List ℕ) (at : ℕ) → length body ≡ 508 → at + 512 ≤ length l → r₁ ≡ sets l at body
-    → r₂ ≡ sets r₁ (at + 508) (bytes16 (check (drop at r₁) .s) ++ bytes16 (check (drop at r₁) .t)) → r₂ ≡ sets l at (sealed body)
-unfolding sealed
-seal-on l r₁ r₂ body at e h p q =
+    → length r₁ ≡ length l → r₂ ≡ sealedAt r₁ at → r₂ ≡ sets l at (sealed body)
+unfolding sealed checkBytes
+seal-on l r₁ r₂ body at e h p len q =
     let k : check (drop at r₁) ≡ check body = ap (λ (r : List ℕ). check (drop at r)) p ∙ written-check l body at e h in
     run-on l r₁ r₂ body (bytes16 (check body .s) ++ bytes16 (check body .t)) at (at + 508) (ap (λ (n : ℕ). at + n) e) p
-    (q ∙ ap (λ (c : Sums). sets r₁ (at + 508) (bytes16 (c .s) ++ bytes16 (c .t))) k)
+    (q ∙ sealed-at r₁ at (omega arith) ∙ ap (λ (c : Sums). sets r₁ (at + 508) (bytes16 (c .s) ++ bytes16 (c .t))) k)
 
 pub length-sealed : (body : List ℕ) → length body ≡ 508 → length (sealed body) ≡ 512
-unfolding sealed bytes16
+unfolding sealed checkBytes bytes16
 length-sealed body e = simp length-append (omega arith)
 
 -- ---- from a block to its bytes
@@ -59,7 +69,7 @@ module _ (x : List ℕ) (e : length x ≡ 512) where
   two-bytes a b s h k = ap₂ (λ u v. u ∷ v ∷ []) (omega arith) (omega arith)
 
   pub right-sealed : ((j : ℕ) → j < 512 → getD x j 0 < 256) → RightCheck x → x ≡ sealed (take 508 x)
-  unfolding sealed number16
+  unfolding sealed checkBytes number16
   right-sealed byte right =
       sym (take-append-drop 508 x)
       ∙ ap (λ l. take 508 x ++ l)
@@ -78,7 +88,7 @@ module _ (body : List ℕ) (e : length body ≡ 508) where
   check-sealed : check (sealed body) ≡ check body
   check-sealed = check-same (sealed body) body sealed-byte
 
-  after : (k : ℕ) → getD (sealed body) (508 + k) 0 ≡ getD (bytes16 (check body .s) ++ bytes16 (check body .t)) k 0
+  after : (k : ℕ) → getD (sealed body) (508 + k) 0 ≡ getD (checkBytes body) k 0
   unfolding sealed
   after k = ap (λ n. getD (sealed body) (n + k) 0) (sym e) ∙ getD-append-add body _ k 0
 
@@ -86,7 +96,7 @@ module _ (body : List ℕ) (e : length body ≡ 508) where
   halves x = omega arith
 
   pub sealed-right : RightCheck (sealed body)
-  unfolding number16 bytes16
+  unfolding number16 checkBytes bytes16
   sealed-right =
       record {
         holds-s = ap₂ (λ a b. a + 256 * b) (after 0) (after 1) ∙ halves (check body .s) ∙ sym (ap (λ (c : Sums). c .s) check-sealed);

@@ -1,5 +1,4 @@
--- What is promised of the check: it is one alone, and the marked checks.
--- What is promised of a block: the place of a rule is one alone.
+-- What is promised of a block: its check and the place of a rule are each one alone, and the marked checks.
 use mathlib.Core.Path.{_≡_, refl, sym, _∙_}
 use mathlib.Core.List.{List}
 use Prim.Native.Nat.{ℕ}
@@ -25,5 +24,6 @@ unfolding check sumsAfter added
 p13-ones = refl
 
 -- `rule_at`
-pub rule-at-one : (setting post : ℕ) (right : Right) (a b : ℕ) → a ≡ rulePlace setting post right → b ≡ rulePlace setting post right → a ≡ b
-rule-at-one setting post right a b p q = p ∙ sym q
+pub rule-at-one : (book : List ℕ) (setting post : ℕ) (right : Right) (a b : ℕ) → a ≡ rulePlace book setting post right
+    → b ≡ rulePlace book setting post right → a ≡ b
+rule-at-one book setting post right a b p q = p ∙ sym q

@@ -1,4 +1,4 @@
--- The two kinds of block, by what stands before the check.
+-- The two kinds of block, by what stands before the check: the head, and the block of a setting.
 use mathlib.Core.Path.{_≡_}
 use mathlib.Core.List.{List}
 use Prim.Native.Nat.{ℕ, _≤_, _<_}

@@ -1,4 +1,5 @@
--- "Setting block: the table for post index q begins at byte 32 × q (look) and 32 × q + 16 (set)."
+-- "Setting block: the table for post index q begins at byte 32 × q (look) and 32 × q + 16 (set)." The rule of a setting for a post is had from a
+-- book by `rule` alone: how the book holds it is said here and nowhere else.
 use mathlib.Core.List.{List}
 use Prim.Native.Nat.{ℕ, _+_, _*_}
 use lib.ListN.{take, drop}
@@ -14,10 +15,10 @@ tablePlace q Set = 32 * q + 16
 unfoldable pub table : List ℕ → ℕ → Right → List ℕ
 table bytes q right = take 16 (drop (tablePlace q right) bytes)
 
--- "one head, then one per setting in order": the byte of a book at which the table of setting i's rule begins
-unfoldable pub rulePlace : ℕ → ℕ → Right → ℕ
-rulePlace i q right = 512 * (1 + i) + tablePlace q right
+-- "one head, then one per setting in order": the byte of the book at which the table of setting i's rule begins
+unfoldable pub rulePlace : List ℕ → ℕ → ℕ → Right → ℕ
+rulePlace book i q right = 512 * (1 + i) + tablePlace q right
 
 -- the table of the rule of setting i for the post with index q, in a book
 unfoldable pub rule : List ℕ → ℕ → ℕ → Right → List ℕ
-rule book i q right = take 16 (drop (rulePlace i q right) book)
+rule book i q right = take 16 (drop (rulePlace book i q right) book)

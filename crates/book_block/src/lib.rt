@@ -1,19 +1,21 @@
 // One block of a book: its check, two sums over the bytes before it; where the table of a rule stands; and
 // which bits of a setting's tables must be zero.
 //
-// It refuses nothing: a wrong check is told by its block, a stray bit by its setting, and bytes that are not
-// there count as 0. In a lent room `seal` writes the four bytes of the check and no other.
+// It refuses nothing: each question has an answer for all bytes, and bytes that are not there count as 0. In
+// a lent room `seal` writes the four bytes of the check and no other, and none where the block is not whole.
 mod bytes;
 mod rule;
 mod stray;
 mod sums;
 
+pub use bytes::are_zeros;
 pub use rule::Right;
 pub use rule::rule_at;
-pub use stray::first_stray;
+pub use stray::are_tables;
+pub use stray::is_setting;
 pub use sums::Sums;
 pub use sums::check_of;
-pub use sums::first_wrong;
+pub use sums::is_right;
 pub use sums::seal;
 
 // The bytes of a block, of the part of it that its check is over, and where the check's two sums stand
@@ -26,5 +28,10 @@ const S_AT: usize = 508;
 
 const T_AT: usize = 510;
 
-// The bytes of a post's two tables for one setting, look and set.
+// The bytes of a post's two tables for one setting, look and set, and of a setting's tables for 8 posts.
 const POST: usize = 32;
+
+pub const TABLES: usize = 256;
+
+// The bits of a byte.
+const BYTE: usize = 8;

@@ -14,9 +14,9 @@ pub enum Right {
 }
 
 // The byte of a book at which the table of a rule begins: of the setting and post with these
-// indexes.
-pub fn rule_at(setting: u8, post: u8, right: Right) -> usize
-    ensures { λ r. ⌜ r ≡ rulePlace setting post right ⌝ }
+// indexes. This is the one way to a rule's bytes.
+pub fn rule_at(book: &[u8], setting: u8, post: u8, right: Right) -> usize
+    ensures { λ r. ⌜ r ≡ rulePlace (now (book .entry)) setting post right ⌝ }
 {
     let place = BLOCK * (1 + setting as usize) + POST * (post as usize);
     match right {

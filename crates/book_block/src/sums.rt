@@ -3,17 +3,14 @@ use super::BLOCK;
 use super::CHECKED;
 use super::S_AT;
 use super::T_AT;
-use super::bytes::peek;
+use super::bytes::byte_at;
 use super::bytes::put16;
 ghost use mathlib.Core.Path.{_≡_};
-ghost use mathlib.Core.List.{_++_};
 ghost use Prim.Native.Nat.{_+_, _%_, _^_, _≤_};
-ghost use lib.ListN.{length, drop};
-ghost use lib.Seq.{sets};
-ghost use Rattle.book_block.specs.Check.{added, check, number16, block, RightCheck};
-ghost use Rattle.book_block.specs.Sealed.{bytes16};
+ghost use lib.ListN.{drop};
+ghost use Rattle.book_block.specs.Check.{added, check, number16, RightCheck};
+ghost use Rattle.book_block.specs.Sealed.{sealedAt};
 ghost use Rattle.ground.specs.Tells.{Tells};
-ghost use Rattle.ground.specs.Search.{Lowest};
 
 // The two sums.
 pub struct Sums {
@@ -44,17 +41,22 @@ pub fn check_of(bytes: &[u8], from: usize) -> Sums
     let mut sums = Sums { s: 1, t: 0 };
     let mut i: usize = 0;
     while i < CHECKED {
-        sums = add(sums, peek(bytes, from, i));
+        sums = add(sums, byte_at(bytes, from, i));
         i += 1;
     }
     sums
 }
 
-// Writes the check of the block that begins at `at`. For this repository alone: the block is there.
+// Writes the check of the block that begins at `at`; nothing where the room has no whole block there.
 pub fn seal(room: &mut [u8], at: usize)
-    requires { ⌜ at + 512 ≤ length (now room) ⌝ }
-    ensures { λ _. ⌜ now (room .exit) ≡ sets (now (room .entry)) (at + 508) (bytes16 (check (drop at (now (room .entry))) .s) ++ bytes16 (check (drop at (now (room .entry))) .t)) ⌝ }
+    ensures { λ _. ⌜ now (room .exit) ≡ sealedAt (now (room .entry)) at ⌝ }
 {
+    if room.len() < BLOCK {
+        return;
+    }
+    if room.len() - BLOCK < at {
+        return;
+    }
     let sums = check_of(room, at);
     put16(sums.s, room, at + S_AT);
     put16(sums.t, room, at + T_AT);
@@ -65,13 +67,13 @@ fn number_at(bytes: &[u8], from: usize, i: usize) -> u16
     requires { ⌜ i ≤ 510 ⌝ }
     ensures { λ r. ⌜ r ≡ number16 (drop from (now (bytes .entry))) i ⌝ }
 {
-    let low = peek(bytes, from, i);
-    let high = peek(bytes, from, i + 1);
+    let low = byte_at(bytes, from, i);
+    let high = byte_at(bytes, from, i + 1);
     (low as u16) + 256 * (high as u16)
 }
 
 // Whether the block that begins at byte `from` holds the sums of its bytes.
-fn is_right(bytes: &[u8], from: usize) -> bool
+pub fn is_right(bytes: &[u8], from: usize) -> bool
     ensures { λ r. ⌜ Tells r (RightCheck (drop from (now (bytes .entry)))) ⌝ }
 {
     let sums = check_of(bytes, from);
@@ -82,20 +84,4 @@ fn is_right(bytes: &[u8], from: usize) -> bool
         return false;
     }
     true
-}
-
-// The lowest of the first `count` blocks whose check is wrong; `count` where none is. For this
-// repository alone: a book has at most 8 blocks, and `sound::sound` has seen to that.
-pub fn first_wrong(book: &[u8], count: usize) -> usize
-    requires { ⌜ count ≤ 8 ⌝ }
-    ensures { λ r. ⌜ Lowest count (λ k. RightCheck (block (now (book .entry)) k)) r ⌝ }
-{
-    let mut k = 0;
-    while k < count {
-        if !is_right(book, BLOCK * k) {
-            return k;
-        }
-        k += 1;
-    }
-    count
 }

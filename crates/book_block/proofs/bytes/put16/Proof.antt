@@ -1,4 +1,4 @@
--- `sums::bytes::put16` meets its contract: two stores are a run of two bytes.
+-- `book_block::bytes::put16` meets its contract: two stores are a run of two bytes.
 use native.Mathlib.Omega.{arith}
 use lib.ListN.{length-set}
 use native.Mathlib.Numerals.{add-one}

@@ -1,4 +1,4 @@
--- `block::rule_at` meets its contract: in each arm of the `match` the right is the one that the place was added up for.
+-- `book_block::rule_at` meets its contract: in each arm of the `match` the right is the one that the place was added up for.
 use borrow.Author.Needs.{needs}
 use native.Mathlib.Omega.{arith}
 use Rattle.book_block.specs.Rule.{rulePlace, tablePlace}

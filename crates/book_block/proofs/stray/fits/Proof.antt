@@ -1,4 +1,4 @@
--- `block::stray::fits` meets its contract: a shift by k leaves nothing of a number below 2^k alone.
+-- `book_block::stray::fits` meets its contract: a shift by k leaves nothing of a number below 2^k alone.
 use Rattle.ground.proofs.HighBits.{shift-none, shift-some}
 use borrow.Author.Needs.{needs}
 use Rattle.book_block.proofs.stray.fits.Statement.{statement}

@@ -1,4 +1,4 @@
--- `sums::sums::add` meets its contract: the two sums that wrap, one after the other.
+-- `book_block::sums::add` meets its contract: the two sums that wrap, one after the other.
 use Rattle.book_block.specs.Check.{added}
 use borrow.Author.Needs.{needs}
 use Rattle.book_block.proofs.sums.add.Statement.{statement}

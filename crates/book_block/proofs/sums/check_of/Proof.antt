@@ -1,4 +1,4 @@
--- `sums::check_of` meets its contract: after i turns the sums are those after the first i bytes.
+-- `book_block::sums::check_of` meets its contract: after i turns the sums are those after the first i bytes.
 use borrow.Author.Needs.{needs}
 use mathlib.Core.Path.{_≡_, refl, sym, ap, _∙_}
 use Prim.Native.Nat.{_≤_, _-_}
@@ -21,8 +21,8 @@ loop-holds : tie.Need-loop-holds Inv-loop μ-loop
 unfolding sumsAfter
 loop-holds c = (search needs, refl)
 
-peek-requires : tie.Need-peek-requires Inv-loop μ-loop
-peek-requires c κs = search needs
+byte-at-requires : tie.Need-byte-at-requires Inv-loop μ-loop
+byte-at-requires c κs = search needs
 
 add-requires : tie.Need-add-requires Inv-loop μ-loop
 add-requires c κs = search needs
@@ -39,7 +39,7 @@ loop-again c =
     let r = c .before .before .before .loop in (
       omega arith,
       c .add .ensures
-          ∙ sums-step (drop (a .from) (now (a .bytes))) (r .i) (r .sums) _ (r .inv .1) (c .before .peek .ensures ∙ sym (getD-drop (a .from) (now (a .bytes)) (r .i) 0)),
+          ∙ sums-step (drop (a .from) (now (a .bytes))) (r .i) (r .sums) _ (r .inv .1) (c .before .byte-at .ensures ∙ sym (getD-drop (a .from) (now (a .bytes)) (r .i) 0)),
     )
 
 returns : tie.Need-returns Inv-loop μ-loop
@@ -56,7 +56,7 @@ check-of-spec =
     Inv-loop
     μ-loop
     loop-holds
-    peek-requires
+    byte-at-requires
     add-requires
     add-i
     loop-less

@@ -1,4 +1,4 @@
--- `sums::sums::is_right` meets its contract: each test is one field of `RightCheck`.
+-- `book_block::sums::is_right` meets its contract: each test is one field of `RightCheck`.
 use mathlib.Core.Path.{sym, ap, _∙_}
 use Rattle.book_block.specs.declared.sums.Sums.{Sums}
 use borrow.Author.Needs.{needs}

@@ -1,4 +1,4 @@
--- `sums::sums::number_at` meets its contract: each of the two bytes is one that `peek` found.
+-- `book_block::sums::number_at` meets its contract: each of the two bytes is one that `byte_at` found.
 use mathlib.Core.Path.{ap₂, sym, _∙_}
 use Prim.Native.Nat.{_+_, _*_}
 use denote.Ref.{now}
@@ -8,14 +8,14 @@ use borrow.Author.Needs.{needs}
 use Rattle.book_block.proofs.sums.number_at.Statement.{statement}
 use Rattle.book_block.proofs.sums.number_at.Tie as tie
 
-peek-requires : tie.Need-peek-requires
-peek-requires c κs = search needs
+byte-at-requires : tie.Need-byte-at-requires
+byte-at-requires c κs = search needs
 
-add-peek : tie.Need-add-peek
-add-peek c = search needs
+add-byte-at : tie.Need-add-byte-at
+add-byte-at c = search needs
 
-peek-requires-2 : tie.Need-peek-requires-2
-peek-requires-2 c κs = search needs
+byte-at-requires-2 : tie.Need-byte-at-requires-2
+byte-at-requires-2 c κs = search needs
 
 cast-result : tie.Need-cast-result
 cast-result c = search needs
@@ -34,16 +34,16 @@ unfolding number16
 returns c =
     let a = c .before .before .before .args in
     ap₂ (λ x y. x + 256 * y)
-    (c .before .peek .ensures ∙ sym (getD-drop (a .from) (now (a .bytes)) (a .i) 0))
-    (c .peek2 .ensures ∙ sym (getD-drop (a .from) (now (a .bytes)) (a .i + 1) 0))
+    (c .before .byte-at .ensures ∙ sym (getD-drop (a .from) (now (a .bytes)) (a .i) 0))
+    (c .byte-at2 .ensures ∙ sym (getD-drop (a .from) (now (a .bytes)) (a .i + 1) 0))
 
 pub number-at-spec : {M : Type 1} → statement M
 number-at-spec =
     tie.close
     (tie.spec
-    peek-requires
-    add-peek
-    peek-requires-2
+    byte-at-requires
+    add-byte-at
+    byte-at-requires-2
     cast-result
     cast-result-2
     mul-result

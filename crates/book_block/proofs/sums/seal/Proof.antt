@@ -1,16 +1,26 @@
--- `sums::seal` meets its contract: two numbers of two bytes are a run of four, and the sums are those of the block.
-use mathlib.Core.Path.{ap, _∙_}
+-- `book_block::sums::seal` meets its contract: two numbers of two bytes are a run of four, and the sums are those of the block.
+use mathlib.Core.Path.{ap, sym, _∙_}
 use mathlib.Core.List.{_++_}
 use Prim.Native.Nat.{_+_}
 use native.Mathlib.Nat.{add-assoc}
+use native.Mathlib.Omega.{arith}
 use denote.Ref.{now}
 use lib.Seq.{sets}
 use Rattle.book_block.specs.declared.sums.Sums.{Sums}
-use Rattle.book_block.specs.Sealed.{bytes16}
-use Rattle.book_block.proofs.SealLaws.{run-on}
+use Rattle.book_block.specs.Sealed.{bytes16, checkBytes}
+use Rattle.book_block.proofs.SealLaws.{run-on, sealed-at, not-sealed}
 use borrow.Author.Needs.{needs}
 use Rattle.book_block.proofs.sums.seal.Statement.{statement}
 use Rattle.book_block.proofs.sums.seal.Tie as tie
+
+returns : tie.Need-returns
+returns c = sym (not-sealed _ _ (omega arith))
+
+sub-if2 : tie.Need-sub-if2
+sub-if2 c = search needs
+
+returns-2 : tie.Need-returns-2
+returns-2 c = sym (not-sealed _ _ (omega arith))
 
 check-of-requires : tie.Need-check-of-requires
 check-of-requires c κs = search needs
@@ -30,22 +40,28 @@ put16-requires-2 c κs = search needs
 same-length : tie.Need-same-length
 same-length c = search needs
 
-returns : tie.Need-returns
-unfolding bytes16
-returns c =
-    let a = c .before .before .before .before .before .before .before .before .before .before .before .args in
-    run-on (now (a .room)) _ _ (bytes16 (c .before .before .before .before .before .before .before .before .check-of .result .s)) (bytes16 (c .before .before .before .before .before .before .before .before .check-of .result .t)) (a .at + 508) (a .at + 510)
+returns-3 : tie.Need-returns-3
+unfolding checkBytes bytes16
+returns-3 c =
+    let sums = c .before .before .before .before .before .before .before .before .check-of in
+    let before = c .before .before .before .before .before .before .before .before .before .before in
+    let a = before .before .before .before .args in
+    run-on (now (a .room)) _ _ (bytes16 (sums .result .s)) (bytes16 (sums .result .t)) (a .at + 508) (a .at + 510)
     (add-assoc (a .at) 508 2) (c .before .before .before .before .before .before .put16 .ensures) (c .before .before .put162 .ensures)
-    ∙ ap (λ (x : Sums). sets (now (a .room)) (a .at + 508) (bytes16 (x .s) ++ bytes16 (x .t))) (c .before .before .before .before .before .before .before .before .check-of .ensures)
+    ∙ ap (λ (x : Sums). sets (now (a .room)) (a .at + 508) (bytes16 (x .s) ++ bytes16 (x .t))) (sums .ensures)
+    ∙ sym (sealed-at (now (a .room)) (a .at) (omega arith))
 
 pub seal-spec : {M : Type 1} → statement M
 seal-spec =
     tie.close
     (tie.spec
+    returns
+    sub-if2
+    returns-2
     check-of-requires
     add-put16
     put16-requires
     add-put16-2
     put16-requires-2
     same-length
-    returns)
+    returns-3)
