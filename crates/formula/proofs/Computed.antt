@@ -1,94 +1,134 @@
--- `read` on a text that is written out: each part of what it may answer, from a test that the checker computes.
-use mathlib.Core.Path.{_≡_, sym, ap, _∙_, subst}
-use mathlib.Core.Logic.{inl, inr}
-use mathlib.Core.List.{List}
-use mathlib.Core.Bool.{Bool, not, _&&_, _||_, Bool·beq}
-use Prim.Native.Nat.{ℕ, _^_, _<_}
+-- The computed answer is the one that `read` gives: it is taken only where no row of the order is given, and a refusal is the first that is given.
+use mathlib.Core.Path.{_≡_, refl, sym, ap, _∙_, subst}
+use mathlib.Core.Logic.{_⊎_, inl, inr}
+use mathlib.Core.List.{List, [], _∷_}
+use mathlib.Core.Bool.{Bool, true, false, not, _&&_, _||_, cond}
+use Prim.Native.Nat.{ℕ, zero, suc, _+_, _<_}
+use native.Mathlib.Nat.{add-zero, zero-add}
 use native.Mathlib.Omega.{arith}
-use lib.Dec.{T, ltb, leb, ltb→lt, leb→le, lit<}
-use lib.ListN.{length, getD, List·getD-eq-default}
-use lib.Pow.{pow-mono}
-use borrow.Author.Tests.{lt-ltb, le-ltb}
-use Rattle.ground.specs.Search.{all}
-use Rattle.ground.specs.Table.{truth, Within, TableOf}
-use Rattle.ground.proofs.Bools.{and-left, and-right, or-right, beq→eq, both, lt-or-ge}
-use Rattle.ground.proofs.Search.{all-at}
-use Rattle.formula_grammar.specs.Grammar.{Sentence, sum, text, meaning}
+use lib.Dec.{T, leb, leb→le, le→leb}
+use lib.ListN.{length, getD}
 use Rattle.ground.specs.Bounds.{SettingsFit}
+use Rattle.ground.specs.Search.{Least}
+use Rattle.ground.proofs.Bools.{decide, T→true, T→false, true→T, false→T, both, and-in, and-left, and-right, or-left, or-right}
+use Rattle.refusal.specs.declared.Refusal.{Refusal}
+use Rattle.refusal.specs.declared.Refusal.the-variants.{Settings, FormulaLength, StrayByte, LetterPast, NotSentence}
+use Rattle.refusal.specs.Order.{First, Clear}
+use Rattle.refusal.proofs.OrderLaws.{clear-none, clear-past, clear-lowest, first-unique, first-clear}
 use Rattle.formula_grammar.specs.Signs.{isStray, isPast, Foreign}
-use Rattle.formula_grammar.specs.Automaton.{wants, breaks, verdict}
-use Rattle.formula.specs.Read.{LengthFits, Refuses, three, four, Accepts}
-use Rattle.formula.proofs.Broken.{broken-place, broken-no-sentence}
+use Rattle.formula_grammar.specs.Automaton.{wants, Verdict, whole, breaks, verdict}
+use Rattle.formula_grammar.proofs.Begins.{whole-sentence}
+use Rattle.formula.specs.Read.{LengthFits, foreignByte, formulaRows, ReadsFormula}
+use Rattle.formula.specs.Computed.{sentenceAnswer, foreignAnswer, formulaAnswer}
+use Rattle.formula.specs.declared.Answer.{Answer}
+use Rattle.formula.specs.declared.Answer.the-variants.{Accepted, Refused}
+use Rattle.formula.proofs.Unique.{accepts-clear}
+use Rattle.formula.proofs.Answers.{no-settings, no-length, foreign-at, broken}
 
--- the byte c is of no use over n settings
-unfoldable pub foreign : ℕ → ℕ → Bool
-foreign n c = isStray c || isPast n c
+-- what an answer says of the rows
+abbrev Told : ℕ → List ℕ → Answer → Type 0
+Told n s Accepted = Clear (formulaRows n s)
+Told n s (Refused r) = First (formulaRows n s) r
 
--- n and the length are in their bounds
-unfoldable pub bounds : ℕ → List ℕ → Bool
-bounds n s = (leb 1 n && leb n 7) && (leb 1 (length s) && leb (length s) 255)
+-- ---- 4
 
--- no byte is foreign
-unfoldable pub clean : ℕ → List ℕ → Bool
-clean n s = all (length s) (λ i. not (foreign n (getD s i 0)))
-
--- t says v by v what the sentence means, and nothing past 2^n
-unfoldable pub tabled : ℕ → Sentence sum → List ℕ → Bool
-tabled n e t = all 128 (λ v. Bool·beq (truth t v) (ltb v (2 ^ n) && meaning e v)) && all 16 (λ j. ltb (getD t j 0) 256)
-
-module _ (n : ℕ) (s : List ℕ) (b : T (bounds n s)) where
-  pub settings-fit : SettingsFit n
-  unfolding bounds
-  settings-fit =
-      (let h = and-left (leb 1 n && leb n 7) (leb 1 (length s) && leb (length s) 255) b in
-      record { least = leb→le 1 n (and-left (leb 1 n) (leb n 7) h); most = leb→le n 7 (and-right (leb 1 n) (leb n 7) h) })
-
-  pub length-fits : LengthFits s
-  unfolding bounds
-  length-fits =
-      (let h = and-right (leb 1 n && leb n 7) (leb 1 (length s) && leb (length s) 255) b in
-      (leb→le 1 (length s) (and-left (leb 1 (length s)) (leb (length s) 255) h), leb→le (length s) 255 (and-right (leb 1 (length s)) (leb (length s) 255) h)))
-
-  no-foreign : T (clean n s) → (j : ℕ) → Foreign n s j → ⊥
-  unfolding clean foreign
-  no-foreign c j x = both (isStray (getD s j 0) || isPast n (getD s j 0)) (x .1) (all-at (length s) (λ i. not (foreign n (getD s i 0))) c j (x .0))
-
-  table-by : (e : Sentence sum) (t : List ℕ) → length t ≡ 16 → T (tabled n e t) → TableOf n (meaning e) t
-  unfolding tabled Within
-  table-by e t l h = record {
-    sixteen = l;
-    bytes = λ j. elim (lt-or-ge j 16) [
-      | inl m ↦ ltb→lt (getD t j 0) 256 (all-at 16 (λ j. ltb (getD t j 0) 256) small j m)
-      | inr m ↦ subst (λ (x : ℕ). x < 256) (sym (List·getD-eq-default t 0 (omega (arith, l)))) (lit< tt)
-    ];
-    tells = λ v m. (let low : v < 128 = omega (arith, pow-mono {i = n} {j = 7} (settings-fit .most)) in at v low ∙ ap (λ (x : Bool). x && meaning e v) (lt-ltb v (2 ^ n) m));
-    within = λ v m low. at v low ∙ ap (λ (x : Bool). x && meaning e v) (le-ltb v (2 ^ n) m);
-  }
+module _ (n : ℕ) (s : List ℕ) (fit : SettingsFit n) (size : LengthFits s) (clean : (j : ℕ) → Foreign n s j → ⊥) where
+  sentence-told : Told n s (sentenceAnswer s)
+  unfolding sentenceAnswer
+  sentence-told = go (verdict (wants 0) 0 s) refl
     where
-      says : T (all 128 (λ v. Bool·beq (truth t v) (ltb v (2 ^ n) && meaning e v)))
-      says = and-left (all 128 (λ v. Bool·beq (truth t v) (ltb v (2 ^ n) && meaning e v))) (all 16 (λ j. ltb (getD t j 0) 256)) h
+      go : (v : Verdict) → verdict (wants 0) 0 s ≡ v → Told n s (elim v [ whole ↦ Accepted | breaks i ↦ Refused (NotSentence i) ])
+      go whole e = clear-past fit (clear-past size (clear-lowest clean (clear-lowest (λ i x. x .0 (whole-sentence s e)) clear-none)))
+      go (breaks i) e = broken n s fit size clean i e
 
-      small : T (all 16 (λ j. ltb (getD t j 0) 256))
-      small = and-right (all 128 (λ v. Bool·beq (truth t v) (ltb v (2 ^ n) && meaning e v))) (all 16 (λ j. ltb (getD t j 0) 256)) h
+-- ---- 2 and 3
 
-      at : (v : ℕ) → v < 128 → truth t v ≡ (ltb v (2 ^ n) && meaning e v)
-      at v low = beq→eq (truth t v) (ltb v (2 ^ n) && meaning e v) (all-at 128 (λ v. Bool·beq (truth t v) (ltb v (2 ^ n) && meaning e v)) says v low)
+-- the refusal of the byte c at place i
+abbrev byteRefusal : ℕ → ℕ → Refusal
+byteRefusal c i = cond (isStray c) (StrayByte i) (LetterPast i)
 
-  -- the text of the sentence e, with the table t
-  pub accepted : T (clean n s) → (e : Sentence sum) → text e ≡ s → (t : List ℕ) → length t ≡ 16 → T (tabled n e t) → Accepts n s t
-  accepted c e w t l h =
-      record { settings = settings-fit; size = length-fits; clean = no-foreign c; parsed = record { sentence = e; written = w }; table = table-by e t l h }
+-- a is the refusal of the first foreign byte, the places counted from i on; or there is none, and a is what is left to be said
+abbrev Met : ℕ → ℕ → List ℕ → Answer → Answer → Type 0
+Met n i s later a =
+    ((j : ℕ) × Least (Foreign n s) j × (a ≡ Refused (byteRefusal (getD s j 0) (i + j)))) ⊎ (((j : ℕ) → Foreign n s j → ⊥) × (a ≡ later))
 
-  -- a text that breaks at the place i
-  pub broken-at : T (clean n s) → (i : ℕ) → verdict (wants 0) 0 s ≡ breaks i → Refuses n s 4 i
-  broken-at c i v = four settings-fit length-fits (no-foreign c) (broken-no-sentence s i v) (broken-place s i v)
+first-place : (n c : ℕ) (s : List ℕ) → T (isStray c || isPast n c) → Least (Foreign n (c ∷ s)) 0
+first-place n c s h = record { here = (omega arith, h); none-below = λ j l. absurd (omega (arith, l)) }
 
-  -- a letter past the settings at the place i, and nothing foreign before it
-  pub letter-past-at : (i : ℕ) → i < length s → T (isPast n (getD s i 0)) → T (all i (λ j. not (foreign n (getD s j 0)))) → Refuses n s 3 i
-  unfolding foreign
-  letter-past-at i l p c =
-      three settings-fit length-fits
-      (record {
-        here = (l, or-right (isStray (getD s i 0)) (isPast n (getD s i 0)) p);
-        none-below = λ j m x. both (isStray (getD s j 0) || isPast n (getD s j 0)) (x .1) (all-at i (λ j. not (foreign n (getD s j 0))) c j m);
-      }) p
+-- one more byte in front, which is not foreign
+in-front : (n i c : ℕ) (s : List ℕ) (later a : Answer) → T (not (isStray c || isPast n c)) → Met n (suc i) s later a → Met n i (c ∷ s) later a
+in-front n i c s later a h (inl (j, l, e)) =
+    inl (suc j, further, e ∙ ap (λ (x : ℕ). Refused (byteRefusal (getD s j 0) x)) (omega arith))
+  where
+    further : Least (Foreign n (c ∷ s)) (suc j)
+    further = record { here = (omega (arith, l .here .0), l .here .1); none-below = λ k m x. below k m x }
+      where
+        below : (k : ℕ) → k < suc j → Foreign n (c ∷ s) k → ⊥
+        below zero m x = both (isStray c || isPast n c) (x .1) h
+        below (suc k) m x = l .none-below k (omega (arith, m)) (omega (arith, x .0), x .1)
+in-front n i c s later a h (inr (none, e)) = inr (clean, e)
+  where
+    clean : (k : ℕ) → Foreign n (c ∷ s) k → ⊥
+    clean zero x = both (isStray c || isPast n c) (x .1) h
+    clean (suc k) x = none k (omega (arith, x .0), x .1)
+
+by-byte : (n i c : ℕ) (s : List ℕ) (later rest : Answer) → Met n (suc i) s later rest → (a b : Bool) → isStray c ≡ a → isPast n c ≡ b
+    → Met n i (c ∷ s) later (cond a (Refused (StrayByte i)) (cond b (Refused (LetterPast i)) rest))
+by-byte n i c s later rest m true b e f = inl (0, first-place n c s (or-left (isStray c) (isPast n c) (true→T e)), rw (e, add-zero) refl)
+by-byte n i c s later rest m false true e f = inl (0, first-place n c s (or-right (isStray c) (isPast n c) (true→T f)), rw (e, add-zero) refl)
+by-byte n i c s later rest m false false e f = in-front n i c s later rest (false→T {a = isStray c || isPast n c} (rw (e, f) refl)) m
+
+foreign-met : (n i : ℕ) (s : List ℕ) (later : Answer) → Met n i s later (foreignAnswer n i s later)
+unfolding foreignAnswer
+foreign-met n i [] later = inr (λ j x. omega (arith, x .0), refl)
+foreign-met n i (c ∷ s) later = by-byte n i c s later (foreignAnswer n (suc i) s later) (foreign-met n (suc i) s later) (isStray c) (isPast n c) refl refl
+
+module _ (n : ℕ) (s : List ℕ) (fit : SettingsFit n) (size : LengthFits s) where
+  bytes-told : Told n s (foreignAnswer n 0 s (sentenceAnswer s))
+  bytes-told = elim (foreign-met n 0 s (sentenceAnswer s)) [
+    | inl (j, l, e) ↦ subst (Told n s) (sym (e ∙ ap (λ (x : ℕ). Refused (byteRefusal (getD s j 0) x)) (zero-add j))) (foreign-at n s fit size l)
+    | inr (clean, e) ↦ subst (Told n s) (sym e) (sentence-told n s fit size clean)
+  ]
+
+-- ---- the order
+
+-- a number in its bounds, or not
+data Within (P : Type 0) (test : Bool) : Type 0 where
+  inside : P → test ≡ true → Within P test
+  outside : (P → ⊥) → test ≡ false → Within P test
+
+settings-within : (n : ℕ) → Within (SettingsFit n) (leb 1 n && leb n 7)
+settings-within n = elim (decide (leb 1 n && leb n 7)) [
+  | inl h ↦ inside
+      record { least = leb→le 1 n (and-left (leb 1 n) (leb n 7) h); most = leb→le n 7 (and-right (leb 1 n) (leb n 7) h) }
+      (T→true (leb 1 n && leb n 7) h)
+  | inr h ↦ outside
+      (λ f. both (leb 1 n && leb n 7) (and-in (leb 1 n) (leb n 7) (le→leb 1 n (f .least)) (le→leb n 7 (f .most))) h)
+      (T→false (leb 1 n && leb n 7) h)
+]
+
+length-within : (s : List ℕ) → Within (LengthFits s) (leb 1 (length s) && leb (length s) 255)
+length-within s = let a = leb 1 (length s) in let b = leb (length s) 255 in elim (decide (leb 1 (length s) && leb (length s) 255)) [
+  | inl h ↦ inside (leb→le 1 (length s) (and-left a b h), leb→le (length s) 255 (and-right a b h)) (T→true (a && b) h)
+  | inr h ↦ outside (λ f. both (a && b) (and-in a b (le→leb 1 (length s) (f .0)) (le→leb (length s) 255 (f .1))) h) (T→false (a && b) h)
+]
+
+formula-told : (n : ℕ) (s : List ℕ) → Told n s (formulaAnswer n s)
+unfolding formulaAnswer
+formula-told n s = elim (settings-within n) [
+  | outside none e ↦ rw e (no-settings n s none)
+  | inside fit e ↦ elim (length-within s) [
+    | outside none f ↦ rw (e, f) (no-length n s fit none)
+    | inside size f ↦ rw (e, f) (bytes-told n s fit size)
+  ]
+]
+
+told-unique : (n : ℕ) (s : List ℕ) (a b : Answer) (t : List ℕ) → Told n s a → ReadsFormula n s b t → a ≡ b
+told-unique n s Accepted Accepted t p q = refl
+told-unique n s Accepted (Refused r) t p q = first-clear (q .0) p
+told-unique n s (Refused r) Accepted t p q = first-clear p (accepts-clear q)
+told-unique n s (Refused r) (Refused x) t p q = ap Refused (first-unique p (q .0))
+
+-- the answer that `read` gives
+pub read-computed : (n : ℕ) (s : List ℕ) (a : Answer) (t : List ℕ) → ReadsFormula n s a t → formulaAnswer n s ≡ a
+read-computed n s a t p = told-unique n s (formulaAnswer n s) a t (formula-told n s) p

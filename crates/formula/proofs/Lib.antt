@@ -3,5 +3,5 @@ pub mod Broken
 pub mod Answers
 pub mod Unique
 pub mod Small
+pub mod ByTest
 pub mod Computed
-pub mod Numbered

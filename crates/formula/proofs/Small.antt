@@ -1,34 +1,39 @@
--- A refusal's number and place are small: the place is inside the text or at its end, and only a text of at most 255 bytes gets that far.
+-- A refusal's place is small: it is inside the text or at its end, and only a text of at most 255 bytes gets that far.
 use mathlib.Core.List.{List}
+use mathlib.Core.Logic.{inl, inr, ⊎-elim}
+use mathlib.Core.Bool.{Bool, true, false, cond}
 use Prim.Native.Nat.{ℕ, _≤_, _<_}
 use native.Mathlib.Omega.{arith}
 use lib.Dec.{lit<}
-use lib.ListN.{length}
-use Rattle.formula.specs.Read.{number, BreaksAt, at-byte, at-end, Refuses, five, one, two, three, four}
-use Rattle.formula.specs.declared.Refusal.{Refusal}
-use Rattle.formula.specs.declared.Refusal.the-variants.{Length, StrayByte, LetterPast, NotSentence, Settings}
+use lib.ListN.{length, getD}
+use Rattle.ground.proofs.Bools.{lt-or-ge}
+use Rattle.refusal.specs.declared.Refusal.{Refusal}
+use Rattle.refusal.specs.declared.Refusal.the-variants.{StrayByte, LetterPast, FormulaLength}
+use Rattle.refusal.specs.Refusals.{place}
+use Rattle.refusal.specs.Order.{when, Never, First}
+use Rattle.refusal.proofs.OrderLaws.{when-never, first-place-below}
+use Rattle.formula_grammar.specs.Signs.{isStray}
+use Rattle.formula.specs.Read.{LengthFits, formulaRows}
 
-pub number-small : (r : Refusal) → number r < 256
-number-small Length = lit< tt
-number-small (StrayByte i) = lit< tt
-number-small (LetterPast i) = lit< tt
-number-small (NotSentence i) = lit< tt
-number-small Settings = lit< tt
+either-place : (b : Bool) (i : ℕ) → i < 256 → place (cond b (StrayByte i) (LetterPast i)) < 256
+either-place true i h = h
+either-place false i h = h
 
-pub number-some : (r : Refusal) → 0 < number r
-number-some Length = lit< tt
-number-some (StrayByte i) = lit< tt
-number-some (LetterPast i) = lit< tt
-number-some (NotSentence i) = lit< tt
-number-some Settings = lit< tt
+long-enough : (s : List ℕ) → Never (when (LengthFits s → ⊥) FormulaLength) → length s ≤ 255
+long-enough s n = elim (lt-or-ge 255 (length s)) [ inl h ↦ absurd (when-never n (λ f. omega (arith, f .1, h))) | inr h ↦ h ]
 
-breaks-inside : {s : List ℕ} {i : ℕ} → BreaksAt s i → i ≤ length s
-breaks-inside (at-byte l) = omega (arith, l .here .0)
-breaks-inside (at-end f) = omega arith
-
-pub place-small : {n : ℕ} {s : List ℕ} {a i : ℕ} → Refuses n s a i → i ≤ 255
-place-small (five f) = omega arith
-place-small (one h f) = omega arith
-place-small (two h z l t) = omega (arith, l .here .0)
-place-small (three h z l t) = omega (arith, l .here .0)
-place-small (four h z c w b) = omega (arith, breaks-inside b)
+pub place-small : {n : ℕ} {s : List ℕ} {r : Refusal} → First (formulaRows n s) r → place r < 256
+place-small {n} {s} f =
+    first-place-below 256
+    (formulaRows n s) (
+      λ i g. lit< tt,
+      λ five. (
+        λ i g. lit< tt,
+        λ one. (
+          λ i g. either-place (isStray (getD s i 0)) i (omega (arith, g .0, long-enough s one)),
+          λ two-or-three.
+              (λ i g. ⊎-elim (λ y. omega (arith, y .0, long-enough s one)) (λ y. omega (arith, y, long-enough s one)) (g .1), λ four. tt),
+        ),
+      ),
+    )
+    f

@@ -1,8 +1,12 @@
 -- `read` meets its contract: the refusals in the written order.
 use native.Mathlib.Omega.{arith}
-use Rattle.formula.specs.declared.Refusal.the-variants.{Length, StrayByte, LetterPast, Settings}
-use Rattle.formula.specs.Read.{five, one}
-use Rattle.formula.proofs.Answers.{refusal, stray, past, clean-text}
+use mathlib.Core.Path.{refl}
+use Prim.Native.Nat.{_≤_}
+use lib.ListN.{length}
+use Rattle.ground.specs.Bounds.{SettingsFit}
+use Rattle.refusal.specs.declared.Refusal.the-variants.{FormulaLength, StrayByte, LetterPast, Settings}
+use Rattle.formula.specs.Read.{LengthFits}
+use Rattle.formula.proofs.Answers.{refusal, no-settings, no-length, stray, past, clean-text}
 use borrow.Author.Needs.{needs}
 use Rattle.formula.proofs.read.Statement.{statement}
 use Rattle.formula.proofs.read.Tie as tie
@@ -11,25 +15,31 @@ refused-requires : tie.Need-refused-requires
 refused-requires c κs = search needs
 
 returns : tie.Need-returns
-returns c = refusal (c .before .before .before .args .n) (c .before .before .before .args .text .now) Settings (c .refused .ensures) (five (λ h. omega (arith, h .least)))
+returns c = let a = c .before .before .before .args in refusal (a .n) (a .text .now) Settings (c .refused .ensures) (no-settings (a .n) (a .text .now) (λ h. omega (arith, h .least)))
 
 refused-requires-2 : tie.Need-refused-requires-2
 refused-requires-2 c κs = search needs
 
 returns-2 : tie.Need-returns-2
-returns-2 c = refusal (c .before .before .before .before .args .n) (c .before .before .before .before .args .text .now) Settings (c .refused2 .ensures) (five (λ h. omega (arith, h .most)))
+returns-2 c = let a = c .before .before .before .before .args in refusal (a .n) (a .text .now) Settings (c .refused2 .ensures) (no-settings (a .n) (a .text .now) (λ h. omega (arith, h .most)))
 
 refused-requires-3 : tie.Need-refused-requires-3
 refused-requires-3 c κs = search needs
 
 returns-3 : tie.Need-returns-3
-returns-3 c = refusal (c .before .before .before .before .before .args .n) (c .before .before .before .before .before .args .text .now) Length (c .refused3 .ensures) (one record { least = omega arith; most = omega arith } (λ h. omega (arith, h)))
+returns-3 c =
+    let a = c .before .before .before .before .before .args in
+    let fit : SettingsFit (a .n) = record { least = omega arith; most = omega arith } in
+    refusal (a .n) (a .text .now) FormulaLength (c .refused3 .ensures) (no-length (a .n) (a .text .now) fit (λ h. omega (arith, h)))
 
 refused-requires-4 : tie.Need-refused-requires-4
 refused-requires-4 c κs = search needs
 
 returns-4 : tie.Need-returns-4
-returns-4 c = refusal (c .before .before .before .before .before .before .args .n) (c .before .before .before .before .before .before .args .text .now) Length (c .refused4 .ensures) (one record { least = omega arith; most = omega arith } (λ h. omega (arith, h)))
+returns-4 c =
+    let a = c .before .before .before .before .before .before .args in
+    let fit : SettingsFit (a .n) = record { least = omega arith; most = omega arith } in
+    refusal (a .n) (a .text .now) FormulaLength (c .refused4 .ensures) (no-length (a .n) (a .text .now) fit (λ h. omega (arith, h)))
 
 scan-requires : tie.Need-scan-requires
 scan-requires c κs = search needs
@@ -50,13 +60,25 @@ enum-told : tie.Need-enum-told
 enum-told c = search needs
 
 sentence-requires : tie.Need-sentence-requires
-sentence-requires c κs = (record { least = omega arith; most = omega arith }, (omega arith, omega arith), clean-text (c .before .before .before .before .before .before .before .before .args .n) (c .before .before .before .before .before .before .before .before .args .text .now) (c .enum-told .given .1) (c .before .before .scan .ensures))
+sentence-requires c κs =
+    let a = c .before .before .before .before .before .before .before .before .args in
+    (record { least = omega arith; most = omega arith }, (omega arith, omega arith), clean-text (a .n) (a .text .now) (c .enum-told .given .1) (c .before .before .scan .ensures))
 
 returns-5 : tie.Need-returns-5
-returns-5 c = refusal (c .before .before .before .before .before .before .before .before .before .before .args .n) (c .before .before .before .before .before .before .before .before .before .before .args .text .now) (StrayByte (c .before .before .i .given .0 .0)) (c .refused5 .ensures) (stray (c .before .before .before .before .before .before .before .before .before .before .args .n) (c .before .before .before .before .before .before .before .before .before .before .args .text .now) record { least = omega arith; most = omega arith } (omega arith, omega arith) (c .before .before .i .given .1) (c .before .before .before .before .scan .ensures))
+returns-5 c =
+    let a = c .before .before .before .before .before .before .before .before .before .before .args in
+    let i = c .before .before .i .given in
+    let fit : SettingsFit (a .n) = record { least = omega arith; most = omega arith } in
+    let size : LengthFits (a .text .now) = (omega arith, omega arith) in
+    refusal (a .n) (a .text .now) (StrayByte (i .0 .0)) (c .refused5 .ensures) (stray (a .n) (a .text .now) fit size (i .1) (c .before .before .before .before .scan .ensures))
 
 returns-6 : tie.Need-returns-6
-returns-6 c = refusal (c .before .before .before .before .before .before .before .before .before .before .args .n) (c .before .before .before .before .before .before .before .before .before .before .args .text .now) (LetterPast (c .before .before .i2 .given .0 .0)) (c .refused6 .ensures) (past (c .before .before .before .before .before .before .before .before .before .before .args .n) (c .before .before .before .before .before .before .before .before .before .before .args .text .now) record { least = omega arith; most = omega arith } (omega arith, omega arith) (c .before .before .i2 .given .1) (c .before .before .before .before .scan .ensures))
+returns-6 c =
+    let a = c .before .before .before .before .before .before .before .before .before .before .args in
+    let i = c .before .before .i2 .given in
+    let fit : SettingsFit (a .n) = record { least = omega arith; most = omega arith } in
+    let size : LengthFits (a .text .now) = (omega arith, omega arith) in
+    refusal (a .n) (a .text .now) (LetterPast (i .0 .0)) (c .refused6 .ensures) (past (a .n) (a .text .now) fit size (i .1) (c .before .before .before .before .scan .ensures))
 
 returns-7 : tie.Need-returns-7
 returns-7 c = c .sentence .ensures

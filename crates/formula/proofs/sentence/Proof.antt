@@ -2,7 +2,7 @@
 use native.Mathlib.Omega.{arith}
 use Rattle.formula_grammar.specs.Grammar as G
 use Rattle.formula_grammar.proofs.PartLaws.{as-read, as-broken, sum-short}
-use Rattle.formula.specs.declared.Refusal.the-variants.{NotSentence}
+use Rattle.refusal.specs.declared.Refusal.the-variants.{NotSentence}
 use Rattle.formula.proofs.Answers.{refusal, broken, whole}
 use borrow.Author.Needs.{needs}
 use Rattle.formula.proofs.sentence.Statement.{statement}
@@ -24,19 +24,38 @@ refused-requires-2 : tie.Need-refused-requires-2
 refused-requires-2 c κs = search needs
 
 within-requires : tie.Need-within-requires
-within-requires c κs = omega (arith, c .before .before .before .before .before .before .pre .0)
+within-requires c κs = search needs
 
 bytes-requires : tie.Need-bytes-requires
 bytes-requires c κs = search needs
 
 returns : tie.Need-returns
-returns c = refusal (c .before .before .before .before .before .before .args .n) (c .before .before .before .before .before .before .args .text .now) (NotSentence (c .before .before .i .given .0 .0)) (c .refused .ensures) (broken (c .before .before .before .before .before .before .args .n) (c .before .before .before .before .before .before .args .text .now) (c .before .before .before .before .before .before .pre .0) (c .before .before .before .before .before .before .pre .1) (c .before .before .before .before .before .before .pre .2) (c .before .before .i .given .0 .0) (as-broken G.sum (c .before .before .before .before .before .before .args .text .now) 0 (c .before .before .i .given .1) (c .before .before .before .before .sum .ensures) 0))
+returns c =
+    let start = c .before .before .before .before .before .before in
+    let n = start .args .n in
+    let s = start .args .text .now in
+    let i = c .before .before .i .given in
+    refusal n s (NotSentence (i .0 .0)) (c .refused .ensures)
+    (broken n s (start .pre .0) (start .pre .1) (start .pre .2) (i .0 .0) (as-broken G.sum s 0 (i .1) (c .before .before .before .before .sum .ensures) 0))
 
 returns-2 : tie.Need-returns-2
-returns-2 c = refusal (c .before .before .before .before .before .before .before .args .n) (c .before .before .before .before .before .before .before .args .text .now) (NotSentence (c .before .before .before .w .given .0 .1 .0)) (c .refused2 .ensures) (broken (c .before .before .before .before .before .before .before .args .n) (c .before .before .before .before .before .before .before .args .text .now) (c .before .before .before .before .before .before .before .pre .0) (c .before .before .before .before .before .before .before .pre .1) (c .before .before .before .before .before .before .before .pre .2) (c .before .before .before .w .given .0 .1 .0) (sum-short (as-read G.sum (c .before .before .before .before .before .before .before .args .text .now) 0 (c .before .before .before .w .given .1) (c .before .before .before .before .before .sum .ensures)) (c .before .if1 .taken)))
+returns-2 c =
+    let start = c .before .before .before .before .before .before .before in
+    let n = start .args .n in
+    let s = start .args .text .now in
+    let w = c .before .before .before .w .given in
+    refusal n s (NotSentence (w .0 .1 .0)) (c .refused2 .ensures)
+    (broken n s (start .pre .0) (start .pre .1) (start .pre .2) (w .0 .1 .0)
+    (sum-short (as-read G.sum s 0 (w .1) (c .before .before .before .before .before .sum .ensures)) (c .before .if1 .taken)))
 
 returns-3 : tie.Need-returns-3
-returns-3 c = whole (c .before .before .before .before .before .before .before .before .args .n) (c .before .before .before .before .before .before .before .before .args .text .now) (c .before .before .before .before .before .before .before .before .pre .0) (c .before .before .before .before .before .before .before .before .pre .1) (c .before .before .before .before .before .before .before .before .pre .2) (as-read G.sum (c .before .before .before .before .before .before .before .before .args .text .now) 0 (c .before .before .before .before .w .given .1) (c .before .before .before .before .before .before .sum .ensures)) (c .before .before .if1 .left) (c .before .within .ensures) (c .bytes .ensures)
+returns-3 c =
+    let start = c .before .before .before .before .before .before .before .before in
+    let n = start .args .n in
+    let s = start .args .text .now in
+    whole n s (start .pre .0) (start .pre .1) (start .pre .2)
+    (as-read G.sum s 0 (c .before .before .before .before .w .given .1) (c .before .before .before .before .before .before .sum .ensures))
+    (c .before .before .if1 .left) (c .before .within .ensures) (c .bytes .ensures)
 
 pub sentence-spec : {M : Type 1} → statement M
 sentence-spec =
