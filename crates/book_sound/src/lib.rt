@@ -1,34 +1,37 @@
 // Whether bytes are a sound book: blocks of 512 bytes, each with its check, one head and one block for
-// each setting. It has the refusals of books, rights and rooms, for whoever takes them, and
-// a sound book's n and m.
+// each setting. It knows a sound book's n and m.
 //
-// Bytes that break a rule of the format are refused with one of the cases of `Refusal`, the first in the
-// written order and at the lowest block. It writes nothing.
-mod refusal;
-
+// Bytes that break a rule of the format are refused with 6 to 9, the first in the written order and at the
+// lowest block. It writes nothing.
 use book_block::BLOCK;
 use book_block::CHECKED;
-use book_block::first_stray;
-use book_block::first_wrong;
+use book_block::are_zeros;
+use book_block::is_right;
+use book_block::is_setting;
 use ground::POSTS_MOST;
-pub use refusal::Refusal;
-ghost use Prim.Native.Nat.{_≤_};
+use refusal::Refusal;
+ghost use Prim.Native.Nat.{_+_, _≤_};
 ghost use lib.ListN.{length};
-ghost use Rattle.book_block.specs.Kinds.{Zeros};
 ghost use Rattle.ground.specs.Tells.{Tells};
+ghost use Rattle.ground.specs.Search.{Lowest};
+ghost use Rattle.book_block.specs.Check.{block, RightCheck};
+ghost use Rattle.book_block.specs.Kinds.{SettingBlock};
 ghost use Rattle.book_sound.specs.Refusals.{Whole, RightHead};
 ghost use Rattle.book_sound.specs.Promise.{Judges};
 
 // The fewest and most blocks of a book: the head and 1 to 7 settings.
-pub const BLOCKS_LEAST: usize = 2;
+const BLOCKS_LEAST: usize = 2;
 
-pub const BLOCKS_MOST: usize = 8;
+const BLOCKS_MOST: usize = 8;
+
+// Where the head's zeros begin: after n and m.
+const HEAD_ZEROS: usize = 2;
 
 // What `sound` answers, and `book::read` too.
 pub enum ReadAnswer {
     // a sound book, with this many settings and posts
     Book { settings: u8, posts: u8 },
-    // no book; or, from `book::read` alone, no room
+    // no book: 6 to 9; or, from `book::read` alone, 15, no room
     Refused(Refusal),
 }
 
@@ -48,19 +51,19 @@ fn is_whole(book: &[u8]) -> bool
     true
 }
 
-// Whether bytes 2 to 507 are zero, in a book of whole blocks.
-fn is_plain(book: &[u8]) -> bool
-    requires { ⌜ 508 ≤ length (now book) ⌝ }
-    ensures { λ r. ⌜ Tells r (Zeros 2 508 (now (book .entry))) ⌝ }
+// The lowest of the first `count` blocks whose check is wrong; `count` where none is.
+fn first_wrong(book: &[u8], count: usize) -> usize
+    requires { ⌜ count ≤ 8 ⌝ }
+    ensures { λ r. ⌜ Lowest count (λ k. RightCheck (block (now (book .entry)) k)) r ⌝ }
 {
-    let mut j = 2;
-    while j < CHECKED {
-        if book[j] != 0 {
-            return false;
+    let mut k = 0;
+    while k < count {
+        if !is_right(book, BLOCK * k) {
+            return k;
         }
-        j += 1;
+        k += 1;
     }
-    true
+    count
 }
 
 // Whether the head says one setting for each block after it, 1 to 8 posts and nothing else, in a
@@ -80,7 +83,21 @@ fn is_head(book: &[u8]) -> bool
     if POSTS_MOST < m {
         return false;
     }
-    is_plain(book)
+    are_zeros(book, 0, HEAD_ZEROS, CHECKED)
+}
+
+// The lowest of n settings whose block has a bit that must be zero; n where none has one.
+fn first_stray(book: &[u8], n: u8, m: u8) -> usize
+    ensures { λ r. ⌜ Lowest n (λ i. SettingBlock n m (block (now (book .entry)) (1 + i))) r ⌝ }
+{
+    let mut i: usize = 0;
+    while i < n as usize {
+        if !is_setting(book, BLOCK * (1 + i), n, m) {
+            return i;
+        }
+        i += 1;
+    }
+    n as usize
 }
 
 // The numbers of settings and posts of a sound book, or why it is none.
@@ -88,7 +105,7 @@ pub fn sound(book: &[u8]) -> ReadAnswer
     ensures { λ r. ⌜ Judges (now (book .entry)) r ⌝ }
 {
     if !is_whole(book) {
-        return ReadAnswer::Refused(Refusal::Length);
+        return ReadAnswer::Refused(Refusal::BookLength);
     }
     let blocks = book.len() / BLOCK;
     let wrong = first_wrong(book, blocks);
@@ -100,7 +117,7 @@ pub fn sound(book: &[u8]) -> ReadAnswer
     }
     let n = book[0];
     let m = book[1];
-    let stray = first_stray(book, BLOCK, BLOCK, CHECKED, n as usize, m);
+    let stray = first_stray(book, n, m);
     if stray < n as usize {
         return ReadAnswer::Refused(Refusal::StrayBit(stray + 1));
     }

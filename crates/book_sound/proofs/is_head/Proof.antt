@@ -1,5 +1,6 @@
 -- `is_head` meets its contract: each test is one part of `RightHead`.
 use native.Mathlib.Omega.{arith}
+use borrow.Author.Needs.{needs}
 use Rattle.ground.proofs.Answers.{tells-iff}
 use Rattle.book_sound.proofs.BookLaws.{whole-length, right-head, head-settings, head-posts, head-rest}
 use Rattle.book_sound.proofs.is_head.Statement.{statement}
@@ -29,11 +30,14 @@ returns-2 c = λ right. omega (arith, head-posts right)
 returns-3 : tie.Need-returns-3
 returns-3 c = λ right. omega (arith, head-posts right)
 
-is-plain-requires : tie.Need-is-plain-requires
-is-plain-requires c κs = omega (arith, whole-length (c .before .before .before .before .before .before .pre))
+are-zeros-requires : tie.Need-are-zeros-requires
+are-zeros-requires c κs = search needs
 
 returns-4 : tie.Need-returns-4
-returns-4 c = tells-iff (c .is-plain .result) (right-head (c .before .before .before .before .if1 .left) (c .before .before .if2 .left) (c .before .if3 .left)) head-rest (c .is-plain .ensures)
+returns-4 c =
+    tells-iff (c .are-zeros .result)
+    (right-head (c .before .before .before .before .if1 .left) (c .before .before .if2 .left) (c .before .if3 .left)) head-rest
+    (c .are-zeros .ensures)
 
 pub is-head-spec : {M : Type 1} → statement M
 is-head-spec =
@@ -47,5 +51,5 @@ is-head-spec =
     cast-m
     returns-2
     returns-3
-    is-plain-requires
+    are-zeros-requires
     returns-4)
