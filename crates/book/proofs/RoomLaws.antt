@@ -5,21 +5,21 @@ use Prim.Native.Nat.{ℕ, _+_, _-_, _*_, _≤_}
 use native.Mathlib.Omega.{arith}
 use lib.ListN.{length, drop}
 use lib.Seq.{sets}
-use Rattle.book_sound.specs.declared.refusal.Refusal.{Refusal}
+use Rattle.refusal.specs.declared.Refusal.{Refusal}
 use Rattle.book.specs.declared.writing.WriteAnswer.{WriteAnswer}
 use Rattle.book.specs.declared.writing.WriteAnswer.the-variants.{Written, Refused as NotWritten}
 use Rattle.book_sound.specs.Sound.{Sound, rightsOf, tablesOf}
-use Rattle.book_sound.specs.Refusals.{number, place, writeRows}
+use Rattle.book.specs.Rows.{writeRows}
 use Rattle.book_block.specs.Kinds.{Tables}
 use Rattle.book_block.specs.Sealed.{headBlock}
 use Rattle.book.specs.Written.{settingBlocks, bookOf, Writable}
-use Rattle.ground.specs.Order.{First, Clear}
+use Rattle.refusal.specs.Order.{First, Clear}
 use Rattle.book.specs.Inner.{MayWrite}
 use Rattle.ground.proofs.Lists.{sets-front}
-use Rattle.ground.proofs.OrderLaws.{none-only}
+use Rattle.refusal.proofs.OrderLaws.{clear-none, clear-past, clear-when, clear-lowest}
 use Rattle.book_block.proofs.SealLaws.{run-on}
 use Rattle.book_block.proofs.BlockLaws.{length-head}
-use Rattle.book_sound.proofs.RefusalLaws.{none-block, down}
+use Rattle.book_sound.proofs.BlockRows.{none-block, down}
 use Rattle.book_sound.proofs.RightsLaws.{length-rights}
 use Rattle.book.proofs.WriteLaws.{length-book}
 
@@ -34,10 +34,12 @@ read-room {book} room after {n} sound h p = filled room after (rightsOf book n) 
 
 -- ---- writing
 
-pub may-write : (n m : ℕ) (rights room : List ℕ) (answer : WriteAnswer) → MayWrite n m rights room answer → answer ≡ Written → Writable n m rights × (512 * (1 + n) ≤ length room)
+pub may-write : (n m : ℕ) (rights room : List ℕ) (answer : WriteAnswer) → MayWrite n m rights room answer → answer ≡ Written
+    → Writable n m rights × (512 * (1 + n) ≤ length room)
 may-write n m rights room answer w e = subst (MayWrite n m rights room) e w
 
-pub may-not-write : (n m : ℕ) (rights room : List ℕ) (answer : WriteAnswer) (r : Refusal) → MayWrite n m rights room answer → answer ≡ NotWritten r → First (writeRows n m rights room) (number r) (place r)
+pub may-not-write : (n m : ℕ) (rights room : List ℕ) (answer : WriteAnswer) (r : Refusal) → MayWrite n m rights room answer → answer ≡ NotWritten r
+    → First (writeRows n m rights room) r
 may-not-write n m rights room answer r w e = subst (MayWrite n m rights room) e w
 
 pub write-room : (n m : ℕ) (rights room headed after : List ℕ) → Writable n m rights → 512 * (1 + n) ≤ length room
@@ -49,16 +51,10 @@ write-room n m rights room headed after w h p q =
 
 pub writable-clear : {n m : ℕ} {rights : List ℕ} (room : List ℕ) → Writable n m rights → 512 * (1 + n) ≤ length room → Clear (writeRows n m rights room)
 unfolding writeRows
-writable-clear {n} {m} {rights} room w h = (
-  none-only (λ f. f (w .settings)),
-  (
-    none-only (λ f. f (w .posts)),
-    (
-      none-only (λ f. f (w .size)),
-      (
-        none-block (λ k. Tables n m (tablesOf rights (k - 1))) (λ i l. subst (λ x. Tables n m (tablesOf rights x)) (sym (down i)) (w .tables i l)),
-        (none-only (λ short. omega arith), tt),
-      ),
-    ),
-  ),
-)
+writable-clear {n} {m} {rights} room w h =
+    clear-past (w .settings)
+    (clear-past (w .posts)
+    (clear-past (w .size)
+    (clear-lowest
+    (none-block (λ k. Tables n m (tablesOf rights (k - 1))) (λ i l. subst (λ x. Tables n m (tablesOf rights x)) (sym (down i)) (w .tables i l)))
+    (clear-when (λ short. omega arith) clear-none))))

@@ -5,10 +5,10 @@ use lib.ListN.{length}
 use Rattle.book.specs.declared.writing.WriteAnswer.{WriteAnswer}
 use Rattle.book.specs.declared.writing.WriteAnswer.the-variants.{Written, Refused}
 use Rattle.book.specs.Written.{Writable}
-use Rattle.ground.specs.Order.{First}
-use Rattle.book_sound.specs.Refusals.{number, place, writeRows}
+use Rattle.refusal.specs.Order.{First}
+use Rattle.book.specs.Rows.{writeRows}
 
 -- what `write` finds out before it writes anything
 abbrev pub MayWrite : ℕ → ℕ → List ℕ → List ℕ → WriteAnswer → Type 0
 MayWrite n m rights room Written = Writable n m rights × (512 * (1 + n) ≤ length room)
-MayWrite n m rights room (Refused r) = First (writeRows n m rights room) (number r) (place r)
+MayWrite n m rights room (Refused r) = First (writeRows n m rights room) r

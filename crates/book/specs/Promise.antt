@@ -9,16 +9,16 @@ use Rattle.book.specs.declared.writing.WriteAnswer.{WriteAnswer}
 use Rattle.book.specs.declared.writing.WriteAnswer.the-variants.{Written, Refused as NotWritten}
 use Rattle.book_sound.specs.Sound.{Sound, rightsOf}
 use Rattle.book.specs.Written.{bookOf, Writable}
-use Rattle.ground.specs.Order.{First}
-use Rattle.book_sound.specs.Refusals.{number, place, readRows, writeRows}
+use Rattle.refusal.specs.Order.{First}
+use Rattle.book.specs.Rows.{readRows, writeRows}
 
 -- `read`: "a book read [..] fills the first 256 × n [..] bytes of its room and no others"; a refusal "writes nothing"
-abbrev pub Reads : List ℕ → List ℕ → ReadAnswer → List ℕ → Type 0
-Reads book room (Book n m) after = Sound book n m × (256 * n ≤ length room) × (after ≡ rightsOf book n ++ drop (256 * n) room)
-Reads book room (Refused r) after = First (readRows book room) (number r) (place r) × (after ≡ room)
+abbrev pub ReadsBook : List ℕ → List ℕ → ReadAnswer → List ℕ → Type 0
+ReadsBook book room (Book n m) after = Sound book n m × (256 * n ≤ length room) × (after ≡ rightsOf book n ++ drop (256 * n) room)
+ReadsBook book room (Refused r) after = First (readRows book room) r × (after ≡ room)
 
 -- `write`: "a book [..] written fills the first [..] 512 × (1 + n) bytes of its room and no others"; a refusal "writes nothing"
-abbrev pub Writes : ℕ → ℕ → List ℕ → List ℕ → WriteAnswer → List ℕ → Type 0
-Writes n m rights room Written after =
+abbrev pub WritesBook : ℕ → ℕ → List ℕ → List ℕ → WriteAnswer → List ℕ → Type 0
+WritesBook n m rights room Written after =
     Writable n m rights × (512 * (1 + n) ≤ length room) × (after ≡ bookOf n m rights ++ drop (512 * (1 + n)) room)
-Writes n m rights room (NotWritten r) after = First (writeRows n m rights room) (number r) (place r) × (after ≡ room)
+WritesBook n m rights room (NotWritten r) after = First (writeRows n m rights room) r × (after ≡ room)

@@ -1,9 +1,8 @@
 // The book of rights as it is stored: blocks of 512 bytes, each with its check, one head and one
 // block for each setting. It knows how a book becomes rights in memory and how rights become a book.
 //
-// A book or rights that break a rule of the format are refused with one of the cases of `sound::Refusal`,
-// the first in the written order and at the lowest block; so is a room that is too short. A refusal
-// leaves the lent room as it was. A success fills the first 256 bytes a setting of the room for
+// A book or rights that break a rule of the format are refused, with the first refusal in the written order
+// and at the lowest block; so is a room that is too short. A refusal leaves the lent room as it was. A success fills the first 256 bytes a setting of the room for
 // rights, or the first 512 bytes a block of the room for a book, and no other byte.
 mod reading;
 mod writing;
@@ -11,9 +10,6 @@ mod writing;
 pub use reading::read;
 pub use writing::WriteAnswer;
 pub use writing::write;
-
-// The bytes of a setting's tables: 8 posts, two tables of 16 bytes each.
-pub const TABLES: usize = 256;
 
 // The zero bytes before the check: in the head after n and m, 508 - 2, and in a setting's block
 // after its tables, 508 - 256.

@@ -1,16 +1,16 @@
 // From a book's bytes to rights in memory.
-use super::TABLES;
 use book_block::BLOCK;
+use book_block::TABLES;
 use book_sound::ReadAnswer;
-use book_sound::Refusal;
 use book_sound::sound;
 use ground::copy;
+use refusal::Refusal;
 ghost use mathlib.Core.Path.{_≡_};
 ghost use Prim.Native.Nat.{_+_, _*_, _≤_};
 ghost use lib.ListN.{length};
 ghost use lib.Seq.{sets};
 ghost use Rattle.book_sound.specs.Sound.{rightsOf};
-ghost use Rattle.book.specs.Promise.{Reads};
+ghost use Rattle.book.specs.Promise.{ReadsBook};
 
 // Copies the tables of the book's n settings to the start of the room, which is long enough.
 fn copy_rights(book: &[u8], n: usize, room: &mut [u8])
@@ -26,7 +26,7 @@ fn copy_rights(book: &[u8], n: usize, room: &mut [u8])
 
 // A book's rights, in the first 256 bytes a setting of the room, or why there are none.
 pub fn read(book: &[u8], room: &mut [u8]) -> ReadAnswer
-    ensures { λ r. ⌜ Reads (now (book .entry)) (now (room .entry)) r (now (room .exit)) ⌝ }
+    ensures { λ r. ⌜ ReadsBook (now (book .entry)) (now (room .entry)) r (now (room .exit)) ⌝ }
 {
     let answer = sound(book);
     match answer {

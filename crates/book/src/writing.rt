@@ -2,23 +2,25 @@
 // that all of it fits.
 use super::HEAD_ZEROS;
 use super::SETTING_ZEROS;
-use super::TABLES;
 use book_block::BLOCK;
-use book_block::first_stray;
+use book_block::TABLES;
+use book_block::are_tables;
 use book_block::seal;
-use book_sound::Refusal;
 use ground::POSTS_MOST;
 use ground::SETTINGS_MOST;
 use ground::copy;
 use ground::zeros;
+use refusal::Refusal;
 ghost use mathlib.Core.Path.{_≡_};
 ghost use Prim.Native.Nat.{_+_, _*_, _≤_};
 ghost use lib.ListN.{length};
 ghost use lib.Seq.{sets};
+ghost use Rattle.ground.specs.Search.{Lowest};
+ghost use Rattle.book_block.specs.Kinds.{Tables};
 ghost use Rattle.book_block.specs.Sealed.{headBlock, settingBlock};
 ghost use Rattle.book_sound.specs.Sound.{tablesOf};
 ghost use Rattle.book.specs.Written.{settingBlocks};
-ghost use Rattle.book.specs.Promise.{Writes};
+ghost use Rattle.book.specs.Promise.{WritesBook};
 ghost use Rattle.book.specs.Inner.{MayWrite};
 
 // What the writer says.
@@ -63,6 +65,20 @@ fn write_settings(rights: &[u8], n: usize, room: &mut [u8])
     }
 }
 
+// The lowest of n settings whose tables have a bit that must be zero; n where none has one.
+fn first_stray(rights: &[u8], n: u8, m: u8) -> usize
+    ensures { λ r. ⌜ Lowest n (λ i. Tables n m (tablesOf (now (rights .entry)) i)) r ⌝ }
+{
+    let mut i: usize = 0;
+    while i < n as usize {
+        if !are_tables(rights, TABLES * i, n, m) {
+            return i;
+        }
+        i += 1;
+    }
+    n as usize
+}
+
 // The first of the writer's refusals that these numbers, rights and this length of the room meet.
 fn judge(n: usize, m: usize, rights: &[u8], room: &[u8]) -> WriteAnswer
     ensures { λ r. ⌜ MayWrite n m (now (rights .entry)) (now (room .entry)) r ⌝ }
@@ -80,11 +96,12 @@ fn judge(n: usize, m: usize, rights: &[u8], room: &[u8]) -> WriteAnswer
         return WriteAnswer::Refused(Refusal::Head);
     }
     if rights.len() != TABLES * n {
-        return WriteAnswer::Refused(Refusal::Length);
+        return WriteAnswer::Refused(Refusal::BookLength);
     }
-    let stray = first_stray(rights, 0, TABLES, TABLES, n, m as u8);
+    let stray = first_stray(rights, n as u8, m as u8);
     if stray < n {
-        return WriteAnswer::Refused(Refusal::StrayBit(stray + 1));
+        let block = stray + 1;
+        return WriteAnswer::Refused(Refusal::StrayBit(block));
     }
     if room.len() < BLOCK * (1 + n) {
         return WriteAnswer::Refused(Refusal::Room);
@@ -95,7 +112,7 @@ fn judge(n: usize, m: usize, rights: &[u8], room: &[u8]) -> WriteAnswer
 // The book of n settings and m posts with these rights, at the start of the room, or why there is
 // none.
 pub fn write(n: usize, m: usize, rights: &[u8], room: &mut [u8]) -> WriteAnswer
-    ensures { λ r. ⌜ Writes n m (now (rights .entry)) (now (room .entry)) r (now (room .exit)) ⌝ }
+    ensures { λ r. ⌜ WritesBook n m (now (rights .entry)) (now (room .entry)) r (now (room .exit)) ⌝ }
 {
     let answer = judge(n, m, rights, room);
     match answer {

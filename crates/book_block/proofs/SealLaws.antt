@@ -6,7 +6,7 @@ use Prim.Native.Nat.{ℕ, _+_, _*_, _/_, _%_, _≤_, _<_}
 use native.Mathlib.Omega.{arith}
 use lib.Dec.{lit<}
 use lib.ListN.{length, getD, take, drop, take-append-drop, length-append, drop-of-length-le, List·getD-append}
-use lib.Seq.{sets, drop-cons, getD-drop, getD-take, getD-append-add}
+use lib.Seq.{sets, length-sets, drop-cons, getD-drop, getD-take, getD-append-add}
 use Rattle.book_block.specs.declared.sums.Sums.{Sums}
 use Rattle.book_block.specs.Check.{check, number16, RightCheck}
 use borrow.Author.Tests.{le-leb, lt-leb}
@@ -37,9 +37,10 @@ unfolding sealedAt
 not-sealed room at h = rw (sealedAt, lt-leb (at + 512) (length room) h)
 
 pub seal-on : (l r₁ r₂ body : List ℕ) (at : ℕ) → length body ≡ 508 → at + 512 ≤ length l → r₁ ≡ sets l at body
-    → length r₁ ≡ length l → r₂ ≡ sealedAt r₁ at → r₂ ≡ sets l at (sealed body)
+    → r₂ ≡ sealedAt r₁ at → r₂ ≡ sets l at (sealed body)
 unfolding sealed checkBytes
-seal-on l r₁ r₂ body at e h p len q =
+seal-on l r₁ r₂ body at e h p q =
+    let len : length r₁ ≡ length l = ap length p ∙ length-sets l at body in
     let k : check (drop at r₁) ≡ check body = ap (λ (r : List ℕ). check (drop at r)) p ∙ written-check l body at e h in
     run-on l r₁ r₂ body (bytes16 (check body .s) ++ bytes16 (check body .t)) at (at + 508) (ap (λ (n : ℕ). at + n) e) p
     (q ∙ sealed-at r₁ at (omega arith) ∙ ap (λ (c : Sums). sets r₁ (at + 508) (bytes16 (c .s) ++ bytes16 (c .t))) k)

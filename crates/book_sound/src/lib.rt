@@ -24,8 +24,8 @@ const BLOCKS_LEAST: usize = 2;
 
 const BLOCKS_MOST: usize = 8;
 
-// Where the head's zeros begin: after n and m.
-const HEAD_ZEROS: usize = 2;
+// The bytes of the head that say something, n and m; zeros follow.
+const HEAD_USED: usize = 2;
 
 // What `sound` answers, and `book::read` too.
 pub enum ReadAnswer {
@@ -83,7 +83,7 @@ fn is_head(book: &[u8]) -> bool
     if POSTS_MOST < m {
         return false;
     }
-    are_zeros(book, 0, HEAD_ZEROS, CHECKED)
+    are_zeros(book, 0, HEAD_USED, CHECKED)
 }
 
 // The lowest of n settings whose block has a bit that must be zero; n where none has one.
@@ -119,7 +119,8 @@ pub fn sound(book: &[u8]) -> ReadAnswer
     let m = book[1];
     let stray = first_stray(book, n, m);
     if stray < n as usize {
-        return ReadAnswer::Refused(Refusal::StrayBit(stray + 1));
+        let block = stray + 1;
+        return ReadAnswer::Refused(Refusal::StrayBit(block));
     }
     ReadAnswer::Book {
         settings: n,

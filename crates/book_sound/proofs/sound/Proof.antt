@@ -76,8 +76,8 @@ first-stray-requires c κs = search needs
 cast-if4 : tie.Need-cast-if4
 cast-if4 c = omega (arith, c .before .before .before .before .before .before .before .before .before .shared-slice-known .given 0)
 
-add-t16 : tie.Need-add-t16
-add-t16 c =
+add-block : tie.Need-add-block
+add-block c =
     let e = c .before .before .before .before in
     omega (arith, head-n-most (head e) (whole (e .before .before .before .before)), c .if4)
 
@@ -108,6 +108,6 @@ sound-spec =
     shared-slice-read-m
     first-stray-requires
     cast-if4
-    add-t16
+    add-block
     returns-4
     returns-5)

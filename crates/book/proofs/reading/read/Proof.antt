@@ -3,7 +3,8 @@ use native.Mathlib.Omega.{arith}
 use mathlib.Core.Path.{refl}
 use denote.Ref.{now}
 use Rattle.book_sound.specs.Sound.{Sound}
-use Rattle.book_sound.proofs.SoundLaws.{judged-book, judged-refused, no-room}
+use Rattle.book_sound.proofs.SoundLaws.{judged-book, judged-refused}
+use Rattle.book.proofs.RefusalLaws.{no-book, no-room}
 use Rattle.book.proofs.RoomLaws.{read-room}
 use borrow.Author.Needs.{needs}
 use Rattle.book.proofs.reading.read.Statement.{statement}
@@ -11,7 +12,10 @@ use Rattle.book.proofs.reading.read.Tie as tie
 
 -- in the arm of a book, the book is sound
 book : (c : tie.After-known-told2) → Sound (now (c .before .before .before .before .before .before .args .book)) (c .before .answer2 .given .0 .0) (c .before .answer2 .given .0 .1 .0)
-book c = judged-book (now (c .before .before .before .before .before .before .args .book)) (c .before .before .before .sound .result) (c .before .answer2 .given .0 .0) (c .before .answer2 .given .0 .1 .0) (c .before .before .before .sound .ensures) (c .before .answer2 .given .1)
+book c =
+    let told = c .before .answer2 .given in
+    let judged = c .before .before .before .sound in
+    judged-book (now (c .before .before .before .before .before .before .args .book)) (judged .result) (told .0 .0) (told .0 .1 .0) (judged .ensures) (told .1)
 
 sound-requires : tie.Need-sound-requires
 sound-requires c κs = search needs
@@ -36,7 +40,10 @@ copy-rights-requires c κs = let s = book (c .before .before) in omega (arith, s
 
 returns-2 : tie.Need-returns-2
 returns-2 c =
-    (judged-refused (now (c .before .before .before .before .before .before .args .book)) (now (c .before .before .before .before .before .before .args .room)) (c .before .before .before .sound .result) (c .before .answer .given .0 .0) (c .before .before .before .sound .ensures) (c .before .answer .given .1), refl)
+    let a = c .before .before .before .before .before .before .args in
+    let told = c .before .answer .given in
+    let judged = c .before .before .before .sound in
+    (no-book (now (a .book)) (now (a .room)) (judged-refused (now (a .book)) (judged .result) (told .0 .0) (judged .ensures) (told .1)), refl)
 
 same-length : tie.Need-same-length
 same-length c = search needs
@@ -44,7 +51,9 @@ same-length c = search needs
 returns-3 : tie.Need-returns-3
 returns-3 c =
     let s = book (c .before .before .before .before .before) in
-    (s, c .before .before .before .before .if1 .left, read-room (now (c .before .before .before .before .before .before .before .before .before .before .before .args .room)) _ s (c .before .before .before .before .if1 .left) (c .before .before .copy-rights .ensures))
+    let fits = c .before .before .before .before .if1 .left in
+    let a = c .before .before .before .before .before .before .before .before .before .before .before .args in
+    (s, fits, read-room (now (a .room)) _ s fits (c .before .before .copy-rights .ensures))
 
 pub read-spec : {M : Type 1} → statement M
 read-spec =

@@ -18,10 +18,10 @@ slice-write-room-2 : tie.Need-slice-write-room-2
 slice-write-room-2 c = simp length-set (omega arith)
 
 zeros-requires : tie.Need-zeros-requires
-zeros-requires c κs = simp length-set (omega arith)
+zeros-requires c κs = search needs
 
 seal-requires : tie.Need-seal-requires
-seal-requires c κs = rw (c .before .before .before .zeros .kept .1 .0) (simp length-set (omega (arith, c .before .before .before .before .before .before .pre)))
+seal-requires c κs = search needs
 
 same-length : tie.Need-same-length
 same-length c = c .before .before .seal .kept .0 ∙ c .before .before .before .before .before .before .zeros .kept .1 .0 ∙ simp length-set
