@@ -11,8 +11,8 @@ pub use reading::read;
 pub use writing::WriteAnswer;
 pub use writing::write;
 
-// The zero bytes before the check: in the head after n and m, 508 - 2, and in a setting's block
-// after its tables, 508 - 256.
-const HEAD_ZEROS: usize = 506;
+// The zero bytes before the check: in the head after n and m, 506, and in a setting's block after its
+// tables, 252.
+const HEAD_ZEROS: usize = book_block::CHECKED - 2;
 
-const SETTING_ZEROS: usize = 252;
+const SETTING_ZEROS: usize = book_block::CHECKED - book_block::TABLES;

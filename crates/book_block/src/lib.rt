@@ -24,14 +24,15 @@ pub const BLOCK: usize = 512;
 
 pub const CHECKED: usize = 508;
 
-const S_AT: usize = 508;
+const S_AT: usize = CHECKED;
 
-const T_AT: usize = 510;
+const T_AT: usize = CHECKED + 2;
 
-// The bytes of a post's two tables for one setting, look and set, and of a setting's tables for 8 posts.
-const POST: usize = 32;
+// The bytes of a post's two tables for one setting, look and set, 32; and of a setting's tables for 8
+// posts, 256.
+const POST: usize = 2 * ground::TABLE;
 
-pub const TABLES: usize = 256;
+pub const TABLES: usize = ground::POSTS_MOST * POST;
 
 // The bits of a byte.
 const BYTE: usize = 8;

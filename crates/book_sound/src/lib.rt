@@ -22,7 +22,7 @@ ghost use Rattle.book_sound.specs.Promise.{Judges};
 // The fewest and most blocks of a book: the head and 1 to 7 settings.
 const BLOCKS_LEAST: usize = 2;
 
-const BLOCKS_MOST: usize = 8;
+const BLOCKS_MOST: usize = 1 + ground::SETTINGS_MOST;
 
 // The bytes of the head that say something, n and m; zeros follow.
 const HEAD_USED: usize = 2;

@@ -3,6 +3,5 @@ pub mod Number
 pub mod States
 pub mod Fits
 pub mod Known
-pub mod Allowed
 pub mod Unique
 pub mod Examples

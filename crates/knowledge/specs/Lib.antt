@@ -1,5 +1,5 @@
--- What a reader must believe of knowledge: the knowledge number, what fits and what is known, when a goal is settled, and which acts that allows.
+-- What a reader must believe of knowledge: the knowledge number, what fits and what is known, and when a goal is settled.
+-- It knows no book: which acts a book's rules permit is crate question's.
 pub mod Number
 pub mod Fits
 pub mod Goal
-pub mod Allowed

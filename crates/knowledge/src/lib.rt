@@ -1,6 +1,6 @@
 // What a team knows: a state of one digit for each setting, its number, and what an act makes of it. Its
-// specs also say what is known, when a goal is settled and which acts that allows: `judging` and `tables`
-// have the code. Nothing is written to what a caller lends.
+// specs also say what is known and when a goal is settled: knowledge_judging and finder_sides have the
+// code. It refuses nothing and writes nothing.
 mod state;
 
 pub use state::Knowledge;

@@ -23,11 +23,11 @@ pub enum Named {
 }
 
 // How many settings and posts a byte can name, and how many bytes the acts of one kind take.
-const SETTINGS: u8 = 7;
+const SETTINGS: u8 = ground::SETTINGS_MOST as u8;
 
-const POSTS: u8 = 8;
+const POSTS: u8 = ground::POSTS_MOST as u8;
 
-const KIND: u8 = 56;
+const KIND: u8 = SETTINGS * POSTS;
 
 // An act by its kind: 0 set false, 1 set true, 2 look.
 fn of_kind(kind: u8, setting: u8, post: u8) -> Act
@@ -75,8 +75,8 @@ fn offers(n: u8, team: u8, setting: u8, post: u8) -> bool
 }
 
 impl Act {
-    // The largest byte of an act: three kinds of 56.
-    pub const LAST: u8 = 168;
+    // The largest byte of an act: three kinds of 56, 168.
+    pub const LAST: u8 = 3 * KIND;
 
     // The act that a byte names.
     pub fn of_byte(byte: u8) -> Named

@@ -3,11 +3,19 @@
 ghost use mathlib.Core.Path.{_≡_};
 ghost use Rattle.knowledge_acts.specs.Seven.{startTold, nowTold, afterSet, afterLook, firstDigit};
 
-// How many knowledge digits there are.
+// How many knowledge digits there are, 0 to 6; that there are as many settings is chance.
 const DIGITS: u8 = 7;
 
 // The digit after a set: a row for each digit, a column for each value, false and true.
-const AFTER_SET: [[u8; 2]; 7] = [[1, 2], [1, 2], [1, 2], [3, 4], [3, 4], [5, 6], [5, 6]];
+const AFTER_SET: [[u8; 2]; DIGITS as usize] = [
+    [1, 2],
+    [1, 2],
+    [1, 2],
+    [3, 4],
+    [3, 4],
+    [5, 6],
+    [5, 6],
+];
 
 // What the digit tells of the value now.
 pub fn now_side(digit: u8) -> u8

@@ -3,7 +3,6 @@
 pub mod Acts
 pub mod States
 pub mod Bytes
-pub mod Team
 pub mod Effects
 pub mod Unknowns
 pub mod Layers

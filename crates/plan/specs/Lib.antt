@@ -2,7 +2,6 @@
 -- (`Layers`), the plan written and its bytes, a run on real settings, and the judgement on a plan's bytes. `Certificate` and `Pending` are inside: no public contract
 -- cites them.
 pub mod Plans
-pub mod Team
 pub mod Ranks
 pub mod Layers
 pub mod Bytes
