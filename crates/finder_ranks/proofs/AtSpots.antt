@@ -7,10 +7,10 @@ use lib.Dec.{ltb}
 use Rattle.ground.specs.Digits.{digit}
 use Rattle.ground.proofs.Digits.{digit-lt}
 use Rattle.knowledge_acts.specs.Seven.{nowTold, afterLook}
-use Rattle.finder_sides.specs.Over.{entry}
+use Rattle.finder_sides.specs.Tables.{entry}
 use Rattle.finder_ranks.specs.Ranks.{rank}
 use Rattle.finder_ranks.specs.Push.{Pushing}
-use Rattle.finder_ranks.specs.Inner.{afterOffer, Spotted, SetsTo, Beside, Tried, PushedLooks}
+use Rattle.finder_ranks.specs.Push.{afterOffer, Spotted, SetsTo, Beside, Tried, PushedLooks}
 use Rattle.finder_sides.proofs.Shown.{seven as pos}
 use Rattle.finder_ranks.proofs.Spots.{spot-at, spot-side}
 use Rattle.finder_ranks.proofs.Before.{other, from-other, from-none}

@@ -15,7 +15,7 @@ use Rattle.knowledge_acts.specs.Acts.{setTo, lookAt}
 use Rattle.knowledge_acts.proofs.Seven.{set-lt, look-lt}
 use Rattle.knowledge_acts.proofs.Outcomes.{set-here, look-here}
 use Rattle.knowledge.specs.Fits.{implies}
-use Rattle.finder_ranks.specs.Inner.{SetsTo}
+use Rattle.finder_ranks.specs.Push.{SetsTo}
 use Rattle.finder_sides.proofs.Shown.{seven as pos}
 
 module _ (k i : ℕ) where

@@ -14,7 +14,7 @@ use Rattle.ground.proofs.Bools.{and-left, and-right, decide, eq→eqb, T→true
 use Rattle.knowledge_acts.specs.Acts.{lookAt}
 use Rattle.finder_ranks.specs.Ranks.{rank, HasLower, by-set, by-look}
 use Rattle.finder_ranks.specs.Push.{Grew, SetsDone, LooksDone}
-use Rattle.finder_ranks.specs.Inner.{given, afterOffer}
+use Rattle.finder_ranks.specs.Push.{given, afterOffer}
 
 module _ {n : ℕ} {set look : List (List ℕ)} where
   -- an act lowers as long as its outcomes stay below

@@ -1,10 +1,13 @@
--- The laws of a push: how the table grows, and where the states before a state stand.
--- The laws of a round and of the whole spread, and that its certificate settles the table.
-pub mod Grown
-pub mod Spots
-pub mod Before
-pub mod Pushes
-pub mod AtSpots
-pub mod Sweeps
-pub mod Stages
+-- Laws that callers cite: what settles the contract, and how acts stay among the knowledge numbers. Then what only this crate's own proofs use: a
+-- state taken apart, the marks, a push, a round, the whole spread.
 pub mod Unique
+mod ApartLaws
+mod MarkLaws
+mod Grown
+mod Spots
+mod Before
+mod Pushes
+mod AtSpots
+mod Sweeps
+mod Stages
+mod FillLaws

@@ -12,10 +12,10 @@ use Rattle.knowledge_acts.specs.Seven.{afterLook}
 use Rattle.knowledge_acts.specs.Acts.{lookAt}
 use Rattle.knowledge_acts.proofs.Seven.{set-known}
 use Rattle.finder_sides.specs.Sides.{nowSideNumber}
-use Rattle.finder_sides.specs.Over.{entry}
+use Rattle.finder_sides.specs.Tables.{entry}
 use Rattle.finder_ranks.specs.Ranks.{rank, May, by-set, by-look}
 use Rattle.finder_ranks.specs.Push.{Grew, SetsDone, Pushing, PushedAlong}
-use Rattle.finder_ranks.specs.Inner.{afterOffer, SetsTo, Beside, Tried, PushedSets, PushedLooks}
+use Rattle.finder_ranks.specs.Push.{afterOffer, SetsTo, Beside, Tried, PushedSets, PushedLooks}
 use Rattle.finder_sides.proofs.Shown.{seven as pos}
 use Rattle.finder_ranks.proofs.Grown.{same, kept, further, still-none, sets-stay, offer-grew, offer-taken}
 use Rattle.finder_ranks.proofs.Before.{set-into, set-from, look-into, look-to, look-from, other, only-from}

@@ -6,14 +6,13 @@ use lib.Dec.{lit<}
 use Rattle.ground.specs.Digits.{digit, put}
 use Rattle.ground.proofs.Search.{below-suc}
 use Rattle.ground.proofs.Digits.{digit-lt, put-same, put-other, put-lt, put-sum, put-digit}
-use Rattle.finder_sides.proofs.Shown.{seven as pos}
+use Rattle.finder_sides.proofs.Shown.{seven as pos, below-sides}
 use Rattle.finder_sides.proofs.CountLaws.{states-most}
-use Rattle.finder_sides.proofs.ApartLaws.{below-sides}
 use Rattle.knowledge_acts.specs.Seven.{nowTold}
 use Rattle.knowledge.specs.Number.{sumOf}
 use Rattle.knowledge.proofs.Number.{sum-ext}
 use Rattle.finder_sides.specs.Sides.{nowSideNumber}
-use Rattle.finder_ranks.specs.Inner.{Spotted}
+use Rattle.finder_ranks.specs.Push.{Spotted}
 
 -- a side that differs at one setting
 side-change : (n i : ℕ) (f g : ℕ → ℕ) → i < n → ((j : ℕ) → (j ≡ i → ⊥) → f j ≡ g j)

@@ -12,7 +12,7 @@ use Rattle.knowledge_acts.specs.Acts.{setTo, lookAt}
 use Rattle.knowledge_acts.proofs.Outcomes.{set-below, look-below}
 use Rattle.finder_ranks.specs.Ranks.{rank, HasLower, by-set, by-look}
 use Rattle.finder_ranks.specs.Spread.{Ready, Spread}
-use Rattle.finder_ranks.specs.Inner.{Swept}
+use Rattle.finder_ranks.specs.Round.{Swept}
 use Rattle.finder_ranks.proofs.Grown.{kept, lowers-kept, lowers-back}
 
 -- before round h

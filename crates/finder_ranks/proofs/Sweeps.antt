@@ -12,7 +12,7 @@ use borrow.Author.Tests.{eq-eqb}
 use Rattle.ground.proofs.Bools.{lt-or-ge}
 use Rattle.finder_ranks.specs.Ranks.{rank}
 use Rattle.finder_ranks.specs.Push.{Grew, SetsDone, LooksDone, Pushing, PushedAlong}
-use Rattle.finder_ranks.specs.Inner.{Pushed, Visited, Sweeping, Bare, Swept}
+use Rattle.finder_ranks.specs.Round.{Pushed, Visited, Sweeping, Bare, Swept}
 use Rattle.finder_ranks.proofs.Pushes.{pushing-on}
 use Rattle.finder_ranks.proofs.Grown.{same, back, further, sets-stay, looks-stay}
 

@@ -1,17 +1,19 @@
 -- The certificate settles the table: two tables that it allows are equal. An entry is at most the other table's, by induction on that one: its act leads to
 -- lower entries, which are no lower than here, so that the act would give this entry as low a rank.
 use mathlib.Core.Path.{_≡_, sym, _∙_}
-use mathlib.Core.Logic.{inl, inr}
+use mathlib.Core.Logic.{_⊎_, inl, inr}
 use mathlib.Core.List.{List}
 use Prim.Native.Nat.{ℕ, zero, suc, _^_, _≤_, _<_}
 use native.Mathlib.Omega.{arith}
+use lib.ListN.{length}
 use lib.Seq.{ext-getD}
 use Rattle.ground.proofs.Bools.{lt-or-ge}
 use Rattle.finder_ranks.specs.Ranks.{rank}
-use Rattle.finder_ranks.specs.Spread.{Spread}
+use Rattle.finder_ranks.specs.Fills.{RankTable, FillsRanks, RanksFit}
 use Rattle.finder_ranks.proofs.Stages.{lowers-within}
 
-module _ {n : ℕ} {set look : List (List ℕ)} {before a b : List ℕ} (x : Spread n set look before a) (y : Spread n set look before b) where
+module _ {n : ℕ} {made learnt : List ℕ} {set look : List (List ℕ)} {before a b : List ℕ}
+    (x : RankTable n made learnt set look before a) (y : RankTable n made learnt set look before b) where
   no-higher : (m k : ℕ) → rank a k < m → k < 7 ^ n → rank b k ≤ rank a k
   no-higher zero k l s = absurd (omega arith)
   no-higher (suc m) k l s = elim (lt-or-ge (rank a k) 255) [
@@ -22,9 +24,31 @@ module _ {n : ℕ} {set look : List (List ℕ)} {before a b : List ℕ} (x : Spr
     ]
   ]
 
-pub spread-unique : {n : ℕ} {set look : List (List ℕ)} {before a b : List ℕ} → Spread n set look before a → Spread n set look before b → a ≡ b
-spread-unique {n} {a = a} {b = b} x y =
+pub table-unique : {n : ℕ} {made learnt : List ℕ} {set look : List (List ℕ)} {before a b : List ℕ}
+    → RankTable n made learnt set look before a → RankTable n made learnt set look before b → a ≡ b
+table-unique {n} {a = a} {b = b} x y =
     ext-getD 0 a b (x .same-length ∙ sym (y .same-length)) (λ k l. elim (lt-or-ge k (7 ^ n)) [
       | inl s ↦ omega (arith, no-higher x y (suc (rank a k)) k (omega arith) s, no-higher y x (suc (rank b k)) k (omega arith) s)
       | inr s ↦ x .beyond k s ∙ sym (y .beyond k s)
     ])
+
+-- there is a table to fill, or there is none
+room-or : (n : ℕ) (t : List ℕ) → RanksFit n t ⊎ (RanksFit n t → ⊥)
+room-or n t = elim (lt-or-ge 0 n) [
+  | inr z ↦ inr (λ r. absurd (omega (arith, r .some)))
+  | inl z ↦ elim (lt-or-ge 7 n) [
+    | inl f ↦ inr (λ r. absurd (omega (arith, r .few)))
+    | inr f ↦ elim (lt-or-ge (length t) (7 ^ n)) [
+      | inl s ↦ inr (λ r. absurd (omega (arith, r .room)))
+      | inr s ↦ inl (record { some = z; few = f; room = s })
+    ]
+  ]
+]
+
+-- what `fill_ranks` leaves is settled
+pub fills-unique : {n : ℕ} {made learnt : List ℕ} {set look : List (List ℕ)} {before a b : List ℕ}
+    → FillsRanks n made learnt set look before a → FillsRanks n made learnt set look before b → a ≡ b
+fills-unique {n} {before = before} x y = elim (room-or n before) [
+  | inl r ↦ table-unique (x .filled r) (y .filled r)
+  | inr r ↦ x .kept r ∙ sym (y .kept r)
+]

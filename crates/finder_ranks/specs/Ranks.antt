@@ -7,7 +7,7 @@ use lib.ListN.{getD}
 use Rattle.ground.specs.Digits.{digit}
 use Rattle.knowledge_acts.specs.Acts.{setTo, lookAt}
 use Rattle.finder_sides.specs.Sides.{nowSideNumber}
-use Rattle.finder_sides.specs.Over.{entry}
+use Rattle.finder_sides.specs.Tables.{entry}
 
 -- the entry of the state k
 abbrev pub rank : List ℕ → ℕ → ℕ

@@ -1,5 +1,4 @@
--- "The rank of a knowledge state is the least height of a working plan from it, 255 if none works", told of each entry by its neighbours alone: the
--- local certificate of a table of ranks, over knowledge numbers, two tables of what is permitted, and marks.
+-- The ranks spread from marks: what is asked for, and what is left. For the crate's own functions; `Fills` says the same of the whole step.
 use mathlib.Core.Path.{_≡_}
 use mathlib.Core.Logic.{_⊎_}
 use mathlib.Core.List.{List}

@@ -1,37 +1,48 @@
-// The rank of every knowledge number, spread from the states that are settled. The crate knows two
-// tables of what is permitted and the marks, and nothing of books, rules or posts. It refuses nothing:
-// its functions have a `requires`, for this repository alone. Of the lent ranks it changes only
-// entries below 7^n that hold 255.
+// The rank of every knowledge number, the finder's second step. The crate knows what is permitted and
+// where the two halves of the goal are settled, as tables over the sides, and nothing of books, rules or
+// posts. Of the lent ranks it writes only the first 7^n, and nothing where they do not fit.
+mod apart;
+mod counts;
+mod marks;
 mod push;
 mod round;
 mod scan;
+mod spread;
 
+pub use apart::side_of;
+pub use counts::numbers;
 use finder_sides::SIDES;
-use finder_sides::numbers;
 use ground::SETTINGS_MOST;
-use push::NONE;
-use round::round;
-ghost use Rattle.finder_ranks.specs.Spread.{Ready, Spread};
+use marks::mark;
+use spread::spread;
+ghost use Rattle.finder_ranks.specs.Fills.{FillsRanks};
 
-// Gives every knowledge number of n settings its rank. An entry of `set` and of `look`, by setting and
-// present side, is not 0 where the setting may be set, or looked at. `ranks` comes with 0 where the goal
-// is settled and with 255 elsewhere. Round h pushes from the states of rank h - 1 to those before them.
-pub fn spread(
+// The entry of a state from which no plan works.
+pub const NONE: u8 = 255;
+
+// Gives every knowledge number of n settings its rank: the least height of a working plan from it, or
+// NONE. An entry of `made`, by present side, and of `learnt`, by start side, is not 0 where that half of
+// the goal holds; an entry of `set` and of `look`, by setting and present side, is not 0 where the setting
+// may be set, or looked at. Where n is not 1 to 7 or the ranks are under 7^n bytes, they stay as they were.
+pub fn fill_ranks(
     n: u8,
+    made: &[u8; SIDES],
+    learnt: &[u8; SIDES],
     set: &[[u8; SIDES]; SETTINGS_MOST],
     look: &[[u8; SIDES]; SETTINGS_MOST],
     ranks: &mut [u8],
 )
-    requires { ⌜ Ready n (now ranks) ⌝ }
-    ensures { λ _. ⌜ Spread n (now (set .entry)) (now (look .entry)) (now (ranks .entry)) (now (ranks .exit)) ⌝ }
+    ensures { λ _. ⌜ FillsRanks n (now (made .entry)) (now (learnt .entry)) (now (set .entry)) (now (look .entry)) (now (ranks .entry)) (now (ranks .exit)) ⌝ }
 {
-    let settings = n as usize;
-    let size = numbers(n);
-    let mut h: u8 = 1;
-    while h < NONE {
-        if round(settings, size, h, set, look, ranks) == 0 {
-            return;
-        }
-        h += 1;
+    if n == 0 {
+        return;
     }
+    if SETTINGS_MOST < n as usize {
+        return;
+    }
+    if ranks.len() < numbers(n) {
+        return;
+    }
+    mark(n, made, learnt, ranks);
+    spread(n, set, look, ranks);
 }

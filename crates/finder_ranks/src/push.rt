@@ -1,9 +1,8 @@
-// A push: from a state of rank h - 1 to the states before it, by acts on one setting. The crate knows two
-// tables of what is permitted and the ranks so far, and nothing of books, rules or posts. It refuses
-// nothing: its functions have a `requires`, for this repository alone, and say in which way the lent
-// ranks grew: an entry that held 255 may hold h, and no other changes.
+// A push: from a state of rank h - 1 to the states before it, by acts on one setting. Its functions say in
+// which way the lent ranks grew: an entry that held NONE may hold h, and no other changes.
+use crate::NONE;
+use crate::apart::now_of;
 use finder_sides::SIDES;
-use finder_sides::now_of;
 use ground::SETTINGS_MOST;
 ghost use mathlib.Core.Path.{_≡_};
 ghost use Prim.Native.Nat.{_^_, _≤_, _<_};
@@ -11,12 +10,9 @@ ghost use lib.Dec.{ltb};
 ghost use lib.ListN.{length};
 ghost use Rattle.ground.specs.Digits.{digit};
 ghost use Rattle.finder_sides.specs.Sides.{nowSideNumber};
-ghost use Rattle.finder_sides.specs.Over.{entry};
+ghost use Rattle.finder_sides.specs.Tables.{entry};
 ghost use Rattle.finder_ranks.specs.Push.{Pushing, PushedAlong};
-ghost use Rattle.finder_ranks.specs.Inner.{afterOffer, Spotted, SetsTo, Beside, Tried, PushedSets, PushedLooks};
-
-// The entry of a state from which no plan works.
-pub const NONE: u8 = 255;
+ghost use Rattle.finder_ranks.specs.Push.{afterOffer, Spotted, SetsTo, Beside, Tried, PushedSets, PushedLooks};
 
 // A state but for its digit at one setting: the number and the present side that it has with digit 0
 // there, and what a step of that digit and of that side counts.
@@ -151,7 +147,7 @@ fn spot_of(n: usize, k: usize, side: usize, i: usize, d: u8, seven: usize, three
     }
 }
 
-// Pushes from the state k along setting i, where k has the digit d; for this repository alone.
+// Pushes from the state k along setting i, where k has the digit d. For this crate alone.
 pub fn push(
     n: usize,
     k: usize,

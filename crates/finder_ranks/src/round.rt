@@ -1,14 +1,14 @@
 // One round: every state of rank h - 1 is found and pushed from.
 use super::scan::BLOCK;
 use super::scan::is_bare;
+use crate::apart::take_apart;
 use crate::push::push;
 use finder_sides::SIDES;
-use finder_sides::take_apart;
 use ground::SETTINGS_MOST;
 ghost use mathlib.Core.Path.{_≡_};
 ghost use Prim.Native.Nat.{_+_, _^_, _≤_, _<_};
 ghost use Rattle.finder_ranks.specs.Push.{Pushing};
-ghost use Rattle.finder_ranks.specs.Inner.{Visited, Sweeping, Swept};
+ghost use Rattle.finder_ranks.specs.Round.{Visited, Sweeping, Swept};
 
 // Pushes from the state k along every setting.
 fn visit(
@@ -22,9 +22,9 @@ fn visit(
     requires { ⌜ (n ≤ 7) × (k < 7 ^ n) × Pushing n k h (now ranks) ⌝ }
     ensures { λ _. ⌜ Visited n (now (set .entry)) (now (look .entry)) h k n (now (ranks .entry)) (now (ranks .exit)) ⌝ }
 {
-    let parts = take_apart(n, k);
+    let parts = take_apart(n, k as u32);
     let digits = parts.digits;
-    let side = parts.side;
+    let side = parts.now;
     let mut seven = 1;
     let mut three = 1;
     let mut i = 0;

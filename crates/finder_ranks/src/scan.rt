@@ -4,7 +4,7 @@ ghost use mathlib.Core.Path.{_≡_};
 ghost use mathlib.Core.Bool.{true};
 ghost use Prim.Native.Nat.{_+_, _≤_};
 ghost use lib.ListN.{length};
-ghost use Rattle.finder_ranks.specs.Inner.{Bare};
+ghost use Rattle.finder_ranks.specs.Round.{Bare};
 
 // How many entries a block has.
 pub(crate) const BLOCK: usize = 64;

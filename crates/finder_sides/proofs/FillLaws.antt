@@ -24,8 +24,8 @@ use Rattle.finder_sides.proofs.Shown.{three}
 use Rattle.finder_sides.proofs.CountLaws.{sides-most}
 use Rattle.finder_sides.specs.Fill.{FilledAt, Filled}
 use Rattle.finder_sides.specs.Inner.{SideTells, FilledFrom}
-use Rattle.finder_sides.specs.declared.told.Told.{Told}
-use Rattle.finder_sides.specs.declared.told.Told.the-variants.{Unknown, Valuation}
+use Rattle.finder_sides.specs.declared.told.SideTold.{SideTold}
+use Rattle.finder_sides.specs.declared.told.SideTold.the-variants.{Unknown, Valuation}
 
 -- two judgements that hang on one test
 and-both : (g a b : Bool) → (g && a) && (g && b) ≡ (g && (a && b))
@@ -108,7 +108,7 @@ zeros-at m s = elim (lt-or-ge s m) [
 ]
 
 -- by what the side tells
-module _ (n side : ℕ) (r : Told) (most : n ≤ 7) (small : side < 3 ^ n) (says : SideTells n side r) where
+module _ (n side : ℕ) (r : SideTold) (most : n ≤ 7) (small : side < 3 ^ n) (says : SideTells n side r) where
   module _ (power : ℕ) (is : r ≡ Unknown power) where
     the-setting : (i : ℕ) × (i < n) × (digit 3 side i ≡ unknown) × (power ≡ 3 ^ i)
     the-setting = rw is at says

@@ -9,20 +9,18 @@ use native.Mathlib.Nat.{pow-suc}
 use native.Mathlib.Omega.{arith}
 use lib.Arith.{digits-div, digits-mod}
 use lib.Dec.{eqb, lit<}
-use lib.ListN.{length, getD, set, drop, replicate, length-replicate, getD-replicate, length-set, List·getD-eq-default}
+use lib.ListN.{length, getD, set, replicate, length-replicate, getD-replicate, length-set, List·getD-eq-default}
 use lib.Seq.{getD-set-other}
 use Rattle.ground.specs.Digits.{digit, bit}
 use Rattle.ground.proofs.Bits.{bit-zero, bit-suc}
 use Rattle.ground.proofs.Bools.{lt-or-ge}
-use Rattle.book_block.specs.Rule.{rule, rulePlace}
+use Rattle.book_block.specs.Rule.{rule}
 use Rattle.book_block.specs.declared.rule.Right.{Right}
 use Rattle.knowledge.specs.Fits.{always}
-use Rattle.knowledge.proofs.Fits.{always-take}
 use Rattle.finder_sides.proofs.ListLaws.{each-more}
 use Rattle.finder_sides.proofs.Ones.{one-lt}
 use Rattle.finder_sides.proofs.FillLaws.{zeros, zeros-long, zeros-at}
-use Rattle.finder_sides.specs.Over.{entry}
-use Rattle.finder_sides.specs.Tables.{oneOf, PostTables}
+use Rattle.finder_sides.specs.Tables.{oneOf, entry, PostTables}
 use Rattle.finder_sides.specs.Fill.{Filled}
 use Rattle.finder_sides.specs.Inner.{doubled, PostsAt, EachColumn}
 
@@ -79,13 +77,10 @@ pub record BlankRow (row : List ℕ) : Type 0 where
 blank-row : BlankRow (zeros 2187)
 blank-row = record { long = zeros-long 2187; zero-at = λ s. zeros-at 2187 s }
 
-module _ {n team i : ℕ} {book columns t : List ℕ} {right : Right} (most : n ≤ 7)
+module _ {n team i : ℕ} {book columns t : List ℕ} {right : Right}
     (cols : EachColumn (PostsAt book team i right) (2 ^ n) columns) (filled : Filled n columns t) where
   post-known : (s q : ℕ) → s < 3 ^ n → q < 8 → bit (getD t s 0) q ≡ (bit team q && always true n (digit 3 s) (rule book i q right))
-  unfolding rule
-  post-known s q h l =
-      filled .each s h .tells q (bit team q) true (drop (rulePlace i q right) book) (λ v m. cols v m .posts q l)
-      ∙ ap (λ (z : Bool). bit team q && z) (sym (always-take true n (digit 3 s) (drop (rulePlace i q right) book) most))
+  post-known s q h l = filled .each s h .tells q (bit team q) true (rule book i q right) (λ v m. cols v m .posts q l)
 
   post-byte : (s : ℕ) → getD t s 0 < 256
   post-byte s = elim (lt-or-ge s (3 ^ n)) [

@@ -1,8 +1,8 @@
 -- The side that a knowledge number shows, as a number: its digit at a setting is what the knowledge digit tells there. For any way to read a
 -- knowledge digit as a side, by recursion on the settings; the present and the start are the two that paper 01 has.
 use mathlib.Core.Path.{_≡_, sym, ap, _∙_}
-use Prim.Native.Nat.{ℕ, zero, suc, _+_, _*_, _^_, _<_}
-use native.Mathlib.Nat.{pow-succ'}
+use Prim.Native.Nat.{ℕ, zero, suc, _+_, _*_, _^_, _≤_, _<_}
+use native.Mathlib.Nat.{pow-succ', lt-of-lt-of-le}
 use native.Mathlib.Omega.{arith}
 use lib.Arith.{digits-div, digits-mod}
 use lib.Dec.{lit<}
@@ -13,6 +13,7 @@ use Rattle.knowledge_acts.specs.Seven.{startTold, nowTold}
 use Rattle.knowledge_acts.proofs.Seven.{now-lt, start-lt}
 use Rattle.knowledge.specs.Number.{sumOf}
 use Rattle.knowledge.proofs.Number.{sum-lt, digits-sum}
+use Rattle.finder_sides.proofs.CountLaws.{sides-most}
 use Rattle.finder_sides.specs.Sides.{nowSideNumber, startSideNumber}
 
 pub three : 0 < 3
@@ -58,6 +59,9 @@ module _ (n k : ℕ) where
   unfolding nowSideNumber
   now-number-lt = seen-lt nowTold (λ d l. now-lt d) n k
 
+  pub below-sides : n ≤ 7 → nowSideNumber n k < 2187
+  below-sides l = lt-of-lt-of-le now-number-lt (sides-most n l)
+
   pub now-digit : (i : ℕ) → i < n → digit 3 (nowSideNumber n k) i ≡ nowTold (digit 7 k i)
   unfolding nowSideNumber
   now-digit i h = seen-digit nowTold (λ d l. now-lt d) n k i h
@@ -71,6 +75,9 @@ module _ (n k : ℕ) where
   pub start-number-lt : startSideNumber n k < 3 ^ n
   unfolding startSideNumber
   start-number-lt = seen-lt startTold (λ d l. start-lt d) n k
+
+  pub below-starts : n ≤ 7 → startSideNumber n k < 2187
+  below-starts l = lt-of-lt-of-le start-number-lt (sides-most n l)
 
   pub start-digit : (i : ℕ) → i < n → digit 3 (startSideNumber n k) i ≡ startTold (digit 7 k i)
   unfolding startSideNumber

@@ -3,7 +3,7 @@
 use mathlib.Core.Path.{_≡_, ap, ap₂, _∙_}
 use mathlib.Core.List.{List}
 use mathlib.Core.Bool.{Bool, true, false, not, _&&_, _||_}
-use Prim.Native.Nat.{ℕ, _^_, _<_}
+use Prim.Native.Nat.{ℕ, _<_}
 use lib.Dec.{eqb}
 use lib.ListN.{getD}
 use Rattle.ground.specs.Digits.{digit, bit}
@@ -14,10 +14,9 @@ use Rattle.knowledge.specs.Fits.{always, nowSide, startSide, known, oneValue, l
 use Rattle.knowledge.specs.Goal.{learnCount, learnTable, allSettled}
 use Rattle.knowledge.proofs.Fits.{always-ext}
 use Rattle.finder_sides.specs.Sides.{nowSideNumber, startSideNumber}
-use Rattle.finder_sides.specs.Over.{entry, rankIf, markOf, Marks}
 use Rattle.finder_sides.proofs.Shown.{now-number-lt, start-number-lt, now-digit, start-digit}
 use Rattle.finder_sides.proofs.Ones.{side-some}
-use Rattle.finder_sides.specs.Tables.{PostTables, Made, Learnt}
+use Rattle.finder_sides.specs.Tables.{entry, PostTables, Made, Learnt, goalAt}
 
 -- a judgement at the side that a knowledge number shows
 module _ (n k : ℕ) (t : List ℕ) where
@@ -53,8 +52,8 @@ pub post-known : {n team : ℕ} {book : List ℕ} {right : Right} {t : List (Lis
 post-known {n} {team} {book} {right} table k i q h l =
     table .posts i (nowSideNumber n k) q h (now-number-lt n k) l ∙ ap (λ (x : Bool). bit team q && x) (known-now n k (rule book i q right))
 
--- "The goal is settled": a mark is 0 exactly where both halves of the goal hold
-pub goal-marked : {n : ℕ} (make learn : List ℕ) {made learnt old new : List ℕ} → Made n make made → Learnt n learn learnt → Marks n made learnt old new
-    → (k : ℕ) → k < 7 ^ n → getD new k 0 ≡ rankIf (known n (digit 7 k) make && allSettled n (digit 7 k) learn)
-unfolding markOf
-goal-marked {n} make learn {made} {learnt} m l marks k h = marks .marked k h ∙ ap rankIf (ap₂ _&&_ (made-known n make made m k) (learnt-settled n learn learnt l k))
+-- "The goal is settled"
+pub goal-at : {n : ℕ} (make learn : List ℕ) {made learnt : List ℕ} → Made n make made → Learnt n learn learnt
+    → (k : ℕ) → goalAt n made learnt k ≡ (known n (digit 7 k) make && allSettled n (digit 7 k) learn)
+unfolding goalAt
+goal-at {n} make learn {made} {learnt} m l k = ap₂ _&&_ (made-known n make made m k) (learnt-settled n learn learnt l k)

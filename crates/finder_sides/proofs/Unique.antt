@@ -1,5 +1,4 @@
 -- Two results that a function of this crate may give are equal: every entry is given, and every length.
--- Two tables of marks that `mark` may leave are equal: every entry is given, and the length.
 use mathlib.Core.Path.{_≡_, sym, _∙_}
 use mathlib.Core.Logic.{inl, inr}
 use mathlib.Core.List.{List, []}
@@ -11,8 +10,7 @@ use lib.Seq.{ext-getD}
 use Rattle.ground.proofs.Bits.{same-bits}
 use Rattle.ground.proofs.Bools.{lt-or-ge}
 use Rattle.book_block.specs.declared.rule.Right.{Right}
-use Rattle.finder_sides.specs.Over.{entry, Marks}
-use Rattle.finder_sides.specs.Tables.{PostTables, SideTable}
+use Rattle.finder_sides.specs.Tables.{entry, PostTables, SideTable}
 
 -- `made` and `learnt`
 pub side-table-unique : {n : ℕ} {f : ℕ → Bool} {t u : List ℕ} → SideTable n f t → SideTable n f u → t ≡ u
@@ -39,10 +37,3 @@ module _ {n team : ℕ} {book : List ℕ} {right : Right} {t u : List (List ℕ)
 
   pub posts-unique : t ≡ u
   posts-unique = ext-getD [] t u (a .settings ∙ sym (b .settings)) (λ i l. same-row i (omega (arith, a .settings)))
-
-pub marks-unique : {n : ℕ} {made learnt old new other : List ℕ} → Marks n made learnt old new → Marks n made learnt old other → new ≡ other
-marks-unique {n} {made} {learnt} {old} {new} {other} a b =
-    ext-getD 0 new other (a .long ∙ sym (b .long)) (λ k l. elim (lt-or-ge k (7 ^ n)) [
-      | inl h ↦ a .marked k h ∙ sym (b .marked k h)
-      | inr h ↦ a .kept k h ∙ sym (b .kept k h)
-    ])

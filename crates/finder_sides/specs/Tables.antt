@@ -1,8 +1,9 @@
 -- The tables over all sides that the finder works with: which posts of a team may act there, and the two halves of the goal.
 use mathlib.Core.Path.{_≡_}
 use mathlib.Core.List.{List, []}
-use mathlib.Core.Bool.{Bool, true, false, _&&_}
+use mathlib.Core.Bool.{Bool, true, false, not, _&&_}
 use Prim.Native.Nat.{ℕ, _^_, _≤_, _<_}
+use lib.Dec.{eqb}
 use lib.ListN.{length, getD}
 use Rattle.ground.specs.Digits.{digit, bit}
 use Rattle.ground.specs.Search.{all}
@@ -10,7 +11,11 @@ use Rattle.book_block.specs.Rule.{rule}
 use Rattle.book_block.specs.declared.rule.Right.{Right}
 use Rattle.knowledge.specs.Fits.{always, oneValue}
 use Rattle.knowledge.specs.Goal.{learnCount, learnTable}
-use Rattle.finder_sides.specs.Over.{entry}
+use Rattle.finder_sides.specs.Sides.{nowSideNumber, startSideNumber}
+
+-- the entry of setting i and side s
+unfoldable pub entry : List (List ℕ) → ℕ → ℕ → ℕ
+entry t i s = getD (getD t i []) s 0
 
 -- bit q of the entry of setting i and side s: the post q is of the team, and its rule on the setting is known to hold at the side
 abbrev pub Posts : ℕ → List ℕ → ℕ → Right → List (List ℕ) → Type 0
@@ -43,3 +48,7 @@ Made n make t = SideTable n (λ s. always true n (digit 3 s) make) t
 -- "each learn formula has one same value at all fitting start valuations", at each side
 abbrev pub Learnt : ℕ → List ℕ → List ℕ → Type 0
 Learnt n learn t = SideTable n (λ s. all (learnCount learn) (λ j. oneValue n (digit 3 s) (learnTable learn j))) t
+
+-- "The goal is settled": both halves hold at the state k, by the entries of its present and its start side
+unfoldable pub goalAt : ℕ → List ℕ → List ℕ → ℕ → Bool
+goalAt n made learnt k = not (eqb (getD made (nowSideNumber n k) 0) 0) && not (eqb (getD learnt (startSideNumber n k) 0) 0)

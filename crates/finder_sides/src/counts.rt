@@ -1,21 +1,26 @@
-// How many sides and knowledge numbers there are of up to seven settings; for this repository alone.
+// How many settings count, and how many sides they have.
 ghost use mathlib.Core.Path.{_≡_};
-ghost use Prim.Native.Nat.{_^_, _≤_};
+ghost use Prim.Native.Nat.{_^_, _≤_, min};
+
+// The most settings, as a byte.
+const MOST: u8 = ground::SETTINGS_MOST as u8;
 
 const THREES: [usize; 8] = [1, 3, 9, 27, 81, 243, 729, 2187];
 
-const SEVENS: [usize; 8] = [1, 7, 49, 343, 2401, 16807, 117649, 823543];
+// The settings that count: of more than seven, seven.
+pub fn up_to_seven(n: u8) -> u8
+    ensures { λ r. ⌜ r ≡ min n 7 ⌝ }
+{
+    if MOST < n {
+        return MOST;
+    }
+    n
+}
 
+// The sides of up to seven settings. For this crate alone.
 pub fn sides(n: u8) -> usize
     requires { ⌜ n ≤ 7 ⌝ }
     ensures { λ r. ⌜ r ≡ 3 ^ n ⌝ }
 {
     THREES[n as usize]
-}
-
-pub fn numbers(n: u8) -> usize
-    requires { ⌜ n ≤ 7 ⌝ }
-    ensures { λ r. ⌜ r ≡ 7 ^ n ⌝ }
-{
-    SEVENS[n as usize]
 }

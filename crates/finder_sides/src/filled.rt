@@ -4,7 +4,7 @@
 use super::SIDES;
 use super::VALUATIONS;
 use crate::counts::sides;
-use crate::told::Told;
+use crate::told::SideTold;
 use crate::told::told_by;
 ghost use Prim.Native.Nat.{_+_, _^_, _≤_, _<_};
 ghost use Rattle.finder_sides.specs.Fill.{FilledAt, Filled};
@@ -17,12 +17,12 @@ fn entry_of(n: u8, columns: &[u8; VALUATIONS], table: &[u8; SIDES], side: usize)
     ensures { λ r. ⌜ FilledAt n (now (columns .entry)) side r ⌝ }
 {
     match told_by(n, side) {
-        Told::Unknown(power) => table[side + power] & table[side + 2 * power],
-        Told::Valuation(value) => columns[value],
+        SideTold::Unknown(power) => table[side + power] & table[side + 2 * power],
+        SideTold::Valuation(value) => columns[value],
     }
 }
 
-// The table over all sides, in one pass from the highest side down; for this repository alone.
+// The table over all sides, in one pass from the highest side down. For this crate alone.
 pub fn fill(n: u8, columns: &[u8; VALUATIONS]) -> [u8; SIDES]
     requires { ⌜ n ≤ 7 ⌝ }
     ensures { λ r. ⌜ Filled n (now (columns .entry)) r ⌝ }

@@ -2,7 +2,7 @@
 ghost use Prim.Native.Nat.{_^_, _≤_, _<_};
 ghost use Rattle.finder_sides.specs.Inner.{SideTells};
 
-pub enum Told {
+pub enum SideTold {
     // a setting i is unknown: 3^i, by which the side changes where setting i is false, and twice
     // that where it is true
     Unknown(usize),
@@ -11,7 +11,7 @@ pub enum Told {
 }
 
 // What the side tells of the n settings. For this crate alone: it is one of the 3^n sides.
-pub fn told_by(n: u8, side: usize) -> Told
+pub fn told_by(n: u8, side: usize) -> SideTold
     requires { ⌜ (n ≤ 7) × (side < 3 ^ n) ⌝ }
     ensures { λ r. ⌜ SideTells n side r ⌝ }
 {
@@ -23,7 +23,7 @@ pub fn told_by(n: u8, side: usize) -> Told
     while i < n {
         let digit = rest % 3;
         if digit == 0 {
-            return Told::Unknown(power);
+            return SideTold::Unknown(power);
         }
         value += (digit - 1) * weight;
         rest = rest / 3;
@@ -31,5 +31,5 @@ pub fn told_by(n: u8, side: usize) -> Told
         weight = weight * 2;
         i += 1;
     }
-    Told::Valuation(value)
+    SideTold::Valuation(value)
 }

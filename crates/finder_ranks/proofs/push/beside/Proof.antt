@@ -1,4 +1,4 @@
--- `push::beside` meets its contract: the state with digit 0 is offered the rank where the other outcome is below it.
+-- `finder_ranks::push::beside` meets its contract: the state with digit 0 is offered the rank where the other outcome is below it.
 use native.Mathlib.Omega.{arith}
 use Rattle.finder_ranks.proofs.Spots.{spot-below, spot-states, spot-sides}
 use Rattle.finder_ranks.proofs.AtSpots.{look-at, look-high-at}

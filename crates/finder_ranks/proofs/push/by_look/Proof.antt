@@ -1,4 +1,4 @@
--- `push::by_look` meets its contract: digits 3 and 6 are the outcomes of a look, and no others are.
+-- `finder_ranks::push::by_look` meets its contract: digits 3 and 6 are the outcomes of a look, and no others are.
 use lib.Dec.{lit<}
 use mathlib.Core.Path.{_∙_}
 use Rattle.finder_ranks.proofs.AtSpots.{beside-false, beside-true}

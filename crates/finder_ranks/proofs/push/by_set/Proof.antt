@@ -1,4 +1,4 @@
--- `push::by_set` meets its contract: the digits that lead to d were all tried, one after the other, but d itself, which is k's.
+-- `finder_ranks::push::by_set` meets its contract: the digits that lead to d were all tried, one after the other, but d itself, which is k's.
 use native.Mathlib.Omega.{arith}
 use lib.Dec.{lit<}
 use mathlib.Core.Path.{sym, _∙_}

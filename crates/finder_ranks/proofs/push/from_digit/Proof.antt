@@ -1,4 +1,4 @@
--- `push::from_digit` meets its contract: the state stands at the spot with the digit e, and its side likewise.
+-- `finder_ranks::push::from_digit` meets its contract: the state stands at the spot with the digit e, and its side likewise.
 use native.Mathlib.Omega.{arith}
 use Rattle.finder_ranks.proofs.Spots.{spot-below, spot-states, spot-sides}
 use Rattle.finder_ranks.proofs.AtSpots.{set-at}

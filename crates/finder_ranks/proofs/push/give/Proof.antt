@@ -1,4 +1,4 @@
--- `push::give` meets its contract: the two tests of an offer, one after the other.
+-- `finder_ranks::push::give` meets its contract: the two tests of an offer, one after the other.
 use Rattle.finder_ranks.proofs.Grown.{offer-no, offer-yes, offer-full}
 use borrow.Author.Needs.{needs}
 use Rattle.finder_ranks.proofs.push.give.Statement.{statement}

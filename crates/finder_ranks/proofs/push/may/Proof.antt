@@ -1,6 +1,6 @@
--- `push::may` meets its contract: what is read is the entry.
+-- `finder_ranks::push::may` meets its contract: what is read is the entry.
 use mathlib.Core.Path.{refl}
-use Rattle.finder_sides.specs.Over.{entry}
+use Rattle.finder_sides.specs.Tables.{entry}
 use borrow.Author.Needs.{needs}
 use Rattle.finder_ranks.proofs.push.may.Statement.{statement}
 use Rattle.finder_ranks.proofs.push.may.Tie as tie

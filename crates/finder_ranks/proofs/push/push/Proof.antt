@@ -1,4 +1,4 @@
--- `push::push` meets its contract: sets first, then looks.
+-- `finder_ranks::push::push` meets its contract: sets first, then looks.
 use Rattle.finder_ranks.proofs.Pushes.{pushing-on, along}
 use mathlib.Core.List.{[]}
 use borrow.Author.Needs.{needs}

@@ -1,4 +1,4 @@
--- `push::spot_of` meets its contract: the digit and the side are taken away at the setting's place.
+-- `finder_ranks::push::spot_of` meets its contract: the digit and the side are taken away at the setting's place.
 use native.Mathlib.Omega.{arith}
 use Rattle.finder_sides.proofs.CountLaws.{states-most}
 use Rattle.finder_ranks.proofs.Spots.{rest-of, side-of}

@@ -1,4 +1,4 @@
--- `spread::round::block` meets its contract: a bare block has nothing to visit.
+-- `finder_ranks::round::block` meets its contract: a bare block has nothing to visit.
 use Rattle.finder_ranks.proofs.Sweeps.{swept-bare}
 use borrow.Author.Needs.{needs}
 use Rattle.finder_ranks.proofs.round.block.Statement.{statement}

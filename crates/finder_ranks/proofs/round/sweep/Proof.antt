@@ -1,7 +1,7 @@
--- `spread::round::sweep` meets its contract: the part passed was swept, and one state more makes a longer part.
+-- `finder_ranks::round::sweep` meets its contract: the part passed was swept, and one state more makes a longer part.
 use Prim.Native.Nat.{_-_, _≤_}
 use native.Mathlib.Omega.{arith}
-use Rattle.finder_ranks.specs.Inner.{Swept}
+use Rattle.finder_ranks.specs.Round.{Swept}
 use Rattle.finder_sides.proofs.CountLaws.{states-most}
 use Rattle.finder_ranks.proofs.Sweeps.{swept-bare, swept-on, swept-all, sweeping-on}
 use Rattle.finder_ranks.proofs.round.sweep.Statement.{statement}

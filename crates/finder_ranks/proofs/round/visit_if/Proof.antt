@@ -1,4 +1,4 @@
--- `spread::round::visit_if` meets its contract: a part of one state.
+-- `finder_ranks::round::visit_if` meets its contract: a part of one state.
 use Prim.Native.Nat.{_-_}
 use native.Mathlib.Omega.{arith}
 use Rattle.finder_ranks.proofs.Sweeps.{bare-one, swept-bare, swept-one}

@@ -1,10 +1,10 @@
--- `spread::scan::hits` meets its contract: the count is 0 only as long as no entry of the rank was passed.
+-- `finder_ranks::scan::hits` meets its contract: the count is 0 only as long as no entry of the rank was passed.
 use Prim.Native.Nat.{_+_, _-_, _≤_}
 use mathlib.Core.Path.{_≡_}
 use native.Mathlib.Omega.{arith}
 use lib.Dec.{eqb}
 use lib.ListN.{getD}
-use Rattle.finder_ranks.specs.Inner.{Bare}
+use Rattle.finder_ranks.specs.Round.{Bare}
 use Rattle.finder_ranks.proofs.Sweeps.{hit-most, bare-more}
 use Rattle.finder_ranks.proofs.scan.hits.Statement.{statement}
 use Rattle.finder_ranks.proofs.scan.hits.Tie as tie

@@ -1,4 +1,4 @@
--- `spread::scan::is_bare` meets its contract: no hit in a whole block.
+-- `finder_ranks::scan::is_bare` meets its contract: no hit in a whole block.
 use borrow.Author.Tests.{eqb-true}
 use native.Mathlib.Omega.{arith}
 use Rattle.finder_ranks.proofs.Sweeps.{not-so}

@@ -1,4 +1,4 @@
--- `sides::counts::sides` meets its contract: the table of powers, by a computed test.
+-- `finder_sides::counts::sides` meets its contract: the table of powers, by a computed test.
 use Rattle.ground.specs.Search.{all}
 use Rattle.finder_sides.proofs.CountLaws.{power-of, threes}
 use borrow.Author.Needs.{needs}

@@ -1,4 +1,4 @@
--- `sides::filled::entry_of` meets its contract, by what the side tells.
+-- `finder_sides::filled::entry_of` meets its contract, by what the side tells.
 use Prim.Native.Nat.{ℕ, _+_, _*_, _<_}
 use native.Mathlib.Omega.{arith}
 use lib.Dec.{lit<}

@@ -1,4 +1,4 @@
--- `sides::filled::fill` meets its contract. The loop has filled the entries from the side up.
+-- `finder_sides::filled::fill` meets its contract. The loop has filled the entries from the side up.
 use mathlib.Core.Path.{_≡_, _∙_}
 use Prim.Native.Nat.{ℕ, _≤_, _^_, _-_}
 use native.Mathlib.Omega.{arith}

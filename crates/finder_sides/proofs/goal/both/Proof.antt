@@ -1,4 +1,4 @@
--- `tables::goal::both` meets its contract, by the two tests.
+-- `finder_sides::goal::both` meets its contract, by the two tests.
 use borrow.Author.Tests.{ne-eqb}
 use Rattle.finder_sides.specs.Inner.{bothOf}
 use Rattle.finder_sides.proofs.goal.both.Statement.{statement}

@@ -1,4 +1,4 @@
--- `tables::goal::meet` meets its contract. The loop has stored the entries below the side.
+-- `finder_sides::goal::meet` meets its contract. The loop has stored the entries below the side.
 use borrow.Author.Needs.{needs}
 use mathlib.Core.Path.{_≡_, refl, _∙_}
 use Prim.Native.Nat.{ℕ, _≤_, _<_, _-_}

@@ -1,9 +1,9 @@
--- `sides::told::told_by` meets its contract. The loop has read the lowest i settings, all of them told.
+-- `finder_sides::told::told_by` meets its contract. The loop has read the lowest i settings, all of them told.
 use mathlib.Core.Path.{sym, _∙_}
 use Prim.Native.Nat.{_≤_, _-_}
 use native.Mathlib.Omega.{arith}
 use Rattle.finder_sides.proofs.ToldLaws.{ToldTo, nothing-told, the-digit, one-more-told, value-most, weight-most, told-all}
-use Rattle.finder_sides.proofs.MarkLaws.{power-most}
+use Rattle.finder_sides.proofs.CountLaws.{power-most}
 use Rattle.finder_sides.proofs.told.told_by.Statement.{statement}
 use Rattle.finder_sides.proofs.told.told_by.Tie as tie
 
