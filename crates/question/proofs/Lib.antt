@@ -1,6 +1,9 @@
--- The laws of questions, and that what `ask` gives is settled.
+-- The laws of questions, in this order: what the book's rules permit, the system and the start, the tests on a question, its rows; that what `ask`
+-- gives is settled, and how far the places of its refusals go.
+pub mod PermitLaws
+pub mod SystemLaws
 pub mod QuestionLaws
 pub mod RowLaws
 pub mod AskLaws
 pub mod Unique
-pub mod Small
+pub mod Places

@@ -14,22 +14,22 @@ use Rattle.book_block.specs.declared.rule.Right.the-variants.{Look as look-rule
 use Rattle.knowledge_acts.specs.Acts.{settingOf, postOf, offered}
 use Rattle.knowledge_acts.specs.declared.act.Act.{Act}
 use Rattle.knowledge_acts.specs.declared.act.Act.the-variants.{Set, Look}
 use Rattle.knowledge.specs.Fits.{known}
-use Rattle.knowledge.specs.Allowed.{permitted, allowed}
+use Rattle.question.specs.Permitted.{permitted, allowed}
 use Rattle.knowledge.proofs.Fits.{guarded}
 use Rattle.knowledge.proofs.Known.{known-take}
 
 -- an act's permission is the judgement of its rule where that stands in the book
 module _ (n : ℕ) (book : List ℕ) (d : ℕ → ℕ) (i q : ℕ) where
-  pub set-permitted : (b : Bool) → leb n 7 && known n d (drop (rulePlace i q set-rule) book) ≡ leb n 7 && permitted n book d (Set i q b)
+  pub set-permitted : (b : Bool) → leb n 7 && known n d (drop (rulePlace book i q set-rule) book) ≡ leb n 7 && permitted n book d (Set i q b)
   unfolding permitted rule
-  set-permitted b = guarded n _ _ (λ h. sym (known-take n d (drop (rulePlace i q set-rule) book) h))
+  set-permitted b = guarded n _ _ (λ h. sym (known-take n d (drop (rulePlace book i q set-rule) book) h))
 
-  pub look-permitted : d i ≡ 0 → leb n 7 && known n d (drop (rulePlace i q look-rule) book) ≡ leb n 7 && permitted n book d (Look i q)
+  pub look-permitted : d i ≡ 0 → leb n 7 && known n d (drop (rulePlace book i q look-rule) book) ≡ leb n 7 && permitted n book d (Look i q)
   unfolding permitted rule
   look-permitted e =
       guarded n _ _
-      (λ h. sym (rw (eq-eqb (d i) 0 e) (and-true _ ∙ known-take n d (drop (rulePlace i q look-rule) book) h)))
+      (λ h. sym (rw (eq-eqb (d i) 0 e) (and-true _ ∙ known-take n d (drop (rulePlace book i q look-rule) book) h)))
 
   pub look-refused : (d i ≡ 0 → ⊥) → false ≡ leb n 7 && permitted n book d (Look i q)
   unfolding permitted

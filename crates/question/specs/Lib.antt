@@ -1,4 +1,6 @@
--- What a reader must believe of a question: its system of acts and its goal, the refusals and their order, and what `ask` gives.
+-- What a reader must believe of a question, in this order: the acts that a book's rules permit, the system of plans that the question fixes, its
+-- refusals in their order, and what `ask` gives.
+pub mod Permitted
 pub mod Question
 pub mod Rows
 pub mod Asks

@@ -1,4 +1,5 @@
--- "Acts, by a post of the team": which of them the team may do, by what it knows. d i is the digit of setting i (Fits).
+-- "Acts, by a post of the team": which of them the team may do, by what it knows and the rules of a book. d i is the digit of setting i
+-- (knowledge/specs/Fits).
 use mathlib.Core.Bool.{Bool, _&&_}
 use mathlib.Core.List.{List}
 use Prim.Native.Nat.{ℕ}

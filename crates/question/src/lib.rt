@@ -1,11 +1,17 @@
 // A question to the finder or to the plan check: who asks, what they know, the goal, and which of refusals
-// 6 to 12 it meets. It writes nothing.
+// 6 to 12 it meets. Here a book meets plans: its specs say which acts the book's rules permit and which
+// system of plans the question fixes. It writes nothing.
 use book_sound::ReadAnswer;
-ghost use mathlib.Core.Path.{_≡_};
+use ground::TABLE;
+use refusal::Refusal;
 ghost use Prim.Native.Nat.{_≤_};
 ghost use Rattle.ground.specs.Tells.{Tells};
-ghost use Rattle.question.specs.Rows.{number, place, TeamFits, KnownFits, LearnWithin, GoalFits};
+ghost use Rattle.knowledge.specs.Goal.{goalOf};
+ghost use Rattle.question.specs.Rows.{TeamFits, KnownFits, LearnWithin, GoalFits};
 ghost use Rattle.question.specs.Asks.{Asks};
+
+// The most learn formulas: "Learn formulas in a goal: 0 to 4".
+const LEARN_MOST: usize = 4;
 
 // Who asks and what they know: bit q of `team` for the post with index q, bit i of `known` for
 // setting i, and bit i of `values` where it is known to be true.
@@ -13,51 +19,6 @@ pub struct Question {
     pub team: u8,
     pub known: u8,
     pub values: u8,
-}
-
-pub enum Refusal {
-    // The book is no book: 6 to 9.
-    Book(book_sound::Refusal),
-    // The team is empty or has a post that the book has not.
-    Team,
-    // A setting past the book's is known, or one that is not known has a value.
-    Known,
-    // The make table or the learn tables have a wrong length, or a bit past 2^n.
-    Goal,
-    // The lent rank table is shorter than 7^n bytes.
-    Ranks,
-    // The plan is longer than the lent plan room.
-    PlanRoom,
-}
-
-impl Refusal {
-    // Paper 01's number of this refusal.
-    pub fn number(self) -> u64
-        ensures { λ r. ⌜ r ≡ number self ⌝ }
-    {
-        match self {
-            Refusal::Book(why) => why.number(),
-            Refusal::Team => 10,
-            Refusal::Known => 11,
-            Refusal::Goal => 12,
-            Refusal::Ranks => 13,
-            Refusal::PlanRoom => 14,
-        }
-    }
-
-    // Its place: 0 unless the refusal names one.
-    pub fn place(self) -> usize
-        ensures { λ r. ⌜ r ≡ place self ⌝ }
-    {
-        match self {
-            Refusal::Book(why) => why.place(),
-            Refusal::Team => 0,
-            Refusal::Known => 0,
-            Refusal::Goal => 0,
-            Refusal::Ranks => 0,
-            Refusal::PlanRoom => 0,
-        }
-    }
 }
 
 // Whether a question is valid.
@@ -92,16 +53,15 @@ fn known_fits(n: u8, known: u8, values: u8) -> bool
 
 // Whether the make table and the learn tables are whole and have no bit past 2^n.
 fn goal_fits(n: u8, make: &[u8], learn: &[u8]) -> bool
-    requires { ⌜ n ≤ 7 ⌝ }
-    ensures { λ r. ⌜ Tells r (GoalFits n (now (make .entry)) (now (learn .entry))) ⌝ }
+    ensures { λ r. ⌜ Tells r (GoalFits n (goalOf (now (make .entry)) (now (learn .entry)))) ⌝ }
 {
-    if make.len() != 16 {
+    if make.len() != TABLE {
         return false;
     }
-    if learn.len() % 16 != 0 {
+    if learn.len() % TABLE != 0 {
         return false;
     }
-    if 4 < learn.len() / 16 {
+    if LEARN_MOST < learn.len() / TABLE {
         return false;
     }
     if !ground::within(make, 0, n) {
@@ -114,10 +74,10 @@ fn goal_fits(n: u8, make: &[u8], learn: &[u8]) -> bool
 fn learn_within(n: u8, learn: &[u8]) -> bool
     ensures { λ r. ⌜ Tells r (LearnWithin n (now (learn .entry))) ⌝ }
 {
-    let count = learn.len() / 16;
+    let count = learn.len() / TABLE;
     let mut j = 0;
     while j < count {
-        if !ground::within(learn, 16 * j, n) {
+        if !ground::within(learn, TABLE * j, n) {
             return false;
         }
         j += 1;
@@ -127,10 +87,10 @@ fn learn_within(n: u8, learn: &[u8]) -> bool
 
 // The book's numbers of settings and posts, or the first of refusals 6 to 12.
 pub fn ask(book: &[u8], question: Question, make: &[u8], learn: &[u8]) -> Asked
-    ensures { λ r. ⌜ Asks (now (book .entry)) question (now (make .entry)) (now (learn .entry)) r ⌝ }
+    ensures { λ r. ⌜ Asks (now (book .entry)) question (goalOf (now (make .entry)) (now (learn .entry))) r ⌝ }
 {
     match book_sound::sound(book) {
-        ReadAnswer::Refused(why) => Asked::Not(Refusal::Book(why)),
+        ReadAnswer::Refused(why) => Asked::Not(why),
         ReadAnswer::Book { settings, posts } => {
             if !team_fits(posts, question.team) {
                 return Asked::Not(Refusal::Team);

@@ -1,11 +1,62 @@
 -- `ask` meets its contract: the book's refusals, then 10, 11 and 12.
-use Rattle.book_sound.specs.Refusals as B
+use mathlib.Core.List.{List}
+use Prim.Native.Nat.{ℕ}
 use Rattle.ground.proofs.Answers.{told, untold}
+use Rattle.book_sound.specs.Sound.{Sound}
+use Rattle.book_sound.proofs.SoundLaws.{judged-book, judged-refused}
+use Rattle.knowledge.specs.Goal.{Goal, goalOf}
+use Rattle.question.specs.declared.Question.{Question}
 use Rattle.question.specs.Rows.{TeamFits, KnownFits, GoalFits}
-use Rattle.question.proofs.RowLaws.{as-sound, as-refused, book-row, team-row, known-row, goal-row}
+use Rattle.question.proofs.RowLaws.{book-row, team-row, known-row, goal-row}
 use borrow.Author.Needs.{needs}
 use Rattle.question.proofs.ask.Statement.{statement}
 use Rattle.question.proofs.ask.Tie as tie
+
+-- what was handed over, where `sound` has answered
+abbrev the-book : tie.After-sound → List ℕ
+the-book c = c .before .before .before .before .args .book .now
+
+abbrev asked : tie.After-sound → Question
+asked c = c .before .before .before .before .args .question
+
+abbrev wanted : tie.After-sound → Goal
+wanted c = let a = c .before .before .before .before .args in goalOf (a .make .now) (a .learn .now)
+
+-- in the arm of a book: its two numbers, and that it is sound
+abbrev answered : tie.After-known-told2 → tie.After-sound
+answered c = c .before .before .before
+
+abbrev settings : tie.After-known-told2 → ℕ
+settings c = c .before .settings .given .0 .0
+
+abbrev posts : tie.After-known-told2 → ℕ
+posts c = c .before .settings .given .0 .1 .0
+
+sound : (c : tie.After-known-told2) → Sound (the-book (answered c)) (settings c) (posts c)
+sound c =
+    let answer = answered c .sound in
+    judged-book (the-book (answered c)) (answer .result) (settings c) (posts c) (answer .ensures) (c .before .settings .given .1)
+
+-- past the first test: the team fits
+abbrev Team : tie.After-team-fits → Type 0
+Team c = TeamFits (posts (c .before)) (asked (answered (c .before)) .team)
+
+team : (c : tie.Else1) → Team (c .before)
+team c = told (Team (c .before)) (c .before .team-fits .result) (c .before .team-fits .ensures) (c .if1 .left)
+
+-- past the second: what is known fits
+abbrev Known : tie.After-known-fits → Type 0
+Known c =
+    let b = c .before .before .before in
+    let q = asked (answered b) in
+    KnownFits (settings b) (q .known) (q .values)
+
+known : (c : tie.Else2) → Known (c .before)
+known c = told (Known (c .before)) (c .before .known-fits .result) (c .before .known-fits .ensures) (c .if2 .left)
+
+-- what the third test tells: the goal fits
+abbrev Fits : tie.After-goal-fits → Type 0
+Fits c = let b = c .before .before .before .before .before in GoalFits (settings b) (wanted (answered b))
 
 sound-requires : tie.Need-sound-requires
 sound-requires c κs = search needs
@@ -17,28 +68,54 @@ enum-known-settings : tie.Need-enum-known-settings
 enum-known-settings c = search needs
 
 team-fits-requires : tie.Need-team-fits-requires
-team-fits-requires c κs = (as-sound (c .before .before .before .before .before .before .before .args .book .now) (c .before .settings .given .1) (c .before .before .before .sound .ensures)) .posts .most
+team-fits-requires c κs = sound c .posts .most
 
 returns : tie.Need-returns
-returns c = team-row (c .before .before .before .before .before .before .before .before .before .args .book .now) (c .before .before .before .before .before .before .before .before .before .args .question .team) (c .before .before .before .before .before .before .before .before .before .args .question .known) (c .before .before .before .before .before .before .before .before .before .args .question .values) (c .before .before .before .before .before .before .before .before .before .args .make .now) (c .before .before .before .before .before .before .before .before .before .args .learn .now) (as-sound (c .before .before .before .before .before .before .before .before .before .args .book .now) (c .before .before .before .settings .given .1) (c .before .before .before .before .before .sound .ensures)) (untold (TeamFits (c .before .before .before .settings .given .0 .1 .0) (c .before .before .before .before .before .before .before .before .before .args .question .team)) (c .before .team-fits .result) (c .before .team-fits .ensures) (c .if1 .taken))
+returns c =
+    let b = c .before .before in
+    let s = answered b in
+    team-row (the-book s) (asked s) (wanted s) (sound b)
+    (untold (Team (c .before)) (c .before .team-fits .result) (c .before .team-fits .ensures) (c .if1 .taken))
 
 known-fits-requires : tie.Need-known-fits-requires
-known-fits-requires c κs = (as-sound (c .before .before .before .before .before .before .before .before .before .args .book .now) (c .before .before .before .settings .given .1) (c .before .before .before .before .before .sound .ensures)) .settings .most
+known-fits-requires c κs = sound (c .before .before) .settings .most
 
 returns-2 : tie.Need-returns-2
-returns-2 c = known-row (c .before .before .before .before .before .before .before .before .before .before .before .args .book .now) (c .before .before .before .before .before .before .before .before .before .before .before .args .question .team) (c .before .before .before .before .before .before .before .before .before .before .before .args .question .known) (c .before .before .before .before .before .before .before .before .before .before .before .args .question .values) (c .before .before .before .before .before .before .before .before .before .before .before .args .make .now) (c .before .before .before .before .before .before .before .before .before .before .before .args .learn .now) (as-sound (c .before .before .before .before .before .before .before .before .before .before .before .args .book .now) (c .before .before .before .before .before .settings .given .1) (c .before .before .before .before .before .before .before .sound .ensures)) (told (TeamFits (c .before .before .before .before .before .settings .given .0 .1 .0) (c .before .before .before .before .before .before .before .before .before .before .before .args .question .team)) (c .before .before .before .team-fits .result) (c .before .before .before .team-fits .ensures) (c .before .before .if1 .left)) (untold (KnownFits (c .before .before .before .before .before .settings .given .0 .0) (c .before .before .before .before .before .before .before .before .before .before .before .args .question .known) (c .before .before .before .before .before .before .before .before .before .before .before .args .question .values)) (c .before .known-fits .result) (c .before .known-fits .ensures) (c .if2 .taken))
+returns-2 c =
+    let e = c .before .before in
+    let b = e .before .before in
+    let s = answered b in
+    known-row (the-book s) (asked s) (wanted s) (sound b) (team e)
+    (untold (Known (c .before)) (c .before .known-fits .result) (c .before .known-fits .ensures) (c .if2 .taken))
 
 goal-fits-requires : tie.Need-goal-fits-requires
-goal-fits-requires c κs = (as-sound (c .before .before .before .before .before .before .before .before .before .before .before .args .book .now) (c .before .before .before .before .before .settings .given .1) (c .before .before .before .before .before .before .before .sound .ensures)) .settings .most
+goal-fits-requires c κs = search needs
 
 returns-3 : tie.Need-returns-3
-returns-3 c = goal-row (c .before .before .before .before .before .before .before .before .before .before .before .before .before .args .book .now) (c .before .before .before .before .before .before .before .before .before .before .before .before .before .args .question .team) (c .before .before .before .before .before .before .before .before .before .before .before .before .before .args .question .known) (c .before .before .before .before .before .before .before .before .before .before .before .before .before .args .question .values) (c .before .before .before .before .before .before .before .before .before .before .before .before .before .args .make .now) (c .before .before .before .before .before .before .before .before .before .before .before .before .before .args .learn .now) (as-sound (c .before .before .before .before .before .before .before .before .before .before .before .before .before .args .book .now) (c .before .before .before .before .before .before .before .settings .given .1) (c .before .before .before .before .before .before .before .before .before .sound .ensures)) (told (TeamFits (c .before .before .before .before .before .before .before .settings .given .0 .1 .0) (c .before .before .before .before .before .before .before .before .before .before .before .before .before .args .question .team)) (c .before .before .before .before .before .team-fits .result) (c .before .before .before .before .before .team-fits .ensures) (c .before .before .before .before .if1 .left)) (told (KnownFits (c .before .before .before .before .before .before .before .settings .given .0 .0) (c .before .before .before .before .before .before .before .before .before .before .before .before .before .args .question .known) (c .before .before .before .before .before .before .before .before .before .before .before .before .before .args .question .values)) (c .before .before .before .known-fits .result) (c .before .before .before .known-fits .ensures) (c .before .before .if2 .left)) (untold (GoalFits (c .before .before .before .before .before .before .before .settings .given .0 .0) (c .before .before .before .before .before .before .before .before .before .before .before .before .before .args .make .now) (c .before .before .before .before .before .before .before .before .before .before .before .before .before .args .learn .now)) (c .before .goal-fits .result) (c .before .goal-fits .ensures) (c .if3 .taken))
+returns-3 c =
+    let k = c .before .before in
+    let e = k .before .before in
+    let b = e .before .before in
+    let s = answered b in
+    goal-row (the-book s) (asked s) (wanted s) (sound b) (team e) (known k)
+    (untold (Fits (c .before)) (c .before .goal-fits .result) (c .before .goal-fits .ensures) (c .if3 .taken))
 
 returns-4 : tie.Need-returns-4
-returns-4 c = book-row (c .before .before .before .before .before .before .before .args .book .now) (c .before .before .before .before .before .before .before .args .question .team) (c .before .before .before .before .before .before .before .args .question .known) (c .before .before .before .before .before .before .before .args .question .values) (c .before .before .before .before .before .before .before .args .make .now) (c .before .before .before .before .before .before .before .args .learn .now) (B.number (c .before .why .given .0 .0)) (B.place (c .before .why .given .0 .0)) (as-refused (c .before .before .before .before .before .before .before .args .book .now) (c .before .why .given .1) (c .before .before .before .sound .ensures))
+returns-4 c =
+    let s = c .before .before .before in
+    let why = c .before .why .given in
+    book-row (the-book s) (asked s) (wanted s) (judged-refused (the-book s) (s .sound .result) (why .0 .0) (s .sound .ensures) (why .1))
 
 returns-5 : tie.Need-returns-5
-returns-5 c = record { sound = (as-sound (c .before .before .before .before .before .before .before .before .before .before .before .before .before .args .book .now) (c .before .before .before .before .before .before .before .settings .given .1) (c .before .before .before .before .before .before .before .before .before .sound .ensures)); team = (told (TeamFits (c .before .before .before .before .before .before .before .settings .given .0 .1 .0) (c .before .before .before .before .before .before .before .before .before .before .before .before .before .args .question .team)) (c .before .before .before .before .before .team-fits .result) (c .before .before .before .before .before .team-fits .ensures) (c .before .before .before .before .if1 .left)); known = (told (KnownFits (c .before .before .before .before .before .before .before .settings .given .0 .0) (c .before .before .before .before .before .before .before .before .before .before .before .before .before .args .question .known) (c .before .before .before .before .before .before .before .before .before .before .before .before .before .args .question .values)) (c .before .before .before .known-fits .result) (c .before .before .before .known-fits .ensures) (c .before .before .if2 .left)); goal = (told (GoalFits (c .before .before .before .before .before .before .before .settings .given .0 .0) (c .before .before .before .before .before .before .before .before .before .before .before .before .before .args .make .now) (c .before .before .before .before .before .before .before .before .before .before .before .before .before .args .learn .now)) (c .before .goal-fits .result) (c .before .goal-fits .ensures) (c .if3 .left)) }
+returns-5 c =
+    let k = c .before .before in
+    let e = k .before .before in
+    record {
+      sound = sound (e .before .before);
+      team = team e;
+      known = known k;
+      goal = told (Fits (c .before)) (c .before .goal-fits .result) (c .before .goal-fits .ensures) (c .if3 .left);
+    }
 
 pub ask-spec : {M : Type 1} → statement M
 ask-spec =
