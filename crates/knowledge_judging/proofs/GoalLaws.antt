@@ -2,7 +2,7 @@
 use mathlib.Core.Path.{_≡_, sym, ap, ap₂, _∙_}
 use mathlib.Core.Bool.{Bool, true, false, _&&_, _||_}
 use mathlib.Core.List.{List}
-use Prim.Native.Nat.{ℕ, _*_, _/_, _^_, _≤_, _<_}
+use Prim.Native.Nat.{ℕ, _*_, _/_, _≤_, _<_}
 use native.Mathlib.Omega.{arith}
 use lib.Dec.{T, leb, not-T}
 use lib.ListN.{length, drop}
@@ -10,12 +10,13 @@ use borrow.Author.Tests.{le-leb}
 use Rattle.ground.specs.Digits.{digit}
 use Rattle.ground.specs.Search.{all}
 use Rattle.ground.proofs.Bools.{T→true, T→false, false→T, both}
-use Rattle.ground.proofs.Search.{all-at, all-intro}
+use Rattle.ground.proofs.Search.{all-at, all-intro, all-ext}
+use Rattle.knowledge_acts.specs.Seven.{startTold, nowTold}
 use Rattle.knowledge.specs.Number.{digitIn, digitsOf}
-use Rattle.knowledge.specs.Fits.{startSide, known, learnSettled}
-use Rattle.knowledge.proofs.Fits.{always-take}
-use Rattle.knowledge.proofs.Number.{digits-are}
-use Rattle.knowledge.specs.Goal.{learnTable, allSettled, goalSettled}
+use Rattle.knowledge.specs.Fits.{always, nowSide, startSide, known, learnSettled}
+use Rattle.knowledge.proofs.Fits.{always-take, always-ext}
+use Rattle.knowledge.proofs.Number.{digit-in}
+use Rattle.knowledge.specs.Goal.{goalOf, learnTable, allSettled, goalSettled}
 
 -- a judgement that is guarded by at most seven settings
 pub unguarded : (n : ℕ) (b : Bool) → n ≤ 7 → leb n 7 && b ≡ b
@@ -46,21 +47,35 @@ module _ (n : ℕ) (d : ℕ → ℕ) (learn : List ℕ) (few : n ≤ 7) where
       sym (T→false (all (length learn / 16) at-table)
       (not-T (all (length learn / 16) at-table) (λ t. both (at-table j) (all-at (length learn / 16) at-table t j l) (false→T e))))
 
-module _ (n : ℕ) (make learn : List ℕ) (k : ℕ) (few : n ≤ 7) (small : k < 7 ^ 7) where
-  -- the judgements on the state of k, as `is_settled` has them
-  pub goal-not : {ds : List ℕ} {r : Bool} → ds ≡ digitsOf k → r ≡ leb n 7 && known n (digitIn ds) make → r ≡ false → false ≡ goalSettled n make learn k
-  unfolding goalSettled
-  goal-not e f g =
-      let made : known n (digit 7 k) make ≡ false =
-      ap (λ (d : ℕ → ℕ). known n d make) (sym (digits-are k small)) ∙ ap (λ (l : List ℕ). known n (digitIn l) make) (sym e)
-      ∙ sym (unguarded n _ few) ∙ sym f ∙ g in
-      rw made
+-- the digits of a state of k are those of k, as far as up to seven settings look
+module _ (n k : ℕ) (few : n ≤ 7) {ds : List ℕ} (e : ds ≡ digitsOf k) where
+  same-digit : (i : ℕ) → i < n → digitIn ds i ≡ digit 7 k i
+  same-digit i l = ap (λ (xs : List ℕ). digitIn xs i) e ∙ digit-in k i (omega arith)
 
-  pub goal-learnt : {ds : List ℕ} {r s : Bool} → ds ≡ digitsOf k → r ≡ leb n 7 && known n (digitIn ds) make → r ≡ true
-      → s ≡ allSettled n (digitIn ds) learn → s ≡ goalSettled n make learn k
-  unfolding goalSettled
-  goal-learnt e f g h =
-      let made : known n (digit 7 k) make ≡ true =
-      ap (λ (d : ℕ → ℕ). known n d make) (sym (digits-are k small)) ∙ ap (λ (l : List ℕ). known n (digitIn l) make) (sym e)
-      ∙ sym (unguarded n _ few) ∙ sym f ∙ g in
-      rw made (h ∙ ap (λ (l : List ℕ). allSettled n (digitIn l) learn) e ∙ ap (λ (d : ℕ → ℕ). allSettled n d learn) (digits-are k small))
+  known-number : (t : List ℕ) → known n (digitIn ds) t ≡ known n (digit 7 k) t
+  unfolding known
+  known-number t = always-ext true n (nowSide (digitIn ds)) (nowSide (digit 7 k)) t (λ i l. ap nowTold (same-digit i l))
+
+  learn-number : (t : List ℕ) → learnSettled n (digitIn ds) t ≡ learnSettled n (digit 7 k) t
+  unfolding learnSettled
+  learn-number t = ap₂ _||_ (one true) (one false)
+    where
+      one : (b : Bool) → always b n (startSide (digitIn ds)) t ≡ always b n (startSide (digit 7 k)) t
+      one b = always-ext b n (startSide (digitIn ds)) (startSide (digit 7 k)) t (λ i l. ap startTold (same-digit i l))
+
+  settled-number : (learn : List ℕ) → allSettled n (digitIn ds) learn ≡ allSettled n (digit 7 k) learn
+  unfolding allSettled
+  settled-number learn = all-ext (length learn / 16) _ _ (λ j h. learn-number (learnTable learn j))
+
+  -- the judgements on the state of k, as `is_settled` has them
+  module _ (make learn : List ℕ) {r : Bool} (f : r ≡ leb n 7 && known n (digitIn ds) make) where
+    made : (b : Bool) → r ≡ b → known n (digit 7 k) make ≡ b
+    made b g = sym (known-number make) ∙ sym (unguarded n _ few) ∙ sym f ∙ g
+
+    pub goal-not : r ≡ false → false ≡ leb n 7 && goalSettled n (goalOf make learn) k
+    unfolding goalSettled
+    goal-not g = rw (le-leb n 7 few, made false g)
+
+    pub goal-learnt : {s : Bool} → r ≡ true → s ≡ allSettled n (digitIn ds) learn → s ≡ leb n 7 && goalSettled n (goalOf make learn) k
+    unfolding goalSettled
+    goal-learnt g h = rw (le-leb n 7 few, made true g) (h ∙ settled-number learn)

@@ -2,31 +2,19 @@
 -- theorem speaks of the function's own contract, as the check reads it: `Post` at the lifetimes, the arguments, the result and the
 -- arguments at exit. No function here writes to what it is lent, so the result is all there is to determine.
 use mathlib.Core.Path.{_≡_, sym, _∙_}
-use Rattle.knowledge_judging.proofs.valuation.fits_present.Reads as fits-present
-use Rattle.knowledge_judging.proofs.valuation.fits_start.Reads as fits-start
+use Rattle.knowledge_judging.proofs.valuation.fits.Reads as fits
 use Rattle.knowledge_judging.proofs.judge.known_to_hold.Reads as known-to-hold
 use Rattle.knowledge_judging.proofs.judge.learn_settled.Reads as learn-settled
 use Rattle.knowledge_judging.proofs.goal.is_settled.Reads as is-settled
-use Rattle.knowledge_judging.proofs.permit.permits.Reads as permits
-use Rattle.knowledge_judging.proofs.permit.allows.Reads as allows
 
-pub fits-present-unique : (κs : _) (a : _) (x y : _) (s : _) → fits-present.Post κs a x s → fits-present.Post κs a y s → x ≡ y
-fits-present-unique κs a x y s p q = p ∙ sym q
-
-pub fits-start-unique : (κs : _) (a : _) (x y : _) (s : _) → fits-start.Post κs a x s → fits-start.Post κs a y s → x ≡ y
-fits-start-unique κs a x y s p q = p ∙ sym q
+pub fits-unique : (κs : _) (a : _) (x y : _) (s : _) → fits.Post κs a x s → fits.Post κs a y s → x ≡ y
+fits-unique κs a x y s p q = p ∙ sym q
 
 pub known-to-hold-unique : (κs : _) (a : _) (x y : _) (s : _) → known-to-hold.Post κs a x s → known-to-hold.Post κs a y s → x ≡ y
 known-to-hold-unique κs a x y s p q = p ∙ sym q
 
 pub learn-settled-unique : (κs : _) (a : _) (x y : _) (s : _) → learn-settled.Post κs a x s → learn-settled.Post κs a y s → x ≡ y
 learn-settled-unique κs a x y s p q = p ∙ sym q
-
-pub permits-unique : (κs : _) (a : _) (x y : _) (s : _) → permits.Post κs a x s → permits.Post κs a y s → x ≡ y
-permits-unique κs a x y s p q = p ∙ sym q
-
-pub allows-unique : (κs : _) (a : _) (x y : _) (s : _) → allows.Post κs a x s → allows.Post κs a y s → x ≡ y
-allows-unique κs a x y s p q = p ∙ sym q
 
 pub is-settled-unique : (κs : _) (a : _) (x y : _) (s : _) → is-settled.Post κs a x s → is-settled.Post κs a y s → x ≡ y
 is-settled-unique κs a x y s p q = p ∙ sym q

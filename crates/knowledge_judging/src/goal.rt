@@ -4,9 +4,11 @@ use crate::judge::learn_settled;
 use ground::TABLE;
 use knowledge::Knowledge;
 ghost use mathlib.Core.Path.{_≡_};
-ghost use Prim.Native.Nat.{_^_, _≤_, _<_};
+ghost use mathlib.Core.Bool.{_&&_};
+ghost use Prim.Native.Nat.{_≤_};
+ghost use lib.Dec.{leb};
 ghost use Rattle.knowledge.specs.Number.{digitIn};
-ghost use Rattle.knowledge.specs.Goal.{allSettled, goalSettled};
+ghost use Rattle.knowledge.specs.Goal.{goalOf, allSettled, goalSettled};
 
 // Whether each learn formula has one same value at all start valuations that fit.
 fn learnt(n: u8, learn: &[u8], state: Knowledge) -> bool
@@ -24,12 +26,14 @@ fn learnt(n: u8, learn: &[u8], state: Knowledge) -> bool
     true
 }
 
-// Whether the make formula is true at all present valuations that fit, and all is learnt. For this
-// repository alone: at most seven settings, and k has at most seven digits.
+// Whether the make formula is true at all present valuations that fit, and all is learnt, at the knowledge
+// number k. Of more than seven settings nothing is settled.
 pub fn is_settled(n: u8, make: &[u8], learn: &[u8], k: u32) -> bool
-    requires { ⌜ (n ≤ 7) × (k < 7 ^ 7) ⌝ }
-    ensures { λ r. ⌜ r ≡ goalSettled n (now (make .entry)) (now (learn .entry)) k ⌝ }
+    ensures { λ r. ⌜ r ≡ leb n 7 && goalSettled n (goalOf (now (make .entry)) (now (learn .entry))) k ⌝ }
 {
+    if Knowledge::MOST < n as usize {
+        return false;
+    }
     let state = Knowledge::from_number(k);
     if !known_to_hold(state, n, make, 0) {
         return false;

@@ -1,16 +1,14 @@
 // What follows from what a team knows, worked out one valuation after the other: which valuations fit,
-// whether a rule is known to hold or a learn formula or a whole goal is settled, and which acts that
-// permits. The plan check judges by it. A rule over more settings than seven is not known to hold.
-// Nothing is written to what a caller lends.
+// whether a rule is known to hold, and whether a learn formula or a whole goal is settled. The plan check
+// judges by it. It knows no book: a rule is a table. Of more settings than seven nothing is known and nothing
+// is settled. It refuses nothing and writes nothing.
 mod goal;
 mod judge;
-mod permit;
 mod valuation;
 
 pub use goal::is_settled;
 pub use judge::known_to_hold;
 pub use judge::learn_settled;
-pub use permit::allows;
-pub use permit::permits;
-pub use valuation::fits_present;
-pub use valuation::fits_start;
+pub use valuation::Side;
+pub use valuation::Valuation;
+pub use valuation::fits;

@@ -1,9 +1,12 @@
--- `is_settled` meets its contract: the make formula, then the learn formulas.
-use borrow.Author.Tests.{not-true, not-false}
+-- `knowledge_judging::goal::is_settled` meets its contract: the make formula, then the learn formulas.
+use borrow.Author.Tests.{not-true, not-false, lt-leb}
 use Rattle.knowledge_judging.proofs.GoalLaws.{goal-not, goal-learnt}
 use borrow.Author.Needs.{needs}
 use Rattle.knowledge_judging.proofs.goal.is_settled.Statement.{statement}
 use Rattle.knowledge_judging.proofs.goal.is_settled.Tie as tie
+
+returns : tie.Need-returns
+returns c = rw (lt-leb _ _ (c .if1 .taken))
 
 from-number-requires : tie.Need-from-number-requires
 from-number-requires c κs = search needs
@@ -11,16 +14,24 @@ from-number-requires c κs = search needs
 known-to-hold-requires : tie.Need-known-to-hold-requires
 known-to-hold-requires c κs = search needs
 
-returns : tie.Need-returns
-returns c = goal-not (c .before .before .before .before .before .args .n) (c .before .before .before .before .before .args .make .now) (c .before .before .before .before .before .args .learn .now) (c .before .before .before .before .before .args .k) (c .before .before .before .before .before .pre .0) (c .before .before .before .before .before .pre .1) (c .before .before .from-number .ensures) (c .before .known-to-hold .ensures) (not-true _ (c .if1 .taken))
+returns-2 : tie.Need-returns-2
+returns-2 c =
+    let e = c .before .before .before in
+    let a = e .before .before .before .args in
+    goal-not (a .n) (a .k) (e .if1 .left) (c .before .before .from-number .ensures) (a .make .now) (a .learn .now) (c .before .known-to-hold .ensures)
+    (not-true _ (c .if2 .taken))
 
 learnt-requires : tie.Need-learnt-requires
 learnt-requires c κs = search needs
 
-returns-2 : tie.Need-returns-2
-returns-2 c = goal-learnt (c .before .before .before .before .before .before .args .n) (c .before .before .before .before .before .before .args .make .now) (c .before .before .before .before .before .before .args .learn .now) (c .before .before .before .before .before .before .args .k) (c .before .before .before .before .before .before .pre .0) (c .before .before .before .before .before .before .pre .1) (c .before .before .before .from-number .ensures) (c .before .before .known-to-hold .ensures) (not-false _ (c .before .if1 .left)) (c .learnt .ensures)
+returns-3 : tie.Need-returns-3
+returns-3 c =
+    let e = c .before .before .before .before in
+    let a = e .before .before .before .args in
+    goal-learnt (a .n) (a .k) (e .if1 .left) (c .before .before .before .from-number .ensures) (a .make .now) (a .learn .now)
+    (c .before .before .known-to-hold .ensures) (not-false _ (c .before .if2 .left)) (c .learnt .ensures)
 
 pub is-settled-spec : {M : Type 1} → statement M
 is-settled-spec =
     tie.close
-    (tie.spec from-number-requires known-to-hold-requires returns learnt-requires returns-2)
+    (tie.spec returns from-number-requires known-to-hold-requires returns-2 learnt-requires returns-3)

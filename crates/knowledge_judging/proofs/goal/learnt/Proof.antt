@@ -1,6 +1,6 @@
--- `learnt` meets its contract: the loop has found the first j learn formulas settled.
+-- `knowledge_judging::goal::learnt` meets its contract: the loop has found the first j learn formulas settled.
 use borrow.Author.Needs.{needs}
-use mathlib.Core.Path.{sym, _∙_}
+use mathlib.Core.Path.{_≡_, sym, _∙_}
 use Prim.Native.Nat.{_-_, _/_, _≤_}
 use native.Mathlib.Omega.{arith}
 use lib.ListN.{length}
@@ -8,6 +8,8 @@ use borrow.Author.Count.{below-more}
 use borrow.Author.Tests.{not-true, not-false}
 use Rattle.ground.proofs.Bools.{true→T}
 use Rattle.knowledge.specs.Number.{digitIn}
+use Rattle.knowledge.specs.Fits.{learnSettled}
+use Rattle.knowledge.specs.Goal.{learnTable}
 use Rattle.knowledge_judging.proofs.GoalLaws.{learn-at, Learnt, learnt-all, learnt-not}
 use Rattle.knowledge_judging.proofs.goal.learnt.Statement.{statement}
 use Rattle.knowledge_judging.proofs.goal.learnt.Tie as tie
@@ -27,8 +29,21 @@ mul-learn-settled c = omega arith
 learn-settled-requires : tie.Need-learn-settled-requires Inv-loop μ-loop
 learn-settled-requires c κs = search needs
 
+-- what the test of the table with index j tells
+tested : (c : tie.After-learn-settled Inv-loop μ-loop) →
+    let a = c .before .before .before .before .args in
+    c .learn-settled .result ≡ learnSettled (a .n) (digitIn (a .state .digits)) (learnTable (a .learn .now) (c .before .before .loop .j))
+tested c =
+    let a = c .before .before .before .before .args in
+    let r = c .before .before .loop in
+    c .learn-settled .ensures ∙ learn-at (a .n) (digitIn (a .state .digits)) (a .learn .now) (r .inv .0) (r .j)
+
 returns : tie.Need-returns Inv-loop μ-loop
-returns c = learnt-not (c .before .before .before .before .before .args .n) (digitIn (c .before .before .before .before .before .args .state .digits)) (c .before .before .before .before .before .args .learn .now) (c .before .before .before .loop .inv .0) (c .before .before .before .loop .j) (c .before .before .loop-test .taken) (sym (learn-at (c .before .before .before .before .before .args .n) (digitIn (c .before .before .before .before .before .args .state .digits)) (c .before .before .before .before .before .args .learn .now) (c .before .before .before .loop .inv .0) (c .before .before .before .loop .j)) ∙ sym (c .before .learn-settled .ensures) ∙ not-true _ (c .if1 .taken))
+returns c =
+    let a = c .before .before .before .before .before .args in
+    let r = c .before .before .before .loop in
+    learnt-not (a .n) (digitIn (a .state .digits)) (a .learn .now) (r .inv .0) (r .j) (c .before .before .loop-test .taken)
+    (sym (tested (c .before)) ∙ not-true _ (c .if1 .taken))
 
 add-j : tie.Need-add-j Inv-loop μ-loop
 add-j c = omega arith
@@ -37,10 +52,15 @@ loop-less : tie.Need-loop-less Inv-loop μ-loop
 loop-less c = omega arith
 
 loop-again : tie.Need-loop-again Inv-loop μ-loop
-loop-again c = (c .before .before .before .loop .inv .0, omega arith, below-more _ _ (c .before .before .before .loop .inv .2) (true→T (sym (learn-at (c .before .before .before .before .before .args .n) (digitIn (c .before .before .before .before .before .args .state .digits)) (c .before .before .before .before .before .args .learn .now) (c .before .before .before .loop .inv .0) (c .before .before .before .loop .j)) ∙ sym (c .before .learn-settled .ensures) ∙ not-false _ (c .if1 .left))))
+loop-again c =
+    let inv = c .before .before .before .loop .inv in
+    (inv .0, omega arith, below-more _ _ (inv .2) (true→T (sym (tested (c .before)) ∙ not-false _ (c .if1 .left))))
 
 returns-2 : tie.Need-returns-2 Inv-loop μ-loop
-returns-2 c = learnt-all (c .before .before .before .args .n) (digitIn (c .before .before .before .args .state .digits)) (c .before .before .before .args .learn .now) (c .before .loop .inv .0) (c .before .loop .j) (c .before .loop .inv .2) (c .loop-test .left)
+returns-2 c =
+    let a = c .before .before .before .args in
+    let r = c .before .loop in
+    learnt-all (a .n) (digitIn (a .state .digits)) (a .learn .now) (r .inv .0) (r .j) (r .inv .2) (c .loop-test .left)
 
 pub learnt-spec : {M : Type 1} → statement M
 learnt-spec =

@@ -1,4 +1,4 @@
--- `judging::valuation::agrees_with` meets its contract: by the tests of the side and the value.
+-- `knowledge_judging::valuation::agrees_with` meets its contract: by the tests of the side and the value.
 use borrow.Author.Tests.{ne-eqb}
 use Rattle.knowledge.specs.Fits.{agrees}
 use Rattle.knowledge_judging.proofs.valuation.agrees_with.Statement.{statement}

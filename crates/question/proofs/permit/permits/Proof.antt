@@ -1,10 +1,10 @@
--- `judging::permit::permits` meets its contract: by the kind of act; a rule's table is the part of the book that begins there.
+-- `question::permit::permits` meets its contract: by the kind of act; a rule's table is the part of the book that begins there.
 use borrow.Author.Needs.{needs}
 use mathlib.Core.Path.{sym, _∙_}
 use Rattle.knowledge.specs.Number.{digitIn}
-use Rattle.knowledge.proofs.Allowed.{set-permitted, look-permitted, look-refused}
-use Rattle.knowledge_judging.proofs.permit.permits.Statement.{statement}
-use Rattle.knowledge_judging.proofs.permit.permits.Tie as tie
+use Rattle.question.proofs.PermitLaws.{set-permitted, look-permitted, look-refused}
+use Rattle.question.proofs.permit.permits.Statement.{statement}
+use Rattle.question.proofs.permit.permits.Tie as tie
 
 enum-known-act : tie.Need-enum-known-act
 enum-known-act c = search needs

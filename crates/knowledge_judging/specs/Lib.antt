@@ -1,0 +1,2 @@
+-- What a reader must believe beside the meaning of knowledge (crate knowledge): which side of a digit a valuation is held to.
+pub mod Sides
