@@ -16,7 +16,8 @@ use Rattle.book_sound.proofs.RightsLaws.{length-tables}
 use Rattle.book.proofs.RoundTrip.{written-setting, written-sound}
 
 -- a written book has the rules that the rights have
-pub rule-written : {n m : ℕ} {rights : List ℕ} → Writable n m rights → (i q : ℕ) (right : Right) → i < n → q < 8 → rule (bookOf n m rights) i q right ≡ table (tablesOf rights i) q right
+pub rule-written : {n m : ℕ} {rights : List ℕ} → Writable n m rights → (i q : ℕ) (right : Right) → i < n → q < 8
+    → rule (bookOf n m rights) i q right ≡ table (tablesOf rights i) q right
 unfolding table
 rule-written {n} {m} {rights} good i q right hi hq =
     let fit : length (tablesOf rights i) ≡ 256 = length-tables rights i (omega (arith, good .size)) in

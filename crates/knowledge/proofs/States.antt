@@ -3,20 +3,19 @@
 use mathlib.Core.Path.{_≡_, refl, sym, ap, _∙_}
 use mathlib.Core.Bool.{Bool}
 use mathlib.Core.List.{List}
-use Prim.Native.Nat.{ℕ, zero, suc, _^_, _≤_, _<_}
+use Prim.Native.Nat.{ℕ, zero, suc, _^_, _<_}
 use native.Mathlib.Omega.{arith}
 use lib.Dec.{lit<}
 use lib.ListN.{length, getD, set}
 use lib.Seq.{ext-getD}
 use Rattle.ground.specs.Digits.{digit, bit}
 use Rattle.ground.proofs.Digits.{digit-lt}
-use Rattle.knowledge_acts.specs.Seven.{afterSet, afterLook, firstDigit}
+use Rattle.knowledge_acts.specs.Seven.{afterSet, afterLook}
 use Rattle.knowledge_acts.specs.Acts.{setTo, lookAt}
 use Rattle.knowledge_acts.proofs.Seven.{set-lt, look-lt, first-lt}
 use Rattle.knowledge_acts.proofs.Outcomes.{set-below, look-below}
 use Rattle.knowledge.specs.Number.{digitIn, numberOf, digitsOf, firstAt, firstDigits}
-use Rattle.ground.proofs.HighBits.{high-bit}
-use Rattle.knowledge.proofs.Number.{digit-in, digits-are, digits-long, digits-put, sum-digits, sum-lt, sum-short, digits-sum}
+use Rattle.knowledge.proofs.Number.{digit-in, digits-are, digits-long, digits-put, sum-digits, digits-sum}
 
 seven : 0 < 7
 seven = lit< tt
@@ -42,7 +41,7 @@ pub look-state : (k i : ℕ) (b : Bool) → i < 7 → set (digitsOf k) i (afterL
 unfolding lookAt
 look-state k i b h = digits-put k i (afterLook b) h (look-lt b)
 
--- the state at the start: its digits, its number, and that it has none past the known settings
+-- the state at the start: its digits and its number
 module _ (known values : ℕ) where
   pub first-in : (i : ℕ) → i < 7 → digitIn (firstDigits known values) i ≡ firstAt known values i
   unfolding firstDigits
@@ -65,15 +64,6 @@ module _ (known values : ℕ) where
   first-state =
       ext-getD 0 (firstDigits known values) (digitsOf (numberOf 7 (firstAt known values))) (sym (digits-long _))
       (λ i h. first-in i h ∙ sym (digit-in (numberOf 7 (firstAt known values)) i h ∙ digits-sum seven (firstAt known values) 7 first-small i h))
-
-  pub first-below : (n : ℕ) → n ≤ 7 → known < 2 ^ n → numberOf 7 (firstAt known values) < 7 ^ n
-  unfolding firstAt firstDigit
-  first-below n h small =
-      rw (sum-short 7 (firstAt known values) 7 n h (λ i a b. none i a))
-      (sum-lt seven (firstAt known values) n (λ i l. first-small i (omega arith)))
-    where
-      none : (i : ℕ) → n ≤ i → firstAt known values i ≡ 0
-      none i l = rw (high-bit known _ i small l)
 
 -- the number of the state after an act at k, as the type computes it
 pub set-number : (k i : ℕ) (b : Bool) {ds es : List ℕ} {r : ℕ} → k < 7 ^ 7 → i < 7 → ds ≡ digitsOf k → es ≡ set ds i (afterSet (digitIn ds i) b)

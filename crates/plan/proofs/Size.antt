@@ -55,4 +55,6 @@ size {n} law (look-then i q p r) k w =
 -- "It never has more than 32,640 bytes": 2^7 branches of 254 acts and a stop
 pub size-most : {n : ℕ} {S : System} (law : Lawful n S) (p : Plan) (k : ℕ) → n ≤ 7 → Permitted S k p → height p ≤ 254 → length (encode p) ≤ 32640
 size-most {n} law p k l w h =
-    le-trans (size law p k w) (mul-le-mul {n₁ = 2 ^ unknowns n k} {m₁ = suc (height p)} {n₂ = 128} {m₂ = 255} (pow-mono {i = unknowns n k} {j = 7} (omega (arith, unknowns-le n k))) (omega arith))
+    le-trans (size law p k w)
+    (mul-le-mul {n₁ = 2 ^ unknowns n k} {m₁ = suc (height p)} {n₂ = 128} {m₂ = 255}
+    (pow-mono {i = unknowns n k} {j = 7} (omega (arith, unknowns-le n k))) (omega arith))

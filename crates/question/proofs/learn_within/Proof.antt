@@ -24,8 +24,18 @@ mul-within c = omega arith
 within-requires : tie.Need-within-requires Inv-loop μ-loop
 within-requires c κs = search needs
 
+-- what the test of the table with index j tells
+abbrev Here : tie.After-within Inv-loop μ-loop → Type 0
+Here c =
+    let a = c .before .before .before .before .args in
+    Within (a .n) (drop (16 * c .before .before .loop .j) (a .learn .now))
+
 returns : tie.Need-returns Inv-loop μ-loop
-returns c = learn-bad (c .before .before .before .before .before .args .n) (c .before .before .before .before .before .args .learn .now) (c .before .before .before .loop .j) (c .before .before .loop-test .taken) (untold (Within (c .before .before .before .before .before .args .n) (drop (16 * c .before .before .before .loop .j) (c .before .before .before .before .before .args .learn .now))) (c .before .within .result) (c .before .within .ensures) (c .if1 .taken))
+returns c =
+    let w = c .before in
+    let a = w .before .before .before .before .args in
+    learn-bad (a .n) (a .learn .now) (w .before .before .loop .j) (w .before .loop-test .taken)
+    (untold (Here w) (w .within .result) (w .within .ensures) (c .if1 .taken))
 
 add-j : tie.Need-add-j Inv-loop μ-loop
 add-j c = omega arith
@@ -34,10 +44,17 @@ loop-less : tie.Need-loop-less Inv-loop μ-loop
 loop-less c = omega arith
 
 loop-again : tie.Need-loop-again Inv-loop μ-loop
-loop-again c = (omega arith, learn-more (c .before .before .before .before .before .args .n) (c .before .before .before .before .before .args .learn .now) (c .before .before .before .loop .j) (c .before .before .before .loop .inv .1) (told (Within (c .before .before .before .before .before .args .n) (drop (16 * c .before .before .before .loop .j) (c .before .before .before .before .before .args .learn .now))) (c .before .within .result) (c .before .within .ensures) (c .if1 .left)))
+loop-again c =
+    let w = c .before in
+    let r = w .before .before .loop in
+    let a = w .before .before .before .before .args in
+    (omega arith, learn-more (a .n) (a .learn .now) (r .j) (r .inv .1) (told (Here w) (w .within .result) (w .within .ensures) (c .if1 .left)))
 
 returns-2 : tie.Need-returns-2 Inv-loop μ-loop
-returns-2 c = learn-all (c .before .before .before .args .n) (c .before .before .before .args .learn .now) (c .before .loop .j) (c .loop-test .left) (c .before .loop .inv .1)
+returns-2 c =
+    let a = c .before .before .before .args in
+    let r = c .before .loop in
+    learn-all (a .n) (a .learn .now) (r .j) (c .loop-test .left) (r .inv .1)
 
 pub learn-within-spec : {M : Type 1} → statement M
 learn-within-spec =

@@ -41,18 +41,24 @@ loop-less c = omega (arith, c .before .before .before .before .loop-test)
 
 loop-again : tie.Need-loop-again Inv-loop μ-loop
 loop-again c =
-    let a = c .before .before .before .before .before .before .before .before .args in
-    let r = c .before .before .before .before .before .loop in (
-      omega (arith, c .before .before .before .before .loop-test),
-      c .before .before .copy .kept .1 .1 .1 .0 ∙ r .inv .1,
-      rights-step (now (a .book)) (now (a .room)) (r .room) _ (r .i) (omega (arith, c .before .before .before .before .before .before .before .before .pre, c .before .before .before .before .loop-test)) (r .inv .2) (c .before .before .copy .ensures),
+    let copied = c .before .before .copy in
+    let test = c .before .before .before .before .loop-test in
+    let r = c .before .before .before .before .before .loop in
+    let start = c .before .before .before .before .before .before .before .before in
+    let a = start .args in (
+      omega (arith, test),
+      copied .kept .1 .1 .1 .0 ∙ r .inv .1,
+      rights-step (now (a .book)) (now (a .room)) (r .room) _ (r .i) (omega (arith, start .pre, test)) (r .inv .2) (copied .ensures),
     )
 
 same-length : tie.Need-same-length Inv-loop μ-loop
 same-length c = omega arith
 
 returns : tie.Need-returns Inv-loop μ-loop
-returns c = let n = c .before .before .before .before .args .n in c .before .loop .inv .2 ∙ ap (λ k. sets (now (c .before .before .before .before .args .room)) 0 (rightsOf (now (c .before .before .before .before .args .book)) k)) (omega (arith, c .before .loop .inv .0))
+returns c =
+    let a = c .before .before .before .before .args in
+    let inv = c .before .loop .inv in
+    inv .2 ∙ ap (λ k. sets (now (a .room)) 0 (rightsOf (now (a .book)) k)) (omega (arith, inv .0))
 
 pub copy-rights-spec : {M : Type 1} → statement M
 copy-rights-spec =

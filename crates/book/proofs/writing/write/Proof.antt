@@ -11,8 +11,16 @@ use Rattle.book.proofs.writing.write.Statement.{statement}
 use Rattle.book.proofs.writing.write.Tie as tie
 
 -- in the arm of no refusal, the rights may be written and the room is long enough
-may : (c : tie.After-enum-told) → Writable (c .before .before .before .before .before .before .args .n) (c .before .before .before .before .before .before .args .m) (now (c .before .before .before .before .before .before .args .rights)) × (512 * (1 + c .before .before .before .before .before .before .args .n) ≤ length (now (c .before .before .before .before .before .before .args .room)))
-may c = may-write (c .before .before .before .before .before .before .args .n) (c .before .before .before .before .before .before .args .m) (now (c .before .before .before .before .before .before .args .rights)) (now (c .before .before .before .before .before .before .args .room)) (c .before .before .judge .result) (c .before .before .judge .ensures) (c .enum-told .given .1)
+abbrev May : tie.After-enum-told → Type 0
+May c =
+    let a = c .before .before .before .before .before .before .args in
+    Writable (a .n) (a .m) (now (a .rights)) × (512 * (1 + a .n) ≤ length (now (a .room)))
+
+may : (c : tie.After-enum-told) → May c
+may c =
+    let judged = c .before .before in
+    let a = judged .before .before .before .before .args in
+    may-write (a .n) (a .m) (now (a .rights)) (now (a .room)) (judged .judge .result) (judged .judge .ensures) (c .enum-told .given .1)
 
 judge-requires : tie.Need-judge-requires
 judge-requires c κs = search needs
@@ -39,15 +47,26 @@ same-length : tie.Need-same-length
 same-length c = search needs
 
 returns : tie.Need-returns
-returns c = (may-not-write (c .before .before .before .before .before .before .before .args .n) (c .before .before .before .before .before .before .before .args .m) (now (c .before .before .before .before .before .before .before .args .rights)) (now (c .before .before .before .before .before .before .before .args .room)) (c .before .before .before .judge .result) (c .before .answer .given .0 .0) (c .before .before .before .judge .ensures) (c .before .answer .given .1), refl)
+returns c =
+    let told = c .before .answer .given in
+    let judged = c .before .before .before in
+    let a = judged .before .before .before .before .args in
+    (may-not-write (a .n) (a .m) (now (a .rights)) (now (a .room)) (judged .judge .result) (told .0 .0) (judged .judge .ensures) (told .1), refl)
 
 same-length-2 : tie.Need-same-length-2
 same-length-2 c = search needs
 
 returns-2 : tie.Need-returns-2
 returns-2 c =
-    let w = may (c .before .before .before .before .before .before .before .before) in
-    (w .0, w .1, write-room (c .before .before .before .before .before .before .before .before .before .before .before .before .before .before .args .n) (c .before .before .before .before .before .before .before .before .before .before .before .before .before .before .args .m) (now (c .before .before .before .before .before .before .before .before .before .before .before .before .before .before .args .rights)) (now (c .before .before .before .before .before .before .before .before .before .before .before .before .before .before .args .room)) _ _ (w .0) (w .1) (c .before .before .before .before .before .before .write-head .ensures) (c .before .before .write-settings .ensures))
+    let settings = c .before .before in
+    let head = settings .before .before .before .before in
+    let arm = head .before .before in
+    let a = arm .before .before .before .before .before .before .args in
+    let w = may arm in (
+      w .0,
+      w .1,
+      write-room (a .n) (a .m) (now (a .rights)) (now (a .room)) _ _ (w .0) (w .1) (head .write-head .ensures) (settings .write-settings .ensures),
+    )
 
 pub write-spec : {M : Type 1} → statement M
 write-spec =

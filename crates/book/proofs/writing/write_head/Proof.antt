@@ -29,10 +29,13 @@ same-length c = c .before .before .seal .kept .0 ∙ c .before .before .before .
 returns : tie.Need-returns
 unfolding headBlock
 returns c =
-    let a = c .before .before .before .before .before .before .before .before .before .args in
-    seal-on (now (a .room)) _ _ (a .n ∷ a .m ∷ replicate 506 0) 0 (ap (λ k. suc (suc k)) (length-replicate {A = ℕ} 506 0)) (c .before .before .before .before .before .before .before .before .before .pre)
-    (run-on (now (a .room)) _ _ (a .n ∷ a .m ∷ []) (replicate 506 0) 0 2 refl refl (c .before .before .before .before .before .before .zeros .ensures))
-    (c .before .before .seal .ensures)
+    let sealing = c .before .before in
+    let zeros = sealing .before .before .before .before in
+    let start = zeros .before .before .before in
+    let a = start .args in
+    seal-on (now (a .room)) _ _ (a .n ∷ a .m ∷ replicate 506 0) 0 (ap (λ k. suc (suc k)) (length-replicate {A = ℕ} 506 0)) (start .pre)
+    (run-on (now (a .room)) _ _ (a .n ∷ a .m ∷ []) (replicate 506 0) 0 2 refl refl (zeros .zeros .ensures))
+    (sealing .seal .ensures)
 
 pub write-head-spec : {M : Type 1} → statement M
 write-head-spec =

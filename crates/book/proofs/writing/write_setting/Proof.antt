@@ -40,12 +40,17 @@ same-length c = search needs
 returns : tie.Need-returns
 unfolding settingBlock tablesOf
 returns c =
-    let a = c .before .before .before .before .before .before .before .before .before .before .before .before .before .before .args in
+    let sealing = c .before .before in
+    let zeros = sealing .before .before .before .before in
+    let copied = zeros .before .before .before .before in
+    let start = copied .before .before .before .before in
+    let a = start .args in
+    let at = 512 * (1 + a .i) in
     let tables = tablesOf (now (a .rights)) (a .i) in
-    let e : length (tablesOf (now (a .rights)) (a .i)) ≡ 256 = length-tables (now (a .rights)) (a .i) (c .before .before .before .before .before .before .before .before .before .before .before .before .before .before .pre .1) in
-    seal-on (now (a .room)) _ _ (tables ++ replicate 252 0) (512 * (1 + a .i)) (simp (length-append, length-replicate) (omega arith)) (omega (arith, c .before .before .before .before .before .before .before .before .before .before .before .before .before .before .pre))
-    (run-on (now (a .room)) _ _ tables (replicate 252 0) (512 * (1 + a .i)) (512 * (1 + a .i) + 256) (omega arith) (c .before .before .before .before .before .before .before .before .before .before .copy .ensures) (c .before .before .before .before .before .before .zeros .ensures))
-    (c .before .before .seal .ensures)
+    let e : length (tablesOf (now (a .rights)) (a .i)) ≡ 256 = length-tables (now (a .rights)) (a .i) (start .pre .1) in
+    seal-on (now (a .room)) _ _ (tables ++ replicate 252 0) at (simp (length-append, length-replicate) (omega arith)) (omega (arith, start .pre))
+    (run-on (now (a .room)) _ _ tables (replicate 252 0) at (at + 256) (omega arith) (copied .copy .ensures) (zeros .zeros .ensures))
+    (sealing .seal .ensures)
 
 pub write-setting-spec : {M : Type 1} → statement M
 write-setting-spec =

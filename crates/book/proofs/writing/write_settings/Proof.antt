@@ -33,18 +33,24 @@ loop-less c = omega (arith, c .before .before .before .before .loop-test)
 
 loop-again : tie.Need-loop-again Inv-loop μ-loop
 loop-again c =
-    let a = c .before .before .before .before .before .before .before .before .args in
-    let r = c .before .before .before .before .before .loop in (
-      omega (arith, c .before .before .before .before .loop-test),
-      c .before .before .write-setting .kept .1 .1 .0 ∙ r .inv .1,
-      settings-step (now (a .rights)) (now (a .room)) (r .room) _ (r .i) (omega (arith, c .before .before .before .before .before .before .before .before .pre, c .before .before .before .before .loop-test)) (r .inv .2) (c .before .before .write-setting .ensures),
+    let written = c .before .before .write-setting in
+    let test = c .before .before .before .before .loop-test in
+    let r = c .before .before .before .before .before .loop in
+    let start = c .before .before .before .before .before .before .before .before in
+    let a = start .args in (
+      omega (arith, test),
+      written .kept .1 .1 .0 ∙ r .inv .1,
+      settings-step (now (a .rights)) (now (a .room)) (r .room) _ (r .i) (omega (arith, start .pre, test)) (r .inv .2) (written .ensures),
     )
 
 same-length : tie.Need-same-length Inv-loop μ-loop
 same-length c = omega arith
 
 returns : tie.Need-returns Inv-loop μ-loop
-returns c = c .before .loop .inv .2 ∙ ap (λ k. sets (now (c .before .before .before .before .args .room)) 512 (settingBlocks (now (c .before .before .before .before .args .rights)) k)) (omega (arith, c .before .loop .inv .0, c .loop-test))
+returns c =
+    let a = c .before .before .before .before .args in
+    let inv = c .before .loop .inv in
+    inv .2 ∙ ap (λ k. sets (now (a .room)) 512 (settingBlocks (now (a .rights)) k)) (omega (arith, inv .0, c .loop-test))
 
 pub write-settings-spec : {M : Type 1} → statement M
 write-settings-spec =

@@ -12,19 +12,27 @@ number-at-requires : tie.Need-number-at-requires
 number-at-requires c κs = search needs
 
 returns : tie.Need-returns
-returns c = λ right. c .if1 .taken (c .before .before .number-at .ensures ∙ right .holds-s ∙ sym (ap (λ (x : Sums). x .s) (c .before .before .before .check-of .ensures)))
+returns c =
+    let n = c .before .before in
+    λ right. c .if1 .taken (n .number-at .ensures ∙ right .holds-s ∙ sym (ap (λ (x : Sums). x .s) (n .before .check-of .ensures)))
 
 number-at-requires-2 : tie.Need-number-at-requires-2
 number-at-requires-2 c κs = search needs
 
 returns-2 : tie.Need-returns-2
-returns-2 c = λ right. c .if2 .taken (c .before .before .number-at2 .ensures ∙ right .holds-t ∙ sym (ap (λ (x : Sums). x .t) (c .before .before .before .before .before .before .check-of .ensures)))
+returns-2 c =
+    let n = c .before .before in
+    let sums = n .before .before .before .before .check-of in
+    λ right. c .if2 .taken (n .number-at2 .ensures ∙ right .holds-t ∙ sym (ap (λ (x : Sums). x .t) (sums .ensures)))
 
 returns-3 : tie.Need-returns-3
 returns-3 c =
+    let n = c .before .before in
+    let first = n .before in
+    let sums = first .before .before .before .check-of in
     record {
-      holds-s = sym (c .before .before .before .before .before .number-at .ensures) ∙ c .before .before .before .if1 .left ∙ ap (λ (x : Sums). x .s) (c .before .before .before .before .before .before .check-of .ensures);
-      holds-t = sym (c .before .before .number-at2 .ensures) ∙ c .if2 .left ∙ ap (λ (x : Sums). x .t) (c .before .before .before .before .before .before .check-of .ensures);
+      holds-s = sym (first .before .before .number-at .ensures) ∙ first .if1 .left ∙ ap (λ (x : Sums). x .s) (sums .ensures);
+      holds-t = sym (n .number-at2 .ensures) ∙ c .if2 .left ∙ ap (λ (x : Sums). x .t) (sums .ensures);
     }
 
 pub is-right-spec : {M : Type 1} → statement M
