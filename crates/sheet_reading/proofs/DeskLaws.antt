@@ -6,23 +6,23 @@ use mathlib.Core.List.{List, [], _∷_, _++_}
 use Prim.Native.Nat.{ℕ, suc, _+_, _*_, _≤_, _<_}
 use native.Mathlib.Omega.{arith}
 use native.Mathlib.Nat.{zero-add}
-use lib.Dec.{T, eqb, eqb→eq}
+use lib.Dec.{T, eqb, ltb, eqb→eq, lt→ltb}
 use lib.ListN.{length, getD, set, length-set}
 use lib.Seq.{sets, length-sets, getD-set-same, getD-set-other, take-all}
-use Rattle.ground.specs.Text.{bytes}
 use Rattle.ground.proofs.Bools.{lt-or-ge, and-in, and-left, and-right, decide, both, T→true, T→false, eq→eqb}
-use Rattle.formula_grammar.specs.Grammar.{text}
 use Rattle.formula.specs.Read.{Accepts}
+use Rattle.book_block.specs.Rule.{tablePlace}
 use Rattle.book_block.specs.declared.rule.Right.{Right}
 use Rattle.book_block.specs.declared.rule.Right.the-variants.{Look, Set}
 use Rattle.ground.proofs.Lists.{getD-sets, part-same}
 use Rattle.sheet_words.proofs.NameLaws.{or-false, or-assoc}
-use Rattle.sheet_reading.specs.Sheet.{Rule, Sheet, sameRight, concerns, isStated, ruleText}
+use Rattle.sheet_reading.specs.Sheet.{Size, Rule, Sheet, sameRight, concerns, isStated, unstated, ruleText}
 use Rattle.sheet_reading.specs.Rules.{withRule}
-use Rattle.sheet_reading.specs.Desk.{kindOf, slotOf, tableIn, Slot, Holds}
-use Rattle.sheet_reading.specs.Places.{ruledDesk}
+use Rattle.sheet_reading.specs.Desk.{slotOf, tableIn, markOf, Filled, inSize, RulesOnDesk, OnDesk}
+use Rattle.sheet_reading.specs.Places.{rulesLaid, ruledDesk}
+use Rattle.sheet_reading.specs.declared.desk.RulesDesk.{RulesDesk}
 use Rattle.sheet_reading.specs.declared.desk.Desk.{Desk}
-use Rattle.sheet_reading.proofs.HoldLaws.{kind-small, slot-small}
+use Rattle.sheet_reading.proofs.HoldLaws.{slot-small}
 
 -- ---- one right more
 
@@ -38,7 +38,7 @@ stated-snoc (s ∷ rs) r right i q = ap (λ (b : Bool). concerns s right i q || 
 
 text-other : (rs : List Rule) (r : Rule) (right : Right) (i q : ℕ) → concerns r right i q ≡ false → ruleText (rs ++ (r ∷ [])) right i q ≡ ruleText rs right i q
 unfolding ruleText
-text-other [] r right i q e = ap (λ (b : Bool). cond b (r .text) (bytes "0")) e
+text-other [] r right i q e = ap (λ (b : Bool). cond b (r .text) (unstated right)) e
 text-other (s ∷ rs) r right i q e = ap (λ (t : List ℕ). cond (concerns s right i q) (s .text) t) (text-other rs r right i q e)
 
 or-true : (a : Bool) → (a || true) ≡ true
@@ -51,7 +51,7 @@ or-none false b e = (refl, e)
 
 text-same : (rs : List Rule) (r : Rule) (right : Right) (i q : ℕ) → isStated rs right i q ≡ false → concerns r right i q ≡ true → ruleText (rs ++ (r ∷ [])) right i q ≡ r .text
 unfolding ruleText isStated
-text-same [] r right i q n e = ap (λ (b : Bool). cond b (r .text) (bytes "0")) e
+text-same [] r right i q n e = ap (λ (b : Bool). cond b (r .text) (unstated right)) e
 text-same (s ∷ rs) r right i q n e =
     let z = or-none (concerns s right i q) (isStated rs right i q) n in
     ap (λ (b : Bool). cond b (s .text) (ruleText (rs ++ (r ∷ [])) right i q)) (z .0) ∙ text-same rs r right i q (z .1) e
@@ -60,13 +60,6 @@ same-right : (a b : Right) → T (sameRight a b) → a ≡ b
 unfolding sameRight
 same-right Look Look t = refl
 same-right Set Set t = refl
-
-kind-one : (a b : Right) → kindOf a ≡ kindOf b → T (sameRight a b)
-unfolding sameRight
-kind-one Look Look e = tt
-kind-one Look Set e = absurd (omega arith)
-kind-one Set Look e = absurd (omega arith)
-kind-one Set Set e = tt
 
 -- two rights that a rule concerns are one
 concerned : (rs : List Rule) (r : Rule) (right : Right) (i q : ℕ) → T (concerns r right i q) → isStated rs (r .right) (r .setting) (r .post) ≡ isStated rs right i q
@@ -79,13 +72,38 @@ concerned rs r right i q t =
     cc
 
 -- a slot is of one right alone
+kind : Right → ℕ
+kind Look = 0
+kind Set = 1
+
+slot-is : (right : Right) (i q : ℕ) → (slotOf right i q ≡ 16 * i + 2 * q + kind right) × (kind right < 2)
+unfolding slotOf tablePlace kind
+slot-is Look i q = (omega arith, omega arith)
+slot-is Set i q = (omega arith, omega arith)
+
+kind-one : (a b : Right) → kind a ≡ kind b → T (sameRight a b)
+unfolding sameRight kind
+kind-one Look Look e = tt
+kind-one Look Set e = absurd (omega arith)
+kind-one Set Look e = absurd (omega arith)
+kind-one Set Set e = tt
+
+slot-one : (a b : Right) (i j p q : ℕ) → p < 8 → q < 8 → slotOf a i p ≡ slotOf b j q → T (sameRight a b) × (i ≡ j) × (p ≡ q)
+slot-one a b i j p q h k e =
+    let x = slot-is a i p in
+    let y = slot-is b j q in
+    let z : 16 * i + 2 * p + kind a ≡ 16 * j + 2 * q + kind b = sym (x .0) ∙ e ∙ y .0 in
+    let u = x .1 in
+    let v = y .1 in
+    (kind-one a b (omega (arith, z, u, v)), omega (arith, z, u, v), omega (arith, z, u, v))
+
 slot-concerns : (r : Rule) (right : Right) (i q : ℕ) → r .post < 8 → q < 8 → slotOf (r .right) (r .setting) (r .post) ≡ slotOf right i q → T (concerns r right i q)
-unfolding slotOf concerns
+unfolding concerns
 slot-concerns r right i q h k e =
-    let a = kind-small (r .right) in let b = kind-small right in
+    let s = slot-one (r .right) right (r .setting) i (r .post) q h k e in
     and-in (sameRight (r .right) right && eqb (r .setting) i) (eqb (r .post) q)
-    (and-in (sameRight (r .right) right) (eqb (r .setting) i) (kind-one (r .right) right (omega arith)) (eq→eqb {a = r .setting} {b = i} (omega arith)))
-    (eq→eqb {a = r .post} {b = q} (omega arith))
+    (and-in (sameRight (r .right) right) (eqb (r .setting) i) (s .0) (eq→eqb (s .1)))
+    (eq→eqb (s .2))
 
 slot-same : (r : Rule) (right : Right) (i q : ℕ) → T (concerns r right i q) → slotOf right i q ≡ slotOf (r .right) (r .setting) (r .post)
 unfolding concerns
@@ -96,28 +114,34 @@ slot-same r right i q t =
     let g = eqb→eq (r .post) q (and-right (sameRight (r .right) right && eqb (r .setting) i) (eqb (r .post) q) t) in
     cc
 
--- a slot that a line leaves alone
-slot-kept : (n : ℕ) (b : Bool) (F : List ℕ) {m k : ℕ} {t u : List ℕ} → m ≡ k → t ≡ u → Slot n b F k u → Slot n b F m t
-slot-kept n b F {m} {k} {t} {u} e f s = subst (λ (x : ℕ). Slot n b F x t) (sym e) (subst (Slot n b F k) (sym f) s)
+-- a right's setting and post, where a rule concerns it
+concerned-size : (r : Rule) (right : Right) (i q : ℕ) → T (concerns r right i q) → (r .setting ≡ i) × (r .post ≡ q)
+unfolding concerns
+concerned-size r right i q t =
+    let u = and-left (sameRight (r .right) right && eqb (r .setting) i) (eqb (r .post) q) t in
+    (eqb→eq (r .setting) i (and-right (sameRight (r .right) right) (eqb (r .setting) i) u), eqb→eq (r .post) q (and-right (sameRight (r .right) right && eqb (r .setting) i) (eqb (r .post) q) t))
 
--- a slot whose right and text are known by equations
-slot-as : (n mark : ℕ) (t : List ℕ) {a b : Bool} {F G : List ℕ} → a ≡ b → F ≡ G → Slot n b G mark t → Slot n a F mark t
-slot-as n mark t {a} {b} {F} {G} e f s = subst (λ (x : Bool). Slot n x F mark t) (sym e) (subst (λ (X : List ℕ). Slot n b X mark t) (sym f) s)
+in-size : (n m i q : ℕ) → i < n → q < m → inSize n m i q ≡ true
+in-size n m i q h k = T→true (inSize n m i q) (and-in (ltb i n) (ltb q m) (lt→ltb i n h) (lt→ltb q m k))
 
-module _ (sheet : Sheet) (d : Desk) (h : Holds sheet d) (r : Rule) (t : List ℕ) (setting : r .setting < 5) (post : r .post < 8)
-    (new : isStated (sheet .rules) (r .right) (r .setting) (r .post) ≡ false) (sixteen : length t ≡ 16) (a : Accepts (d .settings) (r .text) t) where
+-- a table that is known by equations
+filled-as : (inside : Bool) (n : ℕ) {F G t u : List ℕ} → F ≡ G → t ≡ u → Filled inside n G u → Filled inside n F t
+filled-as inside n {F} {G} {t} {u} e f s = subst (λ (X : List ℕ). Filled inside n X t) (sym e) (subst (Filled inside n G) (sym f) s)
+
+module _ (rules : List Rule) (d : RulesDesk) (size : Size) (h : RulesOnDesk size rules d) (r : Rule) (t : List ℕ) (setting : r .setting < d .settings) (post : r .post < d .posts)
+    (new : isStated rules (r .right) (r .setting) (r .post) ≡ false) (sixteen : length t ≡ 16) (a : Accepts (d .settings) (r .text) t) where
   own : ℕ
   own = slotOf (r .right) (r .setting) (r .post)
 
   small : own < 80
   unfolding own
-  small = slot-small (r .right) (r .setting) (r .post) setting post
+  small = slot-small (r .right) (r .setting) (r .post) (omega (arith, setting, h .settings-most)) (omega (arith, post, h .posts-most))
 
   room : 16 * own + length t ≤ length (d .rights)
   room = omega (arith, small, h .rights-size, sixteen)
 
-  not-yet : (right : Right) (i q : ℕ) → T (concerns r right i q) → isStated (sheet .rules) right i q ≡ false
-  not-yet right i q c = subst (λ (x : Bool). x ≡ false) (concerned (sheet .rules) r right i q c) new
+  not-yet : (right : Right) (i q : ℕ) → T (concerns r right i q) → isStated rules right i q ≡ false
+  not-yet right i q c = subst (λ (x : Bool). x ≡ false) (concerned rules r right i q c) new
 
   own-table : tableIn (sets (d .rights) (16 * own) t) own ≡ t
   unfolding tableIn
@@ -128,9 +152,10 @@ module _ (sheet : Sheet) (d : Desk) (h : Holds sheet d) (r : Rule) (t : List ℕ
 
   apart : (right : Right) (i q : ℕ) → q < 8 → T (not (concerns r right i q)) → own ≡ slotOf right i q → ⊥
   unfolding own
-  apart right i q y c e = both (concerns r right i q) (slot-concerns r right i q post y e) c
+  apart right i q y c e = both (concerns r right i q) (slot-concerns r right i q (omega (arith, post, h .posts-most)) y e) c
 
-  other-table : (right : Right) (i q : ℕ) → i < 5 → q < 8 → T (not (concerns r right i q)) → tableIn (sets (d .rights) (16 * own) t) (slotOf right i q) ≡ tableIn (d .rights) (slotOf right i q)
+  other-table : (right : Right) (i q : ℕ) → i < 5 → q < 8 → T (not (concerns r right i q))
+      → tableIn (sets (d .rights) (16 * own) t) (slotOf right i q) ≡ tableIn (d .rights) (slotOf right i q)
   unfolding tableIn
   other-table right i q x y c =
       let l = slot-small right i q x y in
@@ -141,28 +166,42 @@ module _ (sheet : Sheet) (d : Desk) (h : Holds sheet d) (r : Rule) (t : List ℕ
         | inr m ↦ inr (elim (lt-or-ge own (slotOf right i q)) [ inl z ↦ omega (arith, sixteen) | inr z ↦ absurd (apart right i q y c (omega arith)) ])
       ]))
 
-  slots-after : (right : Right) (i q : ℕ) → i < 5 → q < 8
-      → Slot (d .settings) (isStated (sheet .rules ++ (r ∷ [])) right i q) (ruleText (sheet .rules ++ (r ∷ [])) right i q) (getD (set (d .stated) own 1) (slotOf right i q) 0) (tableIn (sets (d .rights) (16 * own) t) (slotOf right i q))
-  unfolding own
-  slots-after right i q x y =
-      elim (decide (concerns r right i q)) [
-        | inl c ↦ (let e = slot-same r right i q c in
-            slot-as (d .settings) _ _ {b = true} {G = r .text}
-            (stated-snoc (sheet .rules) r right i q ∙ ap (λ (b : Bool). isStated (sheet .rules) right i q || b) (T→true (concerns r right i q) c) ∙ or-true (isStated (sheet .rules) right i q))
-            (text-same (sheet .rules) r right i q (not-yet right i q c) (T→true (concerns r right i q) c)) (
-              ap (λ (k : ℕ). getD (set (d .stated) own 1) k 0) e ∙ getD-set-same (d .stated) own 1 0 (subst (λ (k : ℕ). own < k) (sym (h .stated-size)) small),
-              subst (Accepts (d .settings) (r .text)) (sym (ap (tableIn (sets (d .rights) (16 * own) t)) e ∙ own-table)) a,
-            ))
-        | inr c ↦ (let f = T→false (concerns r right i q) c in
-            slot-as (d .settings) _ _
-            (stated-snoc (sheet .rules) r right i q ∙ ap (λ (b : Bool). isStated (sheet .rules) right i q || b) f ∙ or-false (isStated (sheet .rules) right i q))
-            (text-other (sheet .rules) r right i q f)
-            (slot-kept (d .settings) (isStated (sheet .rules) right i q) (ruleText (sheet .rules) right i q) (getD-set-other (d .stated) own (slotOf right i q) 1 0 (λ e. apart right i q y c (sym e))) (other-table right i q x y c) (h .slots right i q x y)))
-      ]
+  -- the right that the rule concerns, or another
+  stated-after : (right : Right) (i q : ℕ) (b : Bool) → concerns r right i q ≡ b → isStated (rules ++ (r ∷ [])) right i q ≡ (isStated rules right i q || b)
+  stated-after right i q b e = stated-snoc rules r right i q ∙ ap (λ (b : Bool). isStated rules right i q || b) e
 
-  pub holds-rule : Holds (withRule sheet r) (ruledDesk d (slotOf (r .right) (r .setting) (r .post)) t)
-  unfolding withRule ruledDesk own
-  holds-rule = record {
+  marks-after : (right : Right) (i q : ℕ) → i < 5 → q < 8 → getD (set (d .stated) own 1) (slotOf right i q) 0 ≡ markOf (isStated (rules ++ (r ∷ [])) right i q)
+  unfolding own
+  marks-after right i q x y = elim (decide (concerns r right i q)) [
+    | inl c ↦ ap (λ (k : ℕ). getD (set (d .stated) own 1) k 0) (slot-same r right i q c)
+        ∙ getD-set-same (d .stated) own 1 0 (subst (λ (k : ℕ). own < k) (sym (h .stated-size)) small)
+        ∙ ap markOf (sym (stated-after right i q true (T→true (concerns r right i q) c) ∙ or-true (isStated rules right i q)))
+    | inr c ↦ getD-set-other (d .stated) own (slotOf right i q) 1 0 (λ e. apart right i q y c (sym e))
+        ∙ h .marks right i q x y
+        ∙ ap markOf (sym (stated-after right i q false (T→false (concerns r right i q) c) ∙ or-false (isStated rules right i q)))
+  ]
+
+  own-filled : (right : Right) (i q : ℕ) → T (concerns r right i q)
+      → Filled (inSize (d .settings) (d .posts) i q) (d .settings) (ruleText (rules ++ (r ∷ [])) right i q) (tableIn (sets (d .rights) (16 * own) t) (slotOf right i q))
+  unfolding own
+  own-filled right i q c =
+      let s = concerned-size r right i q c in
+      let inside = in-size (d .settings) (d .posts) i q (omega (arith, setting, s .0)) (omega (arith, post, s .1)) in
+      subst (λ (b : Bool). Filled b (d .settings) (ruleText (rules ++ (r ∷ [])) right i q) (tableIn (sets (d .rights) (16 * own) t) (slotOf right i q))) (sym inside)
+      (filled-as true (d .settings) (text-same rules r right i q (not-yet right i q c) (T→true (concerns r right i q) c))
+      (ap (tableIn (sets (d .rights) (16 * own) t)) (slot-same r right i q c) ∙ own-table) a)
+
+  tables-after : (right : Right) (i q : ℕ) → i < 5 → q < 8
+      → Filled (inSize (d .settings) (d .posts) i q) (d .settings) (ruleText (rules ++ (r ∷ [])) right i q) (tableIn (sets (d .rights) (16 * own) t) (slotOf right i q))
+  tables-after right i q x y = elim (decide (concerns r right i q)) [
+    | inl c ↦ own-filled right i q c
+    | inr c ↦ filled-as (inSize (d .settings) (d .posts) i q) (d .settings) (text-other rules r right i q (T→false (concerns r right i q) c)) (other-table right i q x y c)
+        (h .tables right i q x y)
+  ]
+
+  rules-after : RulesOnDesk size (rules ++ (r ∷ [])) (rulesLaid (d .settings) (d .posts) (sets (d .rights) (16 * slotOf (r .right) (r .setting) (r .post)) t) (set (d .stated) (slotOf (r .right) (r .setting) (r .post)) 1))
+  unfolding own
+  rules-after = record {
     settings = h .settings;
     posts = h .posts;
     settings-least = h .settings-least;
@@ -171,14 +210,14 @@ module _ (sheet : Sheet) (d : Desk) (h : Holds sheet d) (r : Rule) (t : List ℕ
     posts-most = h .posts-most;
     rights-size = length-sets (d .rights) (16 * own) t ∙ h .rights-size;
     stated-size = length-set (d .stated) own 1 ∙ h .stated-size;
-    slots = slots-after;
-    team = h .team;
-    known = h .known;
-    values = h .values;
-    make = h .make;
-    asks = h .asks;
-    asks-most = h .asks-most;
-    learn-size = h .learn-size;
-    learn = h .learn;
-    learn-rest = h .learn-rest;
+    marks = marks-after;
+    tables = tables-after;
   }
+
+-- the desk with the rule's table holds the sheet with the rule
+pub holds-rule : (sheet : Sheet) (d : Desk) → OnDesk sheet d → (r : Rule) (t : List ℕ) → r .setting < d .rules .settings → r .post < d .rules .posts
+    → isStated (sheet .rules) (r .right) (r .setting) (r .post) ≡ false → length t ≡ 16 → Accepts (d .rules .settings) (r .text) t
+    → OnDesk (withRule sheet r) (ruledDesk d (slotOf (r .right) (r .setting) (r .post)) t)
+unfolding withRule ruledDesk
+holds-rule sheet d h r t setting post new sixteen a =
+    record { rules = rules-after (sheet .rules) (d .rules) (sheet .size) (h .rules) r t setting post new sixteen a; asked = h .asked }

@@ -8,6 +8,7 @@ use lib.Dec.{T, leb, ltb, ltb→lt}
 use lib.ListN.{length, drop, length-append}
 use Rattle.ground.specs.Text.{bytes}
 use Rattle.ground.proofs.Bools.{and-left, and-right}
+use Rattle.refusal.specs.declared.Refusal.the-variants.{Twice, SheetSettings}
 use Rattle.book_block.specs.declared.rule.Right.{Right}
 use Rattle.book_block.specs.declared.rule.Right.the-variants.{Look, Set}
 use Rattle.sheet_words.specs.Words.{begins, twice}
@@ -18,24 +19,25 @@ use Rattle.sheet_reading.specs.declared.desk.Due.{Due}
 use Rattle.sheet_reading.specs.declared.desk.Due.the-variants.{Rights, Known, Make, Asks}
 use Rattle.sheet_reading.specs.Forms.{isSize, digitAt, isTeam, teamOf, isKnown, knownOf}
 use Rattle.sheet_reading.specs.LineSteps.{withTeam, withKnown, withMake, withAsk, sizeStep, teamStep, knownStep, makeStep, askStep, rightOrTeam, rightsStep, step}
-use Rattle.sheet_reading.specs.Grammar.{ended, sizeText, word, ruleLine, ruleLines, makeLine, askLines, text, InLine, RulesFit, AsksFit, WellFormed}
-use Rattle.sheet_reading.proofs.LineForms.{begins-written, size-written, rule-written, team-written, known-written}
+use Rattle.sheet_reading.specs.Grammar.{ended, sizeText, word, ruleLine, ruleLines, makeLine, askLines, rulesText, InLine, RulesFit, AsksFit, WellFormed}
+use Rattle.sheet_reading.proofs.LineForms.{begins-written, size-written, rule-written}
+use Rattle.sheet_reading.proofs.NameLines.{team-written, known-written}
 use Rattle.sheet_reading.proofs.SoFar.{toRights, toTeam, toKnown, soFar, Begun, Teamed, WellSoFar, made, Good, good-begins, good-form, good-unless, good-refused}
 
 -- ---- each line keeps it
 
-pub size-good : (line : List ℕ) → Good (ended line) (sizeStep line)
-unfolding sizeStep sized toRights ruleLines
+pub size-good : (line : List ℕ) → Good 1 (ended line) (sizeStep line)
+unfolding sizeStep sized toRights rulesText ruleLines
 size-good line =
     let n : ℕ = digitAt line 5 in
     let m : ℕ = digitAt line 7 in
-    good-form (ended line) (isSize line) (unless (leb n 5) 25 (next Rights (sized n m))) (λ h.
+    good-form 1 (ended line) (isSize line) (unless (leb n 5) SheetSettings (next Rights (sized n m))) (λ h.
     let form = size-written line h in
-    let good : Good (ended line) (next Rights (sized n m)) = (
-      record { settings-least = form .0 .0; settings-most = form .0 .1; posts-least = form .0 .2; posts-most = form .0 .3; rules = tt; nothing-asked = refl },
+    let good : Good 1 (ended line) (next Rights (sized n m)) = (
+      (record { settings-least = form .0 .0; settings-most = form .0 .1; posts-least = form .0 .2; posts-most = form .0 .3; rules = tt }, refl),
       append-nil (ended (sizeText n m)) ∙ ap ended (sym (form .1)),
     ) in
-    good-unless (ended line) (leb n 5) 25 (next Rights (sized n m)) (good-begins (ended line) Rights (sized n m) good) good)
+    good-unless 1 (ended line) (leb n 5) SheetSettings (next Rights (sized n m)) (λ e. omega (arith, e)) (good-begins 1 (ended line) Rights (sized n m) good) good)
 
 in-drop : (k : ℕ) (s : List ℕ) → InLine s → InLine (drop k s)
 in-drop zero s h = h
@@ -51,67 +53,69 @@ rules-fit-snoc : (n m : ℕ) (rs : List Rule) (r : Rule) → RulesFit n m rs →
 rules-fit-snoc n m [] r h k = (k, tt)
 rules-fit-snoc n m (x ∷ rs) r h k = (h .0, rules-fit-snoc n m rs r (h .1) k)
 
-rule-good : (v : Sheet) (right : Right) (line : List ℕ) → Begun v → InLine line → T (isRule (word right) (v .settings) (v .posts) line) → Good (toRights v ++ ended line) (ruleStep v (ruleOf (word right) right line))
-unfolding ruleStep withRule toRights ruleOf
-rule-good v right line b i h =
+rule-good : (L : ℕ) (v : Sheet) (right : Right) (line : List ℕ) → Begun v → InLine line → T (isRule (word right) (v .size .settings) (v .size .posts) line) → Good L (toRights v ++ ended line) (ruleStep L v (ruleOf (word right) right line))
+unfolding ruleStep withRule toRights rulesText ruleOf
+rule-good L v right line b i h =
     let s : List ℕ = toRights v ++ ended line in
     let r : Rule = ruleOf (word right) right line in
-    let form = rule-written right (v .settings) (v .posts) line h in
-    let good : Good s (next Rights (withRule v r)) = (
-      record {
-        settings-least = b .settings-least;
-        settings-most = b .settings-most;
-        posts-least = b .posts-least;
-        posts-most = b .posts-most;
-        rules = rules-fit-snoc (v .settings) (v .posts) (v .rules) r (b .rules) (form .0, form .1, in-drop (length (word right) + 4) line i);
-        nothing-asked = b .nothing-asked;
-      },
-      ap (_++_ (ended (sizeText (v .settings) (v .posts)))) (rules-snoc (v .rules) r ∙ ap (λ (l : List ℕ). ruleLines (v .rules) ++ ended l) (sym (form .2)))
-          ∙ sym (append-assoc (ended (sizeText (v .settings) (v .posts))) (ruleLines (v .rules)) (ended line)),
+    let form = rule-written right (v .size .settings) (v .size .posts) line h in
+    let good : Good L s (next Rights (withRule v r)) = (
+      (
+        record {
+          settings-least = b .0 .settings-least;
+          settings-most = b .0 .settings-most;
+          posts-least = b .0 .posts-least;
+          posts-most = b .0 .posts-most;
+          rules = rules-fit-snoc (v .size .settings) (v .size .posts) (v .rules) r (b .0 .rules) (form .0, form .1, in-drop (length (word right) + 4) line i);
+        },
+        b .1,
+      ),
+      ap (_++_ (ended (sizeText (v .size .settings) (v .size .posts)))) (rules-snoc (v .rules) r ∙ ap (λ (l : List ℕ). ruleLines (v .rules) ++ ended l) (sym (form .2)))
+          ∙ sym (append-assoc (ended (sizeText (v .size .settings) (v .size .posts))) (ruleLines (v .rules)) (ended line)),
     ) in
-    good-unless s (not (isStated (v .rules) (r .right) (r .setting) (r .post))) 23 (unlessRefused (v .settings) (r .text) (next Rights (withRule v r)))
-    (good-begins s Rights (withRule v r) good) (good-refused s (v .settings) (r .text) Rights (withRule v r) good)
+    good-unless L s (not (isStated (v .rules) (r .right) (r .setting) (r .post))) (Twice L) (unlessRefused (v .size .settings) (r .text) (next Rights (withRule v r))) (λ e. omega (arith, e))
+    (good-begins L s Rights (withRule v r) good) (good-refused L s (v .size .settings) (r .text) Rights (withRule v r) good)
 
-team-good : (v : Sheet) (line : List ℕ) → Begun v → Good (toRights v ++ ended line) (teamStep v line)
+team-good : (L : ℕ) (v : Sheet) (line : List ℕ) → Begun v → Good L (toRights v ++ ended line) (teamStep L v line)
 unfolding teamStep withTeam toTeam toRights
-team-good v line b =
+team-good L v line b =
     let s : List ℕ = toRights v ++ ended line in
-    good-form s (isTeam (v .posts) line) (unless (not (twice (λ i. false) (teamOf line))) 23 (next Known (withTeam v line))) (λ h.
-    let form = team-written (v .posts) line h in
-    let good : Good s (next Known (withTeam v line)) = ((b, form .0, form .1), ap (λ (l : List ℕ). toRights v ++ ended l) (sym (form .2))) in
-    good-unless s (not (twice (λ i. false) (teamOf line))) 23 (next Known (withTeam v line)) (good-begins s Known (withTeam v line) good) good)
+    good-form L s (isTeam (v .size .posts) line) (unless (not (twice (λ i. false) (teamOf line))) (Twice L) (next Known (withTeam v line))) (λ h.
+    let form = team-written (v .size .posts) line h in
+    let good : Good L s (next Known (withTeam v line)) = ((b, form .0, form .1), ap (λ (l : List ℕ). toRights v ++ ended l) (sym (form .2))) in
+    good-unless L s (not (twice (λ i. false) (teamOf line))) (Twice L) (next Known (withTeam v line)) (λ e. omega (arith, e)) (good-begins L s Known (withTeam v line) good) good)
 
-rights-good : (v : Sheet) (line : List ℕ) → Begun v → InLine line → Good (toRights v ++ ended line) (rightsStep v line)
+rights-good : (L : ℕ) (v : Sheet) (line : List ℕ) → Begun v → InLine line → Good L (toRights v ++ ended line) (rightsStep L v line)
 unfolding rightsStep word
-rights-good v line b i =
-    by-form (isRule (bytes "read ") (v .settings) (v .posts) line) (isRule (bytes "write ") (v .settings) (v .posts) line)
-    (ruleStep v (ruleOf (bytes "read ") Look line)) (ruleStep v (ruleOf (bytes "write ") Set line)) (teamStep v line)
-    (rule-good v Look line b i) (rule-good v Set line b i) (team-good v line b)
+rights-good L v line b i =
+    by-form (isRule (bytes "read ") (v .size .settings) (v .size .posts) line) (isRule (bytes "write ") (v .size .settings) (v .size .posts) line)
+    (ruleStep L v (ruleOf (bytes "read ") Look line)) (ruleStep L v (ruleOf (bytes "write ") Set line)) (teamStep L v line)
+    (rule-good L v Look line b i) (rule-good L v Set line b i) (team-good L v line b)
   where
-    by-form : (look set? : Bool) (x y z : Step) → (T look → Good (toRights v ++ ended line) x) → (T set? → Good (toRights v ++ ended line) y) → Good (toRights v ++ ended line) z → Good (toRights v ++ ended line) (rightOrTeam look x set? y z)
+    by-form : (look set? : Bool) (x y z : Step) → (T look → Good L (toRights v ++ ended line) x) → (T set? → Good L (toRights v ++ ended line) y) → Good L (toRights v ++ ended line) z → Good L (toRights v ++ ended line) (rightOrTeam look x set? y z)
     by-form true set? x y z f g h = f tt
     by-form false true x y z f g h = g tt
     by-form false false x y z f g h = h
 
-known-good : (v : Sheet) (line : List ℕ) → Teamed v → Good (toTeam v ++ ended line) (knownStep v line)
+known-good : (L : ℕ) (v : Sheet) (line : List ℕ) → Teamed v → Good L (toTeam v ++ ended line) (knownStep L v line)
 unfolding knownStep withKnown toKnown toTeam toRights
-known-good v line begun =
+known-good L v line begun =
     let s : List ℕ = toTeam v ++ ended line in
     let once? : Bool = not (twice (λ i. false) (knownSettings (knownOf line))) in
-    good-form s (isKnown (v .settings) line) (unless once? 23 (next Make (withKnown v line))) (λ h.
-    let form = known-written (v .settings) line h in
-    let good : Good s (next Make (withKnown v line)) = ((begun, form .0), ap (λ (l : List ℕ). toTeam v ++ ended l) (sym (form .1))) in
-    good-unless s once? 23 (next Make (withKnown v line)) (good-begins s Make (withKnown v line) good) good)
+    good-form L s (isKnown (v .size .settings) line) (unless once? (Twice L) (next Make (withKnown v line))) (λ h.
+    let form = known-written (v .size .settings) line h in
+    let good : Good L s (next Make (withKnown v line)) = ((begun, form .0), ap (λ (l : List ℕ). toTeam v ++ ended l) (sym (form .1))) in
+    good-unless L s once? (Twice L) (next Make (withKnown v line)) (λ e. omega (arith, e)) (good-begins L s Make (withKnown v line) good) good)
 
-make-good : (v : Sheet) (line : List ℕ) → WellSoFar Make v → InLine line → Good (toKnown v ++ ended line) (makeStep v line)
+make-good : (L : ℕ) (v : Sheet) (line : List ℕ) → WellSoFar Make v → InLine line → Good L (toKnown v ++ ended line) (makeStep L v line)
 unfolding makeStep withMake toKnown toTeam toRights makeLine askLines
-make-good v line so i =
+make-good L v line so i =
     let s : List ℕ = toKnown v ++ ended line in
     let F : List ℕ = drop 5 line in
-    good-form s (begins (bytes "make ") line) (unlessRefused (v .settings) F (next Asks (withMake v F))) (λ h.
-    good-refused s (v .settings) F Asks (withMake v F) (
+    good-form L s (begins (bytes "make ") line) (unlessRefused (v .size .settings) F (next Asks (withMake v F))) (λ h.
+    good-refused L s (v .size .settings) F Asks (withMake v F) (
       made v F so (in-drop 5 line i),
-      ap (λ (Fs : List (List ℕ)). (toKnown v ++ ended (bytes "make " ++ F)) ++ askLines Fs) (so .0 .0 .nothing-asked)
+      ap (λ (Fs : List (List ℕ)). (toKnown v ++ ended (bytes "make " ++ F)) ++ askLines Fs) (so .0 .0 .1)
           ∙ append-nil (toKnown v ++ ended (bytes "make " ++ F))
           ∙ ap (λ (l : List ℕ). toKnown v ++ ended l) (sym (begins-written (bytes "make ") line h)),
     ))
@@ -125,34 +129,32 @@ asks-fit-snoc : (Fs : List (List ℕ)) (F : List ℕ) → AsksFit Fs → InLine 
 asks-fit-snoc [] F h k = (k, tt)
 asks-fit-snoc (G ∷ Fs) F h k = (h .0, asks-fit-snoc Fs F (h .1) k)
 
-ask-good : (v : Sheet) (line : List ℕ) → WellFormed v → InLine line → Good (soFar Asks v ++ ended line) (askStep v line)
+ask-good : (L : ℕ) (v : Sheet) (line : List ℕ) → WellFormed v → InLine line → Good L (soFar Asks v ++ ended line) (askStep L v line)
 unfolding askStep withAsk toKnown toTeam toRights
-ask-good v line b i =
-    let before : List ℕ = toKnown v ++ ended (makeLine (v .make)) in
-    let s : List ℕ = (before ++ askLines (v .asks)) ++ ended line in
+ask-good L v line b i =
+    let before : List ℕ = toKnown v ++ ended (makeLine (v .asked .make)) in
+    let s : List ℕ = (before ++ askLines (v .asked .asks)) ++ ended line in
     let F : List ℕ = drop 4 line in
-    good-form s (begins (bytes "ask ") line && ltb (length (v .asks)) 4) (unlessRefused (v .settings) F (next Asks (withAsk v F))) (λ h.
-    let fewer = ltb→lt (length (v .asks)) 4 (and-right (begins (bytes "ask ") line) (ltb (length (v .asks)) 4) h) in
-    good-refused s (v .settings) F Asks (withAsk v F) (
+    good-form L s (begins (bytes "ask ") line && ltb (length (v .asked .asks)) 4) (unlessRefused (v .size .settings) F (next Asks (withAsk v F))) (λ h.
+    let fewer = ltb→lt (length (v .asked .asks)) 4 (and-right (begins (bytes "ask ") line) (ltb (length (v .asked .asks)) 4) h) in
+    good-refused L s (v .size .settings) F Asks (withAsk v F) (
       record {
-        settings-least = b .settings-least;
-        settings-most = b .settings-most;
-        posts-least = b .posts-least;
-        posts-most = b .posts-most;
-        rules = b .rules;
-        someone = b .someone;
-        team = b .team;
-        known = b .known;
-        make = b .make;
-        asks = asks-fit-snoc (v .asks) F (b .asks) (in-drop 4 line i);
-        asks-most = rw (length-append (v .asks) (F ∷ [])) (omega arith);
+        ruled = b .ruled;
+        well-asked = record {
+          someone = b .well-asked .someone;
+          team = b .well-asked .team;
+          known = b .well-asked .known;
+          make = b .well-asked .make;
+          asks = asks-fit-snoc (v .asked .asks) F (b .well-asked .asks) (in-drop 4 line i);
+          asks-most = rw (length-append (v .asked .asks) (F ∷ [])) (omega arith);
+        };
       },
-      ap (_++_ before) (asks-snoc (v .asks) F ∙ ap (λ (l : List ℕ). askLines (v .asks) ++ ended l) (sym (begins-written (bytes "ask ") line (and-left (begins (bytes "ask ") line) (ltb (length (v .asks)) 4) h))))
-          ∙ sym (append-assoc before (askLines (v .asks)) (ended line)),
+      ap (_++_ before) (asks-snoc (v .asked .asks) F ∙ ap (λ (l : List ℕ). askLines (v .asked .asks) ++ ended l) (sym (begins-written (bytes "ask ") line (and-left (begins (bytes "ask ") line) (ltb (length (v .asked .asks)) 4) h))))
+          ∙ sym (append-assoc before (askLines (v .asked .asks)) (ended line)),
     ))
 
-pub step-good : (due : Due) (v : Sheet) (line : List ℕ) → WellSoFar due v → InLine line → Good (soFar due v ++ ended line) (step due v line)
-step-good Rights v line h i = rights-good v line h i
-step-good Known v line h i = known-good v line h
-step-good Make v line h i = make-good v line h i
-step-good Asks v line h i = ask-good v line h i
+pub step-good : (L : ℕ) (due : Due) (v : Sheet) (line : List ℕ) → WellSoFar due v → InLine line → Good L (soFar due v ++ ended line) (step L due v line)
+step-good L Rights v line h i = rights-good L v line h i
+step-good L Known v line h i = known-good L v line h
+step-good L Make v line h i = make-good L v line h i
+step-good L Asks v line h i = ask-good L v line h i

@@ -1,11 +1,13 @@
 -- The desk when only the size is stated: zeros, which are the table of `0`.
 use mathlib.Core.Path.{_≡_, refl, sym, ap, _∙_, subst}
 use mathlib.Core.Logic.{inl, inr}
-use mathlib.Core.Bool.{false}
+use mathlib.Core.Bool.{Bool, true, false}
+use mathlib.Core.List.{List, []}
 use Prim.Native.Nat.{ℕ, zero, suc, _+_, _*_, _/_, _%_, _≤_, _<_}
 use native.Mathlib.Omega.{arith}
 use lib.Dec.{lit<, lit≤}
 use lib.ListN.{getD, replicate, length-replicate, getD-replicate, List·getD-eq-default}
+use Rattle.book_block.specs.Rule.{tablePlace}
 use Rattle.ground.specs.Text.{bytes}
 use Rattle.ground.specs.Digits.{bit}
 use Rattle.ground.specs.Table.{truth, Within}
@@ -18,9 +20,10 @@ use Rattle.book_block.specs.declared.rule.Right.{Right}
 use Rattle.book_block.specs.declared.rule.Right.the-variants.{Look, Set}
 use Rattle.ground.proofs.Lists.{part-same}
 use Rattle.sheet_words.specs.Words.{member}
-use Rattle.sheet_reading.specs.Sheet.{isStated, knownSettings, knownTrue}
+use Rattle.sheet_reading.specs.Sheet.{sizeOf, nothingAsked, isStated, unstated, ruleText, knownSettings, knownTrue}
 use Rattle.sheet_reading.specs.Steps.{sized}
-use Rattle.sheet_reading.specs.Desk.{kindOf, slotOf, tableIn, Holds}
+use Rattle.sheet_reading.specs.Desk.{slotOf, tableIn, Filled, inSize, RulesOnDesk, AskedOnDesk, OnDesk}
+use Rattle.sheet_reading.specs.Places.{rulesLaid, askedLaid}
 
 -- ---- zeros
 
@@ -52,13 +55,12 @@ nought-accepts n h k = record {
   };
 }
 
-pub kind-small : (right : Right) → kindOf right < 2
-kind-small Look = lit< tt
-kind-small Set = lit< tt
+-- ---- the place of a right
 
 pub slot-small : (right : Right) (i q : ℕ) → i < 5 → q < 8 → slotOf right i q < 80
-unfolding slotOf
-slot-small right i q h k = omega (arith, kind-small right)
+unfolding slotOf tablePlace
+slot-small Look i q h k = omega arith
+slot-small Set i q h k = omega arith
 
 zero-table : (slot : ℕ) → slot < 80 → tableIn (replicate 1280 0) slot ≡ replicate 16 0
 unfolding tableIn
@@ -67,26 +69,46 @@ zero-table slot h =
 
 -- ---- the size alone
 
-pub sized-holds : (n m : ℕ) → 1 ≤ n → n ≤ 5 → 1 ≤ m → m ≤ 8
-    → Holds (sized n m) (record { settings = n; posts = m; rights = replicate 1280 0; stated = replicate 80 0; team = 0; known = 0; values = 0; make = replicate 16 0; asks = 0; learn = replicate 64 0 })
-unfolding sized isStated member knownSettings knownTrue
-sized-holds n m h k l o = record {
-  settings = refl;
-  posts = refl;
-  settings-least = h;
-  settings-most = k;
-  posts-least = l;
-  posts-most = o;
-  rights-size = length-replicate {A = ℕ} 1280 0;
-  stated-size = length-replicate {A = ℕ} 80 0;
-  slots = λ right i q a b. (zero-at 80 (slotOf right i q), zero-table (slotOf right i q) (slot-small right i q a b));
-  team = bit-of-zero;
-  known = bit-of-zero;
-  values = bit-of-zero;
-  make = nought-accepts n h (omega arith);
-  asks = refl;
-  asks-most = omega arith;
-  learn-size = length-replicate {A = ℕ} 64 0;
-  learn = refl;
-  learn-rest = λ j l. zero-at 64 j;
-}
+-- zeros are the table of a right that is not stated
+zeros-unstated : (n : ℕ) → 1 ≤ n → n ≤ 7 → (right : Right) → Accepts n (unstated right) (replicate 16 0)
+unfolding unstated
+zeros-unstated n h k Look = nought-accepts n h k
+zeros-unstated n h k Set = nought-accepts n h k
+
+module _ (n m : ℕ) (h : 1 ≤ n) (k : n ≤ 5) (l : 1 ≤ m) (o : m ≤ 8) where
+  filled : (right : Right) (inside : Bool) (t : List ℕ) → t ≡ replicate 16 0 → Filled inside n (unstated right) t
+  filled right true t e = subst (Accepts n (unstated right)) (sym e) (zeros-unstated n h (omega arith) right)
+  filled right false t e = e
+
+  sized-rules : RulesOnDesk (sizeOf n m) [] (rulesLaid n m (replicate 1280 0) (replicate 80 0))
+  unfolding isStated ruleText
+  sized-rules = record {
+    settings = refl;
+    posts = refl;
+    settings-least = h;
+    settings-most = k;
+    posts-least = l;
+    posts-most = o;
+    rights-size = length-replicate {A = ℕ} 1280 0;
+    stated-size = length-replicate {A = ℕ} 80 0;
+    marks = λ right i q a b. zero-at 80 (slotOf right i q);
+    tables = λ right i q a b. filled right (inSize n m i q) (tableIn (replicate 1280 0) (slotOf right i q)) (zero-table (slotOf right i q) (slot-small right i q a b));
+  }
+
+  nothing-on-desk : AskedOnDesk n nothingAsked (askedLaid 0 0 0 (replicate 16 0) 0 (replicate 64 0))
+  unfolding member knownSettings knownTrue
+  nothing-on-desk = record {
+    team = bit-of-zero;
+    known = bit-of-zero;
+    values = bit-of-zero;
+    make = nought-accepts n h (omega arith);
+    asks = refl;
+    asks-most = omega arith;
+    learn-size = length-replicate {A = ℕ} 64 0;
+    learn = refl;
+    learn-rest = λ j l. zero-at 64 j;
+  }
+
+  pub sized-holds : OnDesk (sized n m) (record { rules = rulesLaid n m (replicate 1280 0) (replicate 80 0); asked = askedLaid 0 0 0 (replicate 16 0) 0 (replicate 64 0) })
+  unfolding sized
+  sized-holds = record { rules = sized-rules; asked = nothing-on-desk }

@@ -1,8 +1,5 @@
--- The laws of the desk: the form of a line that states a right, what it and a line's formula do, and that the desk then holds what the sheet has
--- stated; and that a turn is one thing alone.
--- The laws of one line: its form, what it does, and that the desk then holds what the sheet has stated.
--- The laws of a whole sheet: line by line, what the functions need; the grammar, and where 22 stands; how far a meaning goes; and that `read` gives
--- one thing alone.
+-- The laws of a sheet that is read. Of one line: the form it has, what it does, and that the desk then holds what the sheet has stated. Of the whole:
+-- line by line, what the functions need; the grammar, and where 22 stands; how far a meaning goes; and that `read` gives one thing alone.
 pub mod FormLaws
 pub mod StepLaws
 pub mod HoldLaws
@@ -14,10 +11,13 @@ pub mod LineFormLaws
 pub mod LineStepLaws
 pub mod LineLaws
 pub mod LineTurns
+pub mod NameTurns
 pub mod ReadLaws
 pub mod WordForms
 pub mod LineForms
+pub mod NameLines
 pub mod LineByLine
+pub mod FormulaLaws
 pub mod SoFar
 pub mod GoodLines
 pub mod Taken

@@ -23,28 +23,28 @@ line-clear (c ∷ s) h = (h .0, line-clear s (h .1))
 
 -- what comes of a sheet after line L, from what that line does
 abbrev pub after : ℕ → List (List ℕ) → Step → Meaning
-after L pieces (fault number) = refused number L
+after L pieces (fault r) = refused r L
 after L pieces (next d v) = lines (suc L) d v pieces
 
-pub lines-after : (L : ℕ) (due : Due) (v : Sheet) (line another : List ℕ) (more : List (List ℕ)) → lines L due v (line ∷ another ∷ more) ≡ after L (another ∷ more) (step due v line)
+pub lines-after : (L : ℕ) (due : Due) (v : Sheet) (line another : List ℕ) (more : List (List ℕ)) → lines L due v (line ∷ another ∷ more) ≡ after L (another ∷ more) (step L due v line)
 unfolding lines
-lines-after L due v line another more = by-step (step due v line)
+lines-after L due v line another more = by-step (step L due v line)
   where
-    by-step : (st : Step) → (elim st [ fault number ↦ refused number L | next d s ↦ lines (suc L) d s (another ∷ more) ]) ≡ after L (another ∷ more) st
-    by-step (fault number) = refl
+    by-step : (st : Step) → (elim st [ fault r ↦ refused r L | next d s ↦ lines (suc L) d s (another ∷ more) ]) ≡ after L (another ∷ more) st
+    by-step (fault r) = refl
     by-step (next d s) = refl
 
 pub first-after : (line another : List ℕ) (more : List (List ℕ)) → firstLine (line ∷ another ∷ more) ≡ after 1 (another ∷ more) (sizeStep line)
 unfolding firstLine
 first-after line another more = by-step (sizeStep line)
   where
-    by-step : (st : Step) → (elim st [ fault number ↦ refused number 1 | next d s ↦ lines 2 d s (another ∷ more) ]) ≡ after 1 (another ∷ more) st
-    by-step (fault number) = refl
+    by-step : (st : Step) → (elim st [ fault r ↦ refused r 1 | next d s ↦ lines 2 d s (another ∷ more) ]) ≡ after 1 (another ∷ more) st
+    by-step (fault r) = refl
     by-step (next d s) = refl
 
 -- the same where the pieces are those of a text
-pub lines-on : (L : ℕ) (due : Due) (v : Sheet) (line rest : List ℕ) → lines L due v (line ∷ split newline rest) ≡ after L (split newline rest) (step due v line)
-lines-on L due v line rest = some-piece newline (λ q. lines L due v (line ∷ q) ≡ after L q (step due v line)) (lines-after L due v line) rest
+pub lines-on : (L : ℕ) (due : Due) (v : Sheet) (line rest : List ℕ) → lines L due v (line ∷ split newline rest) ≡ after L (split newline rest) (step L due v line)
+lines-on L due v line rest = some-piece newline (λ q. lines L due v (line ∷ q) ≡ after L q (step L due v line)) (lines-after L due v line) rest
 
 pub first-on : (line rest : List ℕ) → firstLine (line ∷ split newline rest) ≡ after 1 (split newline rest) (sizeStep line)
 first-on line rest = some-piece newline (λ q. firstLine (line ∷ q) ≡ after 1 q (sizeStep line)) (first-after line) rest
@@ -54,7 +54,7 @@ split-ended : (line rest : List ℕ) → Clear newline line → split newline (e
 unfolding ended
 split-ended line rest c = ap (split newline) (append-assoc line (newline ∷ []) rest) ∙ split-marked newline line rest c
 
-pub lines-split : (L : ℕ) (due : Due) (v : Sheet) (line rest : List ℕ) → Clear newline line → lines L due v (split newline (ended line ++ rest)) ≡ after L (split newline rest) (step due v line)
+pub lines-split : (L : ℕ) (due : Due) (v : Sheet) (line rest : List ℕ) → Clear newline line → lines L due v (split newline (ended line ++ rest)) ≡ after L (split newline rest) (step L due v line)
 lines-split L due v line rest c = ap (lines L due v) (split-ended line rest c) ∙ lines-on L due v line rest
 
 pub first-split : (line rest : List ℕ) → Clear newline line → firstLine (split newline (ended line ++ rest)) ≡ after 1 (split newline rest) (sizeStep line)

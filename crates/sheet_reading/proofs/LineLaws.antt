@@ -10,21 +10,14 @@ use lib.Seq.{sets, sets-eq, length-sets, length-take-le, take-at}
 use Rattle.ground.specs.Digits.{bit}
 use Rattle.formula.specs.Read.{Accepts}
 use Rattle.sheet_words.specs.Words.{member, isFalse, indexOf, indexes, trueIndexes}
-use Rattle.sheet_reading.specs.Sheet.{Known, Sheet, knownSettings, knownTrue}
-use Rattle.sheet_reading.specs.Steps.{stating}
-use Rattle.sheet_reading.specs.Desk.{TablesOf, Holds}
-use Rattle.sheet_reading.specs.Places.{laid, makeDesk, askedDesk}
+use Rattle.sheet_reading.specs.Sheet.{Asked, Sheet, askedAs, knownSettings, knownTrue}
+use Rattle.sheet_reading.specs.Desk.{TablesOf, AskedOnDesk, OnDesk}
+use Rattle.sheet_reading.specs.Places.{deskAsked, teamDesk, knownDesk, makeDesk, learnDesk}
+use Rattle.sheet_reading.specs.declared.desk.AskedDesk.{AskedDesk}
 use Rattle.sheet_reading.specs.declared.desk.Desk.{Desk}
 use Rattle.sheet_reading.proofs.DeskLaws.{getD-sets-other}
 use Rattle.sheet_reading.specs.Forms.{teamOf, knownBy, knownOf}
 use Rattle.sheet_reading.specs.LineSteps.{withTeam, withKnown, withMake, withAsk}
-
--- the desk with the line `team` more, and with the line `known`
-abbrev pub teamDesk : Desk → ℕ → Desk
-teamDesk d team = laid d (d .rights) (d .stated) team (d .known) (d .values) (d .make) (d .asks) (d .learn)
-
-abbrev pub knownDesk : Desk → ℕ → ℕ → Desk
-knownDesk d known values = laid d (d .rights) (d .stated) (d .team) known values (d .make) (d .asks) (d .learn)
 
 -- the words of `known` as they are marked, and as they are read
 pub known-settings : (ws : List (List ℕ)) → knownSettings (knownBy ws) ≡ indexes 97 ws
@@ -46,63 +39,77 @@ tables-snoc : (n : ℕ) (Fs : List (List ℕ)) (F t u : List ℕ) → TablesOf n
 tables-snoc n [] F t u e a = (u, [], a, refl, ap (λ (x : List ℕ). x ++ u) e ∙ sym (append-nil u))
 tables-snoc n (G ∷ Fs) F t u (x, y, b, c, e) a = (x, y ++ u, b, tables-snoc n Fs F y u c a, ap (λ (z : List ℕ). z ++ u) e ∙ append-assoc x y u)
 
-module _ (sheet : Sheet) (d : Desk) (h : Holds sheet d) where
-  -- the rights stay; team, what is known, make and learn formulas may be others
-  holds-goal : (team : List ℕ) (mask : ℕ) → ((q : ℕ) → bit mask q ≡ member q team)
-      → (known : List Known) (is-known values : ℕ) → ((i : ℕ) → bit is-known i ≡ member i (knownSettings known)) → ((i : ℕ) → bit values i ≡ member i (knownTrue known))
-      → (make t : List ℕ) → Accepts (d .settings) make t
-      → (asks : List (List ℕ)) (count : ℕ) (learn : List ℕ) → count ≡ length asks → count ≤ 4 → length learn ≡ 64 → TablesOf (d .settings) asks (take (16 * count) learn) → ((j : ℕ) → 16 * count ≤ j → getD learn j 0 ≡ 0)
-      → Holds (stating sheet (sheet .rules) team known make asks) (laid d (d .rights) (d .stated) mask is-known values t count learn)
-  holds-goal team mask m known is-known values k v make t a asks count learn c few size l z = record {
-    settings = h .settings;
-    posts = h .posts;
-    settings-least = h .settings-least;
-    settings-most = h .settings-most;
-    posts-least = h .posts-least;
-    posts-most = h .posts-most;
-    rights-size = h .rights-size;
-    stated-size = h .stated-size;
-    slots = h .slots;
-    team = m;
-    known = k;
-    values = v;
-    make = a;
-    asks = c;
-    asks-most = few;
-    learn-size = size;
-    learn = l;
-    learn-rest = z;
-  }
+module _ (sheet : Sheet) (d : Desk) (h : OnDesk sheet d) where
+  -- the rights stay
+  holds-asked : (asked : Asked) (a : AskedDesk) → AskedOnDesk (d .rules .settings) asked a → OnDesk (askedAs sheet asked) (deskAsked d a)
+  holds-asked asked a o = record { rules = h .rules; asked = o }
 
-  pub holds-team : (line : List ℕ) (mask : ℕ) → ((q : ℕ) → bit mask q ≡ member q (teamOf line)) → Holds (withTeam sheet line) (teamDesk d mask)
+  pub holds-team : (line : List ℕ) (mask : ℕ) → ((q : ℕ) → bit mask q ≡ member q (teamOf line)) → OnDesk (withTeam sheet line) (teamDesk d mask)
   unfolding withTeam
-  holds-team line mask m =
-      holds-goal (teamOf line) mask m (sheet .known) (d .known) (d .values) (h .known) (h .values) (sheet .make) (d .make) (h .make) (sheet .asks) (d .asks) (d .learn) (h .asks) (h .asks-most) (h .learn-size) (h .learn) (h .learn-rest)
+  holds-team line mask m = let o = h .asked in holds-asked _ _ (record {
+    team = m;
+    known = o .known;
+    values = o .values;
+    make = o .make;
+    asks = o .asks;
+    asks-most = o .asks-most;
+    learn-size = o .learn-size;
+    learn = o .learn;
+    learn-rest = o .learn-rest;
+  })
 
-  pub holds-known : (line : List ℕ) (mask values : ℕ) → ((i : ℕ) → bit mask i ≡ member i (knownSettings (knownOf line))) → ((i : ℕ) → bit values i ≡ member i (knownTrue (knownOf line)))
-      → Holds (withKnown sheet line) (knownDesk d mask values)
+  pub holds-known : (line : List ℕ) (mask values : ℕ) → ((i : ℕ) → bit mask i ≡ member i (knownSettings (knownOf line)))
+      → ((i : ℕ) → bit values i ≡ member i (knownTrue (knownOf line))) → OnDesk (withKnown sheet line) (knownDesk d mask values)
   unfolding withKnown
-  holds-known line mask values m v =
-      holds-goal (sheet .team) (d .team) (h .team) (knownOf line) mask values m v (sheet .make) (d .make) (h .make) (sheet .asks) (d .asks) (d .learn) (h .asks) (h .asks-most) (h .learn-size) (h .learn) (h .learn-rest)
+  holds-known line mask values m v = let o = h .asked in holds-asked _ _ (record {
+    team = o .team;
+    known = m;
+    values = v;
+    make = o .make;
+    asks = o .asks;
+    asks-most = o .asks-most;
+    learn-size = o .learn-size;
+    learn = o .learn;
+    learn-rest = o .learn-rest;
+  })
 
-  pub holds-make : (F t : List ℕ) → Accepts (d .settings) F t → Holds (withMake sheet F) (makeDesk d t)
+  pub holds-make : (F t : List ℕ) → Accepts (d .rules .settings) F t → OnDesk (withMake sheet F) (makeDesk d t)
   unfolding withMake
-  holds-make F t a =
-      holds-goal (sheet .team) (d .team) (h .team) (sheet .known) (d .known) (d .values) (h .known) (h .values) F t a (sheet .asks) (d .asks) (d .learn) (h .asks) (h .asks-most) (h .learn-size) (h .learn) (h .learn-rest)
+  holds-make F t a = let o = h .asked in holds-asked _ _ (record {
+    team = o .team;
+    known = o .known;
+    values = o .values;
+    make = a;
+    asks = o .asks;
+    asks-most = o .asks-most;
+    learn-size = o .learn-size;
+    learn = o .learn;
+    learn-rest = o .learn-rest;
+  })
 
-  module _ (F t : List ℕ) (few : d .asks < 4) (sixteen : length t ≡ 16) (a : Accepts (d .settings) F t) where
-    learn-more : take (16 * (d .asks + 1)) (sets (d .learn) (16 * d .asks) t) ≡ take (16 * d .asks) (d .learn) ++ t
+  module _ (F t : List ℕ) (few : d .asked .asks < 4) (sixteen : length t ≡ 16) (a : Accepts (d .rules .settings) F t) where
+    abbrev count : ℕ
+    count = d .asked .asks
+
+    abbrev learn : List ℕ
+    learn = d .asked .learn
+
+    learn-more : take (16 * (count + 1)) (sets learn (16 * count) t) ≡ take (16 * count) learn ++ t
     learn-more =
-        ap (take (16 * (d .asks + 1))) (sets-eq t (d .learn) (16 * d .asks) (omega (arith, h .learn-size, sixteen)))
-        ∙ take-at (take (16 * d .asks) (d .learn) ++ t) (drop (16 * d .asks + length t) (d .learn)) (16 * (d .asks + 1))
-        (length-append (take (16 * d .asks) (d .learn)) t ∙ omega (arith, length-take-le (16 * d .asks) (d .learn) (omega (arith, h .learn-size)), sixteen))
+        ap (take (16 * (count + 1))) (sets-eq t learn (16 * count) (omega (arith, h .asked .learn-size, sixteen)))
+        ∙ take-at (take (16 * count) learn ++ t) (drop (16 * count + length t) learn) (16 * (count + 1))
+        (length-append (take (16 * count) learn) t ∙ omega (arith, length-take-le (16 * count) learn (omega (arith, h .asked .learn-size)), sixteen))
 
-    pub holds-ask : Holds (withAsk sheet F) (askedDesk d t)
-    unfolding withAsk askedDesk
-    holds-ask =
-        holds-goal (sheet .team) (d .team) (h .team) (sheet .known) (d .known) (d .values) (h .known) (h .values) (sheet .make) (d .make) (h .make) (sheet .asks ++ (F ∷ [])) (d .asks + 1) (sets (d .learn) (16 * d .asks) t)
-        (sym (length-append (sheet .asks) (F ∷ []) ∙ omega (arith, h .asks)))
-        (omega arith)
-        (length-sets (d .learn) (16 * d .asks) t ∙ h .learn-size)
-        (subst (TablesOf (d .settings) (sheet .asks ++ (F ∷ []))) (sym learn-more) (tables-snoc (d .settings) (sheet .asks) F (take (16 * d .asks) (d .learn)) t (h .learn) a))
-        (λ j l. getD-sets-other (d .learn) (16 * d .asks) t j (inr (omega (arith, sixteen))) ∙ h .learn-rest j (omega arith))
+    pub holds-ask : OnDesk (withAsk sheet F) (learnDesk d t)
+    unfolding withAsk learnDesk
+    holds-ask = let o = h .asked in let Fs = sheet .asked .asks in holds-asked _ _ (record {
+      team = o .team;
+      known = o .known;
+      values = o .values;
+      make = o .make;
+      asks = sym (length-append Fs (F ∷ []) ∙ omega (arith, o .asks));
+      asks-most = omega arith;
+      learn-size = length-sets learn (16 * count) t ∙ o .learn-size;
+      learn = subst (TablesOf (d .rules .settings) (Fs ++ (F ∷ []))) (sym learn-more) (tables-snoc (d .rules .settings) Fs F (take (16 * count) learn) t (o .learn) a);
+      learn-rest = λ j l. getD-sets-other learn (16 * count) t j (inr (omega (arith, sixteen))) ∙ o .learn-rest j (omega arith);
+    })

@@ -6,15 +6,18 @@ use mathlib.Core.List.{List, [], _∷_, _++_, append-assoc}
 use mathlib.Core.Bool.{Bool, true, false, cond}
 use Prim.Native.Nat.{ℕ, zero, suc, _+_, _-_, _≤_, _<_}
 use native.Mathlib.Omega.{arith}
-use lib.Dec.{eqb, ltb, eqb→eq}
+use lib.Dec.{ltb}
 use lib.ListN.{length, take, drop}
 use lib.Seq.{take-add}
-use Rattle.ground.proofs.Bools.{decide, both, eq→eqb, lt-or-ge}
+use Rattle.ground.proofs.Bools.{lt-or-ge}
 use Rattle.ground.proofs.Search.{least-unique}
+use Rattle.refusal.specs.declared.Refusal.{Refusal}
+use Rattle.refusal.specs.declared.Refusal.the-variants.{Malformed, SheetLength}
+use Rattle.refusal.specs.Refusals.{number}
 use Rattle.sheet_words.specs.Words.{split, newline}
 use Rattle.sheet_words.proofs.Split.{joined, some-piece, joined-split}
-use Rattle.sheet_reading.specs.Reading.{Meaning, refused, stated, firstLine, meaning}
-use Rattle.sheet_reading.specs.Grammar.{ended, text}
+use Rattle.sheet_reading.specs.Reading.{Meaning, refused, stated, firstLine, sheetMeaning}
+use Rattle.sheet_reading.specs.Grammar.{ended, sheetText}
 use Rattle.sheet_reading.specs.Place.{BeginsSheet, IsSheet, allEnded, firstLines, Breaks, MalformedAt, at-line, at-end}
 use Rattle.sheet_reading.proofs.SoFar.{begins-less}
 use Rattle.sheet_reading.proofs.Taken.{taken-only-well-formed}
@@ -40,41 +43,41 @@ fewer-lines s K L h b =
 -- ---- a refusal is the first line's fault, or 24
 
 -- what a refusal says of the sheet's lines
-abbrev Refusal : List ℕ → ℕ → ℕ → Type 0
-Refusal s x L = At [] (split newline s) (λ t. firstLine (split newline t)) 1 x L
+abbrev RefusedAt : List ℕ → Refusal → ℕ → Type 0
+RefusedAt s r L = At [] (split newline s) (λ t. firstLine (split newline t)) 1 r L
 
-refusal : (s : List ℕ) (x L : ℕ) → meaning s ≡ refused x L → ((x ≡ 24) × (L ≡ 0)) ⊎ Refusal s x L
-unfolding meaning
-refusal s x L e = by-length (ltb 32768 (length s)) e
+refusal : (s : List ℕ) (r : Refusal) (L : ℕ) → sheetMeaning s ≡ refused r L → ((r ≡ SheetLength) × (L ≡ 0)) ⊎ RefusedAt s r L
+unfolding sheetMeaning
+refusal s r L e = by-length (ltb 32768 (length s)) e
   where
-    by-length : (over : Bool) → cond over (refused 24 0) (firstLine (split newline s)) ≡ refused x L → ((x ≡ 24) × (L ≡ 0)) ⊎ Refusal s x L
+    by-length : (over : Bool) → cond over (refused SheetLength 0) (firstLine (split newline s)) ≡ refused r L → ((r ≡ SheetLength) × (L ≡ 0)) ⊎ RefusedAt s r L
     by-length true e = inl (cc, cc)
     by-length false e = inr (subst (Placed [] (split newline s) (λ t. firstLine (split newline t)) 1) e (sheet-placed s))
 
 -- ---- the place of 22
 
 -- no well-formed sheet begins with the lines up to the one that is 22
-begins-none : (s : List ℕ) (L : ℕ) → Refusal s 22 L → L < length (split newline s) → BeginsSheet (firstLines L s) → ⊥
+begins-none : (s : List ℕ) (L : ℕ) → RefusedAt s (Malformed L) L → L < length (split newline s) → BeginsSheet (firstLines L s) → ⊥
 unfolding firstLines
 begins-none s L a l b =
     let up-to : L ≡ suc (a .taken) = omega (arith, a .place) in
-    let again : firstLine (split newline (text (b .sheet))) ≡ refused 22 L =
+    let again : firstLine (split newline (sheetText (b .sheet))) ≡ refused (Malformed L) L =
     ap (λ (t : List ℕ). firstLine (split newline t)) (b .written ∙ ap (λ (n : ℕ). allEnded (take n (split newline s)) ++ b .rest) up-to)
     ∙ a .same (omega arith) (b .rest) in
     subst (Fine (b .sheet)) again (lines-fine (b .sheet) (b .well-formed)) refl
 
 -- THE PLACE OF 22
-pub malformed-line : (s : List ℕ) (L : ℕ) → meaning s ≡ refused 22 L → MalformedAt s L
+pub malformed-line : (s : List ℕ) (L : ℕ) → sheetMeaning s ≡ refused (Malformed L) L → MalformedAt s L
 unfolding firstLines
-malformed-line s L e = elim (refusal s 22 L e) [ inl h ↦ absurd (omega (arith, h .0)) | inr a ↦ by-place a ]
+malformed-line s L e = elim (refusal s (Malformed L) L e) [ inl h ↦ absurd (omega (arith, ap number (h .0))) | inr a ↦ by-place a ]
   where
-    by-place : Refusal s 22 L → MalformedAt s L
+    by-place : RefusedAt s (Malformed L) L → MalformedAt s L
     by-place a =
         let before : (K : ℕ) → K < L → Breaks s K → ⊥ = λ K l k. k .1 (fewer-lines s K (a .taken) (omega (arith, a .place)) (a .begun)) in
         elim (lt-or-ge L (length (split newline s))) [
           | inl l ↦ at-line (record { here = (l, begins-none s L a l); none-below = before })
           | inr l ↦ (let end : length (split newline s) ≡ L = omega (arith, a .place, a .inside) in
-              subst (MalformedAt s) end (at-end (λ K k. before K (omega (arith, k .0)) k) (λ w. twenty-two-never (w .sheet) (w .well-formed) L (ap meaning (w .written) ∙ e))))
+              subst (MalformedAt s) end (at-end (λ K k. before K (omega (arith, k .0)) k) (λ w. twenty-two-never (w .sheet) (w .well-formed) (Malformed L) L refl (ap sheetMeaning (w .written) ∙ e))))
         ]
 
 -- ---- and every sheet with such a place is refused there, or at an earlier line
@@ -110,25 +113,20 @@ formed-before : {s : List ℕ} {L : ℕ} → MalformedAt s L → (K : ℕ) → K
 formed-before {s} (at-line {L = L} a) K l b = elim (lt-or-ge K L) [ inl h ↦ h | inr h ↦ absurd (a .here .1 (fewer-lines s L K h b)) ]
 formed-before (at-end f g) K l b = l
 
-pub malformed-refused : (s : List ℕ) (L : ℕ) → MalformedAt s L → (meaning s ≡ refused 22 L) ⊎ ((x : ℕ) × (p : ℕ) × (meaning s ≡ refused x p) × (x ≡ 22 → ⊥) × (p < L))
+pub malformed-refused : (s : List ℕ) (L : ℕ) → MalformedAt s L
+    → (sheetMeaning s ≡ refused (Malformed L) L) ⊎ ((r : Refusal) × (p : ℕ) × (sheetMeaning s ≡ refused r p) × (number r ≡ 22 → ⊥) × (p < L))
 unfolding firstLines allEnded
-malformed-refused s L m = by-outcome (meaning s) refl
+malformed-refused s L m = by-outcome (sheetMeaning s) refl
   where
-    by-outcome : (o : Meaning) → meaning s ≡ o → (o ≡ refused 22 L) ⊎ ((x : ℕ) × (p : ℕ) × (o ≡ refused x p) × (x ≡ 22 → ⊥) × (p < L))
+    by-outcome : (o : Meaning) → sheetMeaning s ≡ o → (o ≡ refused (Malformed L) L) ⊎ ((r : Refusal) × (p : ℕ) × (o ≡ refused r p) × (number r ≡ 22 → ⊥) × (p < L))
     by-outcome (stated w) e = absurd (sheet-sound m (taken-only-well-formed s w e))
-    by-outcome (refused x p) e =
-        elim (decide (eqb x 22)) [
-          | inl h ↦ (let is : x ≡ 22 = eqb→eq x 22 h in
-              inl (ap (λ (y : ℕ). refused y p) is ∙ ap (refused 22) (malformed-unique (malformed-line s p (e ∙ ap (λ (y : ℕ). refused y p) is)) m)))
-          | inr h ↦ (let other : x ≡ 22 → ⊥ = λ k. both (eqb x 22) (eq→eqb k) h in
-              inr (
-                x,
-                p,
-                refl,
-                other,
-                elim (refusal s x p e) [
-                  | inl k ↦ rw (k .1) (formed-before m 0 (some-piece newline (λ q. 0 < length q) (λ r rs. omega arith) s) empty-begins)
-                  | inr a ↦ (let form = a .formed other in let at : p ≡ suc (a .taken) = omega (arith, a .place) in rw at (formed-before m (suc (a .taken)) (form .0) (form .1)))
-                ],
-              ))
-        ]
+    by-outcome (refused r p) e = elim (refusal s r p e) [
+      | inl k ↦ (let other : number r ≡ 22 → ⊥ = λ z. omega (arith, z, ap number (k .0)) in
+          inr (r, p, refl, other, rw (k .1) (formed-before m 0 (some-piece newline (λ q. 0 < length q) (λ x xs. omega arith) s) empty-begins)))
+      | inr a ↦ elim (a .formed) [
+        | inl is ↦ (let same = malformed-unique (malformed-line s p (e ∙ ap (λ (x : Refusal). refused x p) is)) m in
+            inl (ap (λ (x : Refusal). refused x p) is ∙ ap (λ (k : ℕ). refused (Malformed k) k) same))
+        | inr form ↦ (let at : p ≡ suc (a .taken) = omega (arith, a .place) in
+            inr (r, p, refl, form .0, rw at (formed-before m (suc (a .taken)) (form .1) (form .2))))
+      ]
+    ]

@@ -1,80 +1,78 @@
 -- The text of the lines so far, by what is due, and what they say: from each such place a well-formed sheet goes on, with a team of one, `known`
 -- alone and `make 0`.
 use mathlib.Core.Path.{_≡_, refl, sym, _∙_, subst}
+use mathlib.Core.Logic.{_⊎_, inl, inr}
 use mathlib.Core.List.{List, [], _∷_, _++_, append-assoc, append-nil}
 use mathlib.Core.Bool.{Bool, true, false}
-use Prim.Native.Nat.{ℕ, zero, suc, _≤_}
+use Prim.Native.Nat.{ℕ, _≤_}
 use native.Mathlib.Omega.{arith}
 use lib.Dec.{T}
 use lib.ListN.{length}
 use Rattle.ground.specs.Text.{bytes}
-use Rattle.formula.specs.Numbered.{formulaNumber}
-use Rattle.sheet_reading.specs.Sheet.{Rule, Sheet}
-use Rattle.sheet_reading.specs.Steps.{Step, fault, next, unless, unlessNumbered, unlessRefused}
+use Rattle.refusal.specs.declared.Refusal.{Refusal}
+use Rattle.refusal.specs.declared.Refusal.the-variants.{Malformed}
+use Rattle.refusal.specs.Refusals.{number}
+use Rattle.formula.specs.declared.Answer.{Answer}
+use Rattle.formula.specs.declared.Answer.the-variants.{Accepted, Refused}
+use Rattle.formula.specs.Computed.{formulaAnswer}
+use Rattle.sheet_reading.specs.Sheet.{Size, Rule, Sheet, teamAs, knownAs, askedAs}
+use Rattle.sheet_reading.specs.Steps.{Step, fault, next, unless, unlessAnswered, unlessRefused}
 use Rattle.sheet_reading.specs.declared.desk.Due.{Due}
 use Rattle.sheet_reading.specs.declared.desk.Due.the-variants.{Rights, Known, Make, Asks}
 use Rattle.sheet_reading.specs.LineSteps.{withMake}
-use Rattle.sheet_reading.specs.Grammar.{ended, sizeText, ruleLines, teamLine, knownLine, makeLine, askLines, text, InLine, RulesFit, PostsFit, KnownFit, AsksFit, WellFormed}
+use Rattle.sheet_reading.specs.Grammar.{ended, sizeText, ruleLines, teamLine, knownLine, makeLine, askLines, rulesText, askedText, sheetText, InLine, RulesFit, PostsFit, KnownFit, AsksFit, WellRuled, WellAsked, WellFormed}
 use Rattle.sheet_reading.specs.Place.{BeginsSheet}
+use Rattle.sheet_reading.proofs.FormulaLaws.{formula-not-malformed}
 
 -- ---- the text of the lines so far, by what is due
 
 unfoldable pub toRights : Sheet → List ℕ
-toRights v = ended (sizeText (v .settings) (v .posts)) ++ ruleLines (v .rules)
+toRights v = rulesText (v .size) (v .rules)
 
 unfoldable pub toTeam : Sheet → List ℕ
-toTeam v = toRights v ++ ended (teamLine (v .team))
+toTeam v = toRights v ++ ended (teamLine (v .asked .team))
 
 unfoldable pub toKnown : Sheet → List ℕ
-toKnown v = toTeam v ++ ended (knownLine (v .known))
+toKnown v = toTeam v ++ ended (knownLine (v .asked .known))
 
 abbrev pub soFar : Due → Sheet → List ℕ
 soFar Rights v = toRights v
 soFar Known v = toTeam v
 soFar Make v = toKnown v
-soFar Asks v = (toKnown v ++ ended (makeLine (v .make))) ++ askLines (v .asks)
+soFar Asks v = (toKnown v ++ ended (makeLine (v .asked .make))) ++ askLines (v .asked .asks)
 
 -- ---- and what they say
 
-pub record Fits (n m : ℕ) (rs : List Rule) (asks : List (List ℕ)) : Type 0 where
-  pub settings-least : 1 ≤ n
-  pub settings-most : n ≤ 7
-  pub posts-least : 1 ≤ m
-  pub posts-most : m ≤ 8
-  pub rules : RulesFit n m rs
-  pub nothing-asked : asks ≡ []
-
+-- well-formed rules, and nothing to learn yet
 abbrev pub Begun : Sheet → Type 0
-Begun v = Fits (v .settings) (v .posts) (v .rules) (v .asks)
+Begun v = WellRuled (v .size) (v .rules) × (v .asked .asks ≡ [])
 
 abbrev pub Teamed : Sheet → Type 0
-Teamed v = Begun v × (1 ≤ length (v .team)) × PostsFit (v .posts) (v .team)
+Teamed v = Begun v × (1 ≤ length (v .asked .team)) × PostsFit (v .size .posts) (v .asked .team)
 
 abbrev pub WellSoFar : Due → Sheet → Type 0
 WellSoFar Rights v = Begun v
 WellSoFar Known v = Teamed v
-WellSoFar Make v = Teamed v × KnownFit (v .settings) (v .known)
+WellSoFar Make v = Teamed v × KnownFit (v .size .settings) (v .asked .known)
 WellSoFar Asks v = WellFormed v
 
 -- with a make formula nothing is left that must come
 pub made : (v : Sheet) (F : List ℕ) → WellSoFar Make v → InLine F → WellFormed (withMake v F)
 unfolding withMake
-made v F ((b, one, team), known) i = record {
-  settings-least = b .settings-least;
-  settings-most = b .settings-most;
-  posts-least = b .posts-least;
-  posts-most = b .posts-most;
-  rules = b .rules;
-  someone = one;
-  team = team;
-  known = known;
-  make = i;
-  asks = subst AsksFit (sym (b .nothing-asked)) tt;
-  asks-most = rw (b .nothing-asked) (omega arith);
+made v F (((b, none), one, team), known) i = record {
+  ruled = b;
+  well-asked = record {
+    someone = one;
+    team = team;
+    known = known;
+    make = i;
+    asks = subst AsksFit (sym none) tt;
+    asks-most = rw none (omega arith);
+  };
 }
 
-pub whole : (v : Sheet) → text v ≡ soFar Asks v
-unfolding text toKnown toTeam toRights
+pub whole : (v : Sheet) → sheetText v ≡ soFar Asks v
+unfolding sheetText askedText toKnown toTeam toRights
 whole v = sym (simp append-assoc)
 
 -- ---- a well-formed sheet goes on
@@ -88,19 +86,19 @@ asks-begin v h = record { sheet = v; well-formed = h; rest = []; written = whole
 make-begins : (v : Sheet) → WellSoFar Make v → BeginsSheet (toKnown v)
 unfolding toKnown toTeam toRights withMake
 make-begins v h =
-    begins-less (toKnown v) (ended (makeLine (bytes "0"))) (begins-less (toKnown v ++ ended (makeLine (bytes "0"))) (askLines (v .asks)) (asks-begin (withMake v (bytes "0")) (made v (bytes "0") h (omega arith))))
+    begins-less (toKnown v) (ended (makeLine (bytes "0"))) (begins-less (toKnown v ++ ended (makeLine (bytes "0"))) (askLines (v .asked .asks)) (asks-begin (withMake v (bytes "0")) (made v (bytes "0") h (omega arith))))
 
 known-begins : (v : Sheet) → WellSoFar Known v → BeginsSheet (toTeam v)
 unfolding toKnown toTeam toRights
 known-begins v h =
     begins-less (toTeam v) (ended (knownLine []))
-    (make-begins (record { settings = v .settings; posts = v .posts; rules = v .rules; team = v .team; known = []; make = v .make; asks = v .asks }) (h, tt))
+    (make-begins (askedAs v (knownAs (v .asked) [])) (h, tt))
 
 rights-begin : (v : Sheet) → WellSoFar Rights v → BeginsSheet (toRights v)
 unfolding toTeam toRights
 rights-begin v h =
     begins-less (toRights v) (ended (teamLine (0 ∷ [])))
-    (known-begins (record { settings = v .settings; posts = v .posts; rules = v .rules; team = 0 ∷ []; known = v .known; make = v .make; asks = v .asks }) (h, omega arith, (h .posts-least, tt)))
+    (known-begins (askedAs v (teamAs (v .asked) (0 ∷ []))) (h, omega arith, (h .0 .posts-least, tt)))
 
 pub so-far-begins : (due : Due) (v : Sheet) → WellSoFar due v → BeginsSheet (soFar due v)
 so-far-begins Rights v h = rights-begin v h
@@ -110,28 +108,33 @@ so-far-begins Asks v h = asks-begin v h
 
 -- ---- what a line does
 
--- where the sheet goes on, s is the text so far, all of it well formed; and where a line is at fault in another way than by 22, its form is right
-abbrev pub Good : List ℕ → Step → Type 0
-Good s (fault number) = (number ≡ 22 → ⊥) → BeginsSheet s
-Good s (next d v) = WellSoFar d v × (soFar d v ≡ s)
+-- line L at fault: 22 there, or another refusal, and then the line's form is right
+abbrev pub GoodFault : ℕ → List ℕ → Refusal → Type 0
+GoodFault L s r = (r ≡ Malformed L) ⊎ ((number r ≡ 22 → ⊥) × BeginsSheet s)
 
-pub good-begins : (s : List ℕ) (d : Due) (v : Sheet) → Good s (next d v) → BeginsSheet s
-good-begins s d v g = subst BeginsSheet (g .1) (so-far-begins d v (g .0))
+-- where the sheet goes on, s is the text so far, all of it well formed
+abbrev pub Good : ℕ → List ℕ → Step → Type 0
+Good L s (fault r) = GoodFault L s r
+Good L s (next d v) = WellSoFar d v × (soFar d v ≡ s)
 
--- the line's form
-pub good-form : (s : List ℕ) (b : Bool) (later : Step) → (T b → Good s later) → Good s (unless b 22 later)
-good-form s true later h = h tt
-good-form s false later h = λ o. absurd (o refl)
+module _ (L : ℕ) (s : List ℕ) where
+  pub good-begins : (d : Due) (v : Sheet) → Good L s (next d v) → BeginsSheet s
+  good-begins d v g = subst BeginsSheet (g .1) (so-far-begins d v (g .0))
 
--- and its other faults
-pub good-unless : (s : List ℕ) (b : Bool) (number : ℕ) (later : Step) → BeginsSheet s → Good s later → Good s (unless b number later)
-good-unless s true number later f h = h
-good-unless s false number later f h = λ o. f
+  -- the line's form
+  pub good-form : (b : Bool) (later : Step) → (T b → Good L s later) → Good L s (unless b (Malformed L) later)
+  good-form true later h = h tt
+  good-form false later h = inl refl
 
-pub good-refused : (s : List ℕ) (n : ℕ) (F : List ℕ) (d : Due) (v : Sheet) → Good s (next d v) → Good s (unlessRefused n F (next d v))
-unfolding unlessRefused
-good-refused s n F d v g = by-number (formulaNumber n F)
-  where
-    by-number : (x : ℕ) → Good s (unlessNumbered x (next d v))
-    by-number zero = g
-    by-number (suc x) = λ o. good-begins s d v g
+  -- and its other faults
+  pub good-unless : (b : Bool) (r : Refusal) (later : Step) → (number r ≡ 22 → ⊥) → BeginsSheet s → Good L s later → Good L s (unless b r later)
+  good-unless true r later o f h = h
+  good-unless false r later o f h = inr (o, f)
+
+  pub good-refused : (n : ℕ) (F : List ℕ) (d : Due) (v : Sheet) → Good L s (next d v) → Good L s (unlessRefused n F (next d v))
+  unfolding unlessRefused
+  good-refused n F d v g = by-answer (formulaAnswer n F) (formula-not-malformed n F)
+    where
+      by-answer : (a : Answer) → ((r : Refusal) → a ≡ Refused r → number r ≡ 22 → ⊥) → Good L s (unlessAnswered a (next d v))
+      by-answer Accepted o = g
+      by-answer (Refused r) o = inr (o r refl, good-begins d v g)

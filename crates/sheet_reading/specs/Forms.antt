@@ -1,8 +1,7 @@
--- The form of each line of a sheet, but for those that state a right (desk's Rules), and what a line of that form states. "Sheet numbers are one
--- digit".
+-- The form of each line of a sheet, but for those that state a right (`Rules`), and what a line of that form states. "Sheet numbers are one digit".
 use mathlib.Core.Bool.{Bool, false, true, not, _&&_, _||_, cond}
 use mathlib.Core.List.{List, [], _∷_}
-use Prim.Native.Nat.{ℕ, _-_}
+use Prim.Native.Nat.{ℕ, _+_, _-_}
 use lib.Dec.{eqb}
 use lib.ListN.{length, getD, drop}
 use Rattle.ground.specs.Text.{byte, bytes}
@@ -17,26 +16,31 @@ isSize line = begins (bytes "size ") line && eqb (length line) 8 && among (byte 
 unfoldable pub digitAt : List ℕ → ℕ → ℕ
 digitAt line i = getD line i 0 - byte "0"
 
--- `team G ..` (one or more): the words after the first
-unfoldable pub postWords : List ℕ → List (List ℕ)
-postWords line = split space (drop 5 line)
+-- ---- a line of names: the word w, and after it names, each with a space before it
 
+-- the names; none where the word stands alone
+unfoldable pub nameWords : List ℕ → List ℕ → List (List ℕ)
+nameWords w line = cond (eqb (length line) (length w)) [] (split space (drop (length w + 1) line))
+
+-- whether the word may stand `alone`, names may have `~` before them (`signed`), and which signs they are: `count` from `first` on
+unfoldable pub isNames : List ℕ → Bool → Bool → ℕ → ℕ → List ℕ → Bool
+isNames w alone signed first count line =
+    begins w line && (alone && eqb (length line) (length w) || eqb (getD line (length w) 0) space) && allNames signed first count (nameWords w line)
+
+-- "`team G ..` (one or more)", of m posts
 unfoldable pub isTeam : ℕ → List ℕ → Bool
-isTeam m line = begins (bytes "team ") line && allNames false (byte "1") m (postWords line)
+isTeam m line = isNames (bytes "team") false false (byte "1") m line
 
 unfoldable pub teamOf : List ℕ → List ℕ
-teamOf line = indexes (byte "1") (postWords line)
+teamOf line = indexes (byte "1") (nameWords (bytes "team") line)
 
--- "`known` with settings, `~` before a false one, or alone": the words after the first
-unfoldable pub settingWords : List ℕ → List (List ℕ)
-settingWords line = cond (eqb (length line) 5) [] (split space (drop 6 line))
-
+-- "`known` with settings, `~` before a false one, or alone", of n settings
 unfoldable pub isKnown : ℕ → List ℕ → Bool
-isKnown n line = begins (bytes "known") line && (eqb (length line) 5 || eqb (getD line 5 0) space) && allNames true (byte "a") n (settingWords line)
+isKnown n line = isNames (bytes "known") true true (byte "a") n line
 
 unfoldable pub knownBy : List (List ℕ) → List Known
 knownBy [] = []
 knownBy (word ∷ words) = record { setting = indexOf (byte "a") word; value = not (isFalse word) } ∷ knownBy words
 
 unfoldable pub knownOf : List ℕ → List Known
-knownOf line = knownBy (settingWords line)
+knownOf line = knownBy (nameWords (bytes "known") line)

@@ -9,7 +9,7 @@ use Rattle.ground.specs.Text.{byte, bytes}
 use Rattle.book_block.specs.declared.rule.Right.{Right}
 use Rattle.book_block.specs.declared.rule.Right.the-variants.{Look, Set}
 use Rattle.sheet_words.specs.Words.{newline, space}
-use Rattle.sheet_reading.specs.Sheet.{Rule, Known, Sheet}
+use Rattle.sheet_reading.specs.Sheet.{Size, Rule, Known, Asked, Sheet}
 
 -- "Lines [..] end in byte 10"
 unfoldable pub ended : List ℕ → List ℕ
@@ -58,10 +58,17 @@ unfoldable pub askLines : List (List ℕ) → List ℕ
 askLines [] = []
 askLines (F ∷ Fs) = ended (bytes "ask " ++ F) ++ askLines Fs
 
+-- the size and the rights
+unfoldable pub rulesText : Size → List Rule → List ℕ
+rulesText size rules = ended (sizeText (size .settings) (size .posts)) ++ ruleLines rules
+
+-- what is asked
+unfoldable pub askedText : Asked → List ℕ
+askedText a = ended (teamLine (a .team)) ++ (ended (knownLine (a .known)) ++ (ended (makeLine (a .make)) ++ askLines (a .asks)))
+
 -- the whole sheet
-unfoldable pub text : Sheet → List ℕ
-text sheet =
-    ended (sizeText (sheet .settings) (sheet .posts)) ++ (ruleLines (sheet .rules) ++ (ended (teamLine (sheet .team)) ++ (ended (knownLine (sheet .known)) ++ (ended (makeLine (sheet .make)) ++ askLines (sheet .asks)))))
+unfoldable pub sheetText : Sheet → List ℕ
+sheetText sheet = rulesText (sheet .size) (sheet .rules) ++ askedText (sheet .asked)
 
 -- "F is all that follows the space before it" in its line
 abbrev pub InLine : List ℕ → Type 0
@@ -85,16 +92,24 @@ abbrev pub AsksFit : List (List ℕ) → Type 0
 AsksFit [] = Unit
 AsksFit (F ∷ Fs) = InLine F × AsksFit Fs
 
--- what a well-formed sheet may say: "N outside 1 to 7, M outside 1 to 8 [..] are 22", "(one or more)", "up to four"
+-- what well-formed rules may say: "N outside 1 to 7, M outside 1 to 8 [..] are 22"
+pub record WellRuled (size : Size) (rs : List Rule) : Type 0 where
+  pub settings-least : 1 ≤ size .settings
+  pub settings-most : size .settings ≤ 7
+  pub posts-least : 1 ≤ size .posts
+  pub posts-most : size .posts ≤ 8
+  pub rules : RulesFit (size .settings) (size .posts) rs
+
+-- and what may be asked of them: "(one or more)", "up to four"
+pub record WellAsked (size : Size) (a : Asked) : Type 0 where
+  pub someone : 1 ≤ length (a .team)
+  pub team : PostsFit (size .posts) (a .team)
+  pub known : KnownFit (size .settings) (a .known)
+  pub make : InLine (a .make)
+  pub asks : AsksFit (a .asks)
+  pub asks-most : length (a .asks) ≤ 4
+
+-- a well-formed sheet
 pub record WellFormed (sheet : Sheet) : Type 0 where
-  pub settings-least : 1 ≤ sheet .settings
-  pub settings-most : sheet .settings ≤ 7
-  pub posts-least : 1 ≤ sheet .posts
-  pub posts-most : sheet .posts ≤ 8
-  pub rules : RulesFit (sheet .settings) (sheet .posts) (sheet .rules)
-  pub someone : 1 ≤ length (sheet .team)
-  pub team : PostsFit (sheet .posts) (sheet .team)
-  pub known : KnownFit (sheet .settings) (sheet .known)
-  pub make : InLine (sheet .make)
-  pub asks : AsksFit (sheet .asks)
-  pub asks-most : length (sheet .asks) ≤ 4
+  pub ruled : WellRuled (sheet .size) (sheet .rules)
+  pub well-asked : WellAsked (sheet .size) (sheet .asked)

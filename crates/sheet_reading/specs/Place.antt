@@ -7,20 +7,20 @@ use lib.ListN.{length, take}
 use Rattle.ground.specs.Search.{Least}
 use Rattle.sheet_words.specs.Words.{split, newline}
 use Rattle.sheet_reading.specs.Sheet.{Sheet}
-use Rattle.sheet_reading.specs.Grammar.{ended, text, WellFormed}
+use Rattle.sheet_reading.specs.Grammar.{ended, sheetText, WellFormed}
 
 -- some well-formed sheet begins with the text p
 pub record BeginsSheet (p : List ℕ) : Type 0 where
   pub sheet : Sheet
   pub well-formed : WellFormed sheet
   pub rest : List ℕ
-  pub written : text sheet ≡ p ++ rest
+  pub written : sheetText sheet ≡ p ++ rest
 
 -- s is a well-formed sheet
 pub record IsSheet (s : List ℕ) : Type 0 where
   pub sheet : Sheet
   pub well-formed : WellFormed sheet
-  pub written : text sheet ≡ s
+  pub written : sheetText sheet ≡ s
 
 -- lines, each with its byte 10
 unfoldable pub allEnded : List (List ℕ) → List ℕ

@@ -1,15 +1,15 @@
 -- What is read of a sheet, with the desk beside it.
 use mathlib.Core.Path.{_≡_}
 use Rattle.sheet_reading.specs.Steps.{sized}
-use Rattle.sheet_reading.specs.Desk.{number, Proper, Holds}
+use Rattle.sheet_reading.specs.Desk.{OnDesk}
 use Rattle.sheet_reading.specs.declared.desk.Desk.{Desk}
 use Rattle.sheet_reading.specs.Reading.{Meaning, refused, stated}
-use Rattle.sheet_reading.specs.declared.Told.{Told}
-use Rattle.sheet_reading.specs.declared.Told.the-variants.{Stated, Refused}
+use Rattle.sheet_reading.specs.declared.SheetTold.{SheetTold}
+use Rattle.sheet_reading.specs.declared.SheetTold.the-variants.{Stated, Refused}
 
--- what is read of a sheet: its first fault, with the desk of the smallest size beside it; or all that it states, on the desk
-abbrev pub Reads : Meaning → Told → Desk → Type 0
-Reads (refused x line) (Refused why at) d = (number why ≡ x) × Proper why × (at ≡ line) × Holds (sized 1 1) d
-Reads (refused x line) Stated d = ⊥
-Reads (stated sheet) (Refused why at) d = ⊥
-Reads (stated sheet) Stated d = Holds sheet d
+-- what is read of a sheet: its first refusal, with the desk of the smallest size beside it; or all that it states, on the desk
+abbrev pub ReadsSheet : Meaning → SheetTold → Desk → Type 0
+ReadsSheet (refused r line) (Refused why at) d = (why ≡ r) × (at ≡ line) × OnDesk (sized 1 1) d
+ReadsSheet (refused r line) Stated d = ⊥
+ReadsSheet (stated sheet) (Refused why at) d = ⊥
+ReadsSheet (stated sheet) Stated d = OnDesk sheet d

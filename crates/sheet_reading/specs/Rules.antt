@@ -6,10 +6,11 @@ use Prim.Native.Nat.{ℕ, _+_, _-_}
 use lib.Dec.{eqb}
 use lib.ListN.{length, getD, drop}
 use Rattle.ground.specs.Text.{byte}
+use Rattle.refusal.specs.declared.Refusal.the-variants.{Twice}
 use Rattle.book_block.specs.declared.rule.Right.{Right}
 use Rattle.sheet_words.specs.Words.{space, begins, among}
-use Rattle.sheet_reading.specs.Sheet.{Rule, Sheet, isStated}
-use Rattle.sheet_reading.specs.Steps.{Step, next, unless, unlessRefused, stating}
+use Rattle.sheet_reading.specs.Sheet.{Rule, Sheet, rulesAs, isStated}
+use Rattle.sheet_reading.specs.Steps.{Step, next, unless, unlessRefused}
 use Rattle.sheet_reading.specs.declared.desk.Due.the-variants.{Rights}
 
 -- "P a setting letter, G a post digit", of n settings and m posts: "a letter or digit past the size outside F [is] 22"
@@ -34,9 +35,12 @@ ruleOf w right line = record {
 
 -- the sheet with one right more
 unfoldable pub withRule : Sheet → Rule → Sheet
-withRule sheet r = stating sheet (sheet .rules ++ (r ∷ [])) (sheet .team) (sheet .known) (sheet .make) (sheet .asks)
+withRule sheet r = rulesAs sheet (sheet .rules ++ (r ∷ []))
 
 -- a right: "23 right [..] named twice"
-unfoldable pub ruleStep : Sheet → Rule → Step
-ruleStep sheet r =
-    unless (not (isStated (sheet .rules) (r .right) (r .setting) (r .post))) 23 (unlessRefused (sheet .settings) (r .text) (next Rights (withRule sheet r)))
+unfoldable pub ruleStep : ℕ → Sheet → Rule → Step
+ruleStep L sheet r =
+    unless
+    (not (isStated (sheet .rules) (r .right) (r .setting) (r .post)))
+    (Twice L)
+    (unlessRefused (sheet .size .settings) (r .text) (next Rights (withRule sheet r)))

@@ -1,34 +1,38 @@
 -- What a line of a sheet may do: it is at fault, or it states something more. "22, 23, the formula's number", in this order.
-use mathlib.Core.Bool.{Bool, true, false}
+use mathlib.Core.Bool.{Bool, true, false, not}
 use mathlib.Core.List.{List, []}
-use Prim.Native.Nat.{ℕ, zero, suc}
-use Rattle.ground.specs.Text.{bytes}
-use Rattle.formula.specs.Numbered.{formulaNumber}
-use Rattle.sheet_reading.specs.Sheet.{Rule, Known as KnownSetting, Sheet}
+use Prim.Native.Nat.{ℕ}
+use Rattle.refusal.specs.declared.Refusal.{Refusal}
+use Rattle.refusal.specs.declared.Refusal.the-variants.{Malformed, Twice}
+use Rattle.formula.specs.Computed.{formulaAnswer}
+use Rattle.formula.specs.declared.Answer.{Answer}
+use Rattle.formula.specs.declared.Answer.the-variants.{Accepted, Refused}
+use Rattle.sheet_words.specs.Words.{twice}
+use Rattle.sheet_reading.specs.Sheet.{Sheet, sizeOf, nothingAsked}
 use Rattle.sheet_reading.specs.declared.desk.Due.{Due}
 
--- what a line does: it is at fault, with this number; or the sheet goes on, with what is due next and what is stated so far
+-- what a line does: it is at fault, with this refusal; or the sheet goes on, with what is due next and what is stated so far
 pub data Step : Type 0 where
-  fault : ℕ → Step
+  fault : Refusal → Step
   next : Due → Sheet → Step
 
 -- a fault unless the test holds
-abbrev pub unless : Bool → ℕ → Step → Step
-unless true number later = later
-unless false number later = fault number
+abbrev pub unless : Bool → Refusal → Step → Step
+unless true r later = later
+unless false r later = fault r
 
--- the formula's number unless F is a formula of n settings
-abbrev pub unlessNumbered : ℕ → Step → Step
-unlessNumbered zero later = later
-unlessNumbered (suc number) later = fault (suc number)
+-- the formula's refusal unless F is a formula of n settings
+abbrev pub unlessAnswered : Answer → Step → Step
+unlessAnswered Accepted later = later
+unlessAnswered (Refused r) later = fault r
 
 unfoldable pub unlessRefused : ℕ → List ℕ → Step → Step
-unlessRefused n F later = unlessNumbered (formulaNumber n F) later
+unlessRefused n F later = unlessAnswered (formulaAnswer n F) later
 
--- a sheet of which only the size is stated; the text `0` stands for the make formula until its line comes
+-- line L, which is to name things: 22 unless it has the form, then 23, "post or setting named twice"
+abbrev pub namesStep : ℕ → Bool → List ℕ → Step → Step
+namesStep L form names later = unless form (Malformed L) (unless (not (twice (λ i. false) names)) (Twice L) later)
+
+-- a sheet of which only the size is stated
 unfoldable pub sized : ℕ → ℕ → Sheet
-sized n m = record { settings = n; posts = m; rules = []; team = []; known = []; make = bytes "0"; asks = [] }
-
--- the sheet with these lists for its own
-abbrev pub stating : Sheet → List Rule → List ℕ → List KnownSetting → List ℕ → List (List ℕ) → Sheet
-stating sheet rules team known make asks = record { settings = sheet .settings; posts = sheet .posts; rules = rules; team = team; known = known; make = make; asks = asks }
+sized n m = record { size = sizeOf n m; rules = []; asked = nothingAsked }

@@ -1,8 +1,22 @@
 // The desk: what a sheet has stated so far, by value, with the formulas as their tables.
+use crate::ASKS_MOST;
+use crate::SHEET_SETTINGS_MOST;
+use ground::TABLE;
+use refusal::Refusal;
 ghost use mathlib.Core.Path.{_≡_};
 ghost use Prim.Native.Nat.{_≤_};
 ghost use Rattle.sheet_reading.specs.Steps.{sized};
-ghost use Rattle.sheet_reading.specs.Desk.{number, Holds};
+ghost use Rattle.sheet_reading.specs.Desk.{OnDesk};
+
+// The bytes of a setting's tables in memory: two tables for each of 8 posts.
+pub(crate) const TABLES: usize = 2 * ground::POSTS_MOST * TABLE;
+
+// The bytes of all rights, how many rights there are, and the bytes of all formulas to learn.
+pub(crate) const RIGHTS: usize = SHEET_SETTINGS_MOST * TABLES;
+
+pub(crate) const SLOTS: usize = RIGHTS / TABLE;
+
+pub(crate) const LEARN: usize = ASKS_MOST * TABLE;
 
 // The lines that may come next.
 pub enum Due {
@@ -16,51 +30,32 @@ pub enum Due {
     Asks,
 }
 
-// What a sheet of up to 5 settings states, each formula as its table. Any caller may make one: that it
-// is a sheet's is what a contract says of it (`Holds`).
-pub struct Desk {
+// The size and the rights.
+pub struct RulesDesk {
     pub settings: u8,
     pub posts: u8,
     // The tables of the rights, as in memory, and a byte for each: 1 where it is stated.
-    pub rights: [u8; 1280],
-    pub stated: [u8; 80],
+    pub rights: [u8; RIGHTS],
+    pub stated: [u8; SLOTS],
+}
+
+// What is asked.
+pub struct AskedDesk {
     // A bit for each post of the team, for each known setting, and for each of those that is true.
     pub team: u8,
     pub known: u8,
     pub values: u8,
-    pub make: [u8; 16],
+    pub make: [u8; TABLE],
     // How many formulas to learn there are, and their tables one after the other.
     pub asks: u8,
-    pub learn: [u8; 64],
+    pub learn: [u8; LEARN],
 }
 
-// What is wrong with a line, or with the whole sheet.
-pub enum Fault {
-    // The line is malformed, absent or out of place.
-    Malformed,
-    // It names a right, a post or a setting that is named already.
-    Twice,
-    // Its formula is refused, with this number.
-    Formula(u64),
-    // The sheet has more than 32,768 bytes.
-    Length,
-    // It has more settings than the program takes.
-    Settings,
-}
-
-impl Fault {
-    // Paper 01's number of this fault.
-    pub fn number(self) -> u64
-        ensures { λ r. ⌜ r ≡ number self ⌝ }
-    {
-        match self {
-            Fault::Malformed => 22,
-            Fault::Twice => 23,
-            Fault::Formula(number) => number,
-            Fault::Length => 24,
-            Fault::Settings => 25,
-        }
-    }
+// What a sheet of up to 5 settings states, each formula as its table. Any caller may make one: that it
+// is a sheet's is what a contract says of it (`OnDesk`).
+pub struct Desk {
+    pub rules: RulesDesk,
+    pub asked: AskedDesk,
 }
 
 // What becomes of a line.
@@ -68,7 +63,7 @@ pub enum Taken {
     // It is taken, and this is due next.
     Next(Due),
     // It is at fault.
-    No(Fault),
+    No(Refusal),
 }
 
 // The desk after a line; what it holds says nothing where the line is at fault.
@@ -77,28 +72,31 @@ pub struct Turn {
     pub desk: Desk,
 }
 
-// A desk on which only the size is stated. For this repository alone: the size is one that the
-// program takes.
+// A desk on which only the size is stated, one that the program takes.
 pub fn sized(settings: u8, posts: u8) -> Desk
     requires { ⌜ (1 ≤ settings) × (settings ≤ 5) × (1 ≤ posts) × (posts ≤ 8) ⌝ }
-    ensures { λ r. ⌜ Holds (sized settings posts) r ⌝ }
+    ensures { λ r. ⌜ OnDesk (sized settings posts) r ⌝ }
 {
     Desk {
-        settings,
-        posts,
-        rights: [0u8; 1280],
-        stated: [0u8; 80],
-        team: 0,
-        known: 0,
-        values: 0,
-        make: [0u8; 16],
-        asks: 0,
-        learn: [0u8; 64],
+        rules: RulesDesk {
+            settings,
+            posts,
+            rights: [0u8; RIGHTS],
+            stated: [0u8; SLOTS],
+        },
+        asked: AskedDesk {
+            team: 0,
+            known: 0,
+            values: 0,
+            make: [0u8; TABLE],
+            asks: 0,
+            learn: [0u8; LEARN],
+        },
     }
 }
 
 // A line at fault, with nothing on the desk that counts.
-pub fn at_fault(why: Fault) -> Turn
+pub fn at_fault(why: Refusal) -> Turn
     ensures { λ r. ⌜ r .taken ≡ Taken.No why ⌝ }
 {
     Turn {

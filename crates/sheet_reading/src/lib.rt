@@ -1,8 +1,9 @@
-// A whole sheet, line by line: what it states, or the first line at fault. A sheet of any length and
-// content is taken; nothing is written to what a caller lends.
+// A whole sheet, line by line: what it states, or its first refusal, with the line. A sheet of any
+// length and content is taken; nothing is written to what a caller lends.
 mod desk;
 mod formulas;
 mod line;
+mod names;
 mod rules;
 
 use crate::desk::Due;
@@ -10,8 +11,10 @@ use crate::desk::Taken;
 use crate::desk::sized;
 use crate::line::later_line;
 use crate::line::size_line;
+pub use desk::AskedDesk;
 pub use desk::Desk;
-pub use desk::Fault;
+pub use desk::RulesDesk;
+use refusal::Refusal;
 use sheet_words::piece_end;
 ghost use mathlib.Core.Path.{_≡_};
 ghost use Prim.Native.Nat.{_≤_};
@@ -19,51 +22,57 @@ ghost use lib.ListN.{length, drop};
 ghost use Rattle.sheet_words.specs.Words.{split, newline};
 ghost use Rattle.sheet_reading.specs.Sheet.{Sheet};
 ghost use Rattle.sheet_reading.specs.Steps.{sized};
-ghost use Rattle.sheet_reading.specs.Desk.{Holds};
-ghost use Rattle.sheet_reading.specs.Reading.{meaning, ending, lines};
-ghost use Rattle.sheet_reading.specs.Reads.{Reads};
+ghost use Rattle.sheet_reading.specs.Desk.{OnDesk};
+ghost use Rattle.sheet_reading.specs.Reading.{sheetMeaning, ending, lines};
+ghost use Rattle.sheet_reading.specs.Reads.{ReadsSheet};
 
-// The most bytes of a sheet.
+// The most bytes of a sheet: "24 sheet over 32,768 bytes".
 pub const SHEET_MOST: usize = 32768;
 
+// "The program takes n up to 5."
+pub const SHEET_SETTINGS_MOST: usize = 5;
+
+// The most formulas to learn: "up to four `ask F`".
+pub const ASKS_MOST: usize = 4;
+
 // What is said of a whole sheet.
-pub enum Told {
+pub enum SheetTold {
     // All of it is on the desk.
     Stated,
-    // It is at fault at this line.
-    Refused(Fault, usize),
+    // It is refused, at this line: what is printed as the refusal's place.
+    Refused(Refusal, usize),
 }
 
 // What is said, and the desk; beside a refusal it states the smallest size, 1 1, and nothing else.
-pub struct Reading {
-    pub told: Told,
+pub struct SheetReading {
+    pub told: SheetTold,
     pub desk: Desk,
 }
 
-// A sheet that is at fault at this line.
-fn refused(why: Fault, line: usize) -> Reading
-    ensures { λ r. ⌜ (r .told ≡ Told.Refused why line) × Holds (sized 1 1) (r .desk) ⌝ }
+// A sheet that is refused at this line.
+fn refused(why: Refusal, line: usize) -> SheetReading
+    ensures { λ r. ⌜ (r .told ≡ SheetTold.Refused why line) × OnDesk (sized 1 1) (r .desk) ⌝ }
 {
-    Reading {
-        told: Told::Refused(why, line),
+    SheetReading {
+        told: SheetTold::Refused(why, line),
         desk: sized(1, 1),
     }
 }
 
 // What follows the last byte 10, at this line: nothing may, and the make formula must have come.
-fn ending(due: Due, desk: Desk, rest: &[u8], number: usize) -> Reading
-    ensures { λ r. ⌜ ((sheet : Sheet) → Holds sheet desk → Reads (ending due sheet (now (rest .entry)) number) (r .told) (r .desk)) ⌝ }
+fn ending(due: Due, desk: Desk, rest: &[u8], number: usize) -> SheetReading
+    ensures { λ r. ⌜ ((sheet : Sheet) → OnDesk sheet desk → ReadsSheet (ending due sheet (now (rest .entry)) number) (r .told) (r .desk)) ⌝ }
 {
     match due {
-        Due::Rights => refused(Fault::Malformed, number),
-        Due::Known => refused(Fault::Malformed, number),
-        Due::Make => refused(Fault::Malformed, number),
+        Due::Rights => refused(Refusal::Malformed(number), number),
+        Due::Known => refused(Refusal::Malformed(number), number),
+        Due::Make => refused(Refusal::Malformed(number), number),
         Due::Asks => {
             if rest.len() != 0 {
-                return refused(Fault::Malformed, number);
+                return refused(Refusal::Malformed(number), number);
             }
-            Reading {
-                told: Told::Stated,
+            SheetReading {
+                told: SheetTold::Stated,
                 desk,
             }
         }
@@ -71,9 +80,9 @@ fn ending(due: Due, desk: Desk, rest: &[u8], number: usize) -> Reading
 }
 
 // The lines after the first, from byte `from` on.
-fn rest(sheet: &[u8], from: usize, first: Due, size: Desk) -> Reading
-    requires { ⌜ ((stated : Sheet) × Holds stated size) × (from ≤ length (now sheet)) × (1 ≤ from) × (length (now sheet) ≤ 32768) ⌝ }
-    ensures { λ r. ⌜ ((stated : Sheet) → Holds stated size → Reads (lines 2 first stated (split newline (drop from (now (sheet .entry))))) (r .told) (r .desk)) ⌝ }
+fn rest(sheet: &[u8], from: usize, first: Due, size: Desk) -> SheetReading
+    requires { ⌜ ((stated : Sheet) × OnDesk stated size) × (from ≤ length (now sheet)) × (1 ≤ from) × (length (now sheet) ≤ 32768) ⌝ }
+    ensures { λ r. ⌜ ((stated : Sheet) → OnDesk stated size → ReadsSheet (lines 2 first stated (split newline (drop from (now (sheet .entry))))) (r .told) (r .desk)) ⌝ }
 {
     let mut due = first;
     let mut desk = size;
@@ -84,7 +93,7 @@ fn rest(sheet: &[u8], from: usize, first: Due, size: Desk) -> Reading
         if sheet.len() <= end {
             return ending(due, desk, &sheet[at..end], number);
         }
-        let turn = later_line(due, desk, &sheet[at..end]);
+        let turn = later_line(due, desk, &sheet[at..end], number);
         let taken = turn.taken;
         match taken {
             Taken::No(why) => {
@@ -100,16 +109,16 @@ fn rest(sheet: &[u8], from: usize, first: Due, size: Desk) -> Reading
     }
 }
 
-// What a sheet of any length and content states, or its first fault.
-pub fn read(sheet: &[u8]) -> Reading
-    ensures { λ r. ⌜ Reads (meaning (now (sheet .entry))) (r .told) (r .desk) ⌝ }
+// What a sheet of any length and content states, or its first refusal.
+pub fn read(sheet: &[u8]) -> SheetReading
+    ensures { λ r. ⌜ ReadsSheet (sheetMeaning (now (sheet .entry))) (r .told) (r .desk) ⌝ }
 {
     if SHEET_MOST < sheet.len() {
-        return refused(Fault::Length, 0);
+        return refused(Refusal::SheetLength, 0);
     }
     let end = piece_end(sheet, 0, b'\n');
     if sheet.len() <= end {
-        return refused(Fault::Malformed, 1);
+        return refused(Refusal::Malformed(1), 1);
     }
     let turn = size_line(&sheet[..end]);
     let taken = turn.taken;

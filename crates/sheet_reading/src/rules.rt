@@ -1,12 +1,14 @@
 // The lines that state a right, `read P G F` and `write P G F`.
 use crate::desk::Desk;
-use crate::desk::Fault;
+use crate::desk::TABLES;
 use crate::desk::Turn;
 use crate::desk::at_fault;
 use crate::formulas::Place;
 use crate::formulas::formula_line;
 use book_block::Right;
+use ground::TABLE;
 use ground::peek;
+use refusal::Refusal;
 use sheet_words::among;
 use sheet_words::begins;
 ghost use mathlib.Core.Path.{_≡_};
@@ -15,10 +17,9 @@ ghost use lib.Dec.{T};
 ghost use lib.ListN.{length};
 ghost use Rattle.sheet_reading.specs.Sheet.{Sheet};
 ghost use Rattle.sheet_reading.specs.Rules.{isRule, ruleOf, ruleStep};
-ghost use Rattle.sheet_reading.specs.Desk.{Holds, slotOf, Steps};
+ghost use Rattle.sheet_reading.specs.Desk.{OnDesk, slotOf, Steps};
 
-// Whether the line states a right, where `word` is its first word with the space after it. For this
-// repository alone: the word has less than eight bytes.
+// Whether the line states a right, where `word` is its first word with the space after it.
 pub fn is_rule(word: &[u8], n: u8, m: u8, line: &[u8]) -> bool
     requires { ⌜ length (now word) < 8 ⌝ }
     ensures { λ r. ⌜ r ≡ isRule (now (word .entry)) n m (now (line .entry)) ⌝ }
@@ -43,26 +44,25 @@ pub fn is_rule(word: &[u8], n: u8, m: u8, line: &[u8]) -> bool
 fn slot_of(right: Right, setting: u8, post: u8) -> usize
     ensures { λ r. ⌜ r ≡ slotOf right setting post ⌝ }
 {
-    let look = 16 * (setting as usize) + 2 * (post as usize);
+    let look = TABLES * (setting as usize) + 2 * TABLE * (post as usize);
     match right {
-        Right::Look => look,
-        Right::Set => look + 1,
+        Right::Look => look / TABLE,
+        Right::Set => (look + TABLE) / TABLE,
     }
 }
 
-// A line that states a right. For this repository alone: `is_rule` says that it does, and the desk that
-// is given holds what some sheet has stated.
-pub fn rule_line(desk: Desk, right: Right, word: &[u8], line: &[u8]) -> Turn
-    requires { ⌜ ((sheet : Sheet) × Holds sheet desk) × (length (now word) < 8) × T (isRule (now word) (desk .settings) (desk .posts) (now line)) ⌝ }
-    ensures { λ r. ⌜ ((sheet : Sheet) → Holds sheet desk → Steps (ruleStep sheet (ruleOf (now (word .entry)) right (now (line .entry)))) (r .taken) (r .desk)) ⌝ }
+// A line that states a right, as `is_rule` says that it does.
+pub fn rule_line(desk: Desk, right: Right, word: &[u8], line: &[u8], number: usize) -> Turn
+    requires { ⌜ ((sheet : Sheet) × OnDesk sheet desk) × (length (now word) < 8) × T (isRule (now word) (desk .rules .settings) (desk .rules .posts) (now line)) ⌝ }
+    ensures { λ r. ⌜ ((sheet : Sheet) → OnDesk sheet desk → Steps (ruleStep number sheet (ruleOf (now (word .entry)) right (now (line .entry)))) (r .taken) (r .desk)) ⌝ }
 {
     let at = word.len();
     let setting = peek(line, at) - b'a';
     let post = peek(line, at + 2) - b'1';
     let slot = slot_of(right, setting, post);
-    let stated = desk.stated;
+    let stated = desk.rules.stated;
     if stated[slot] != 0 {
-        return at_fault(Fault::Twice);
+        return at_fault(Refusal::Twice(number));
     }
     let from = at + 4;
     formula_line(desk, Place::Slot(slot), &line[from..])

@@ -5,12 +5,12 @@ use native.Mathlib.Numerals.{add-one}
 use native.Mathlib.Omega.{arith}
 use lib.ListN.{take, drop}
 use lib.Seq.{length-take-le}
+use Rattle.refusal.specs.declared.Refusal.the-variants.{Malformed, SheetLength}
 use Rattle.sheet_words.specs.Words.{split, newline}
 use Rattle.sheet_words.proofs.Pieces.{piece-is}
-use Rattle.sheet_reading.specs.declared.desk.Fault.the-variants.{Malformed, Length}
 use Rattle.sheet_reading.specs.LineSteps.{sizeStep}
 use Rattle.sheet_reading.specs.Reading.{Meaning, lines}
-use Rattle.sheet_reading.specs.Reads.{Reads}
+use Rattle.sheet_reading.specs.Reads.{ReadsSheet}
 use Rattle.sheet_reading.proofs.ReadLaws.{faulted-by, went-on-by, refused-is, too-long, no-line, size-faults, size-goes-on}
 use borrow.Author.Needs.{needs}
 use Rattle.sheet_reading.proofs.read.Statement.{statement}
@@ -20,7 +20,11 @@ refused-requires : tie.Need-refused-requires
 refused-requires c κs = search needs
 
 returns : tie.Need-returns
-returns c = refused-is (c .refused .result .desk) Length 0 tt (too-long (c .before .before .before .args .sheet .now) (c .before .if1 .taken)) (c .refused .ensures)
+returns c =
+    let start : tie.Start = search in
+    let yes1 : tie.Then1 = search in
+    let s = start .args .sheet .now in
+    refused-is (c .refused .result .desk) SheetLength 0 (too-long s (yes1 .if1 .taken)) (c .refused .ensures)
 
 piece-end-requires : tie.Need-piece-end-requires
 piece-end-requires c κs = search needs
@@ -30,11 +34,23 @@ refused-requires-2 c κs = search needs
 
 returns-2 : tie.Need-returns-2
 returns-2 c =
-    let p = piece-is (c .before .before .before .before .before .args .sheet .now) 0 newline (c .before .before .piece-end .result) (omega arith) (c .before .before .piece-end .ensures) in
-    refused-is (c .refused2 .result .desk) Malformed 1 tt (no-line (c .before .before .before .before .before .args .sheet .now) (c .before .before .before .if1 .left) (c .before .before .piece-end .result) p (c .before .if2 .taken)) (c .refused2 .ensures)
+    let start : tie.Start = search in
+    let piece-end-point : tie.After-piece-end = search in
+    let no1 : tie.Else1 = search in
+    let yes2 : tie.Then2 = search in
+    let s = start .args .sheet .now in
+    let end = piece-end-point .piece-end in
+    let p = piece-is s 0 newline (end .result) (omega arith) (end .ensures) in
+    refused-is (c .refused2 .result .desk) (Malformed 1) 1 (no-line s (no1 .if1 .left) (end .result) p (yes2 .if2 .taken)) (c .refused2 .ensures)
 
 slice-aggregate-size-line : tie.Need-slice-aggregate-size-line
-slice-aggregate-size-line c = sym (length-take-le (c .before .before .piece-end .result) (c .before .before .before .before .before .args .sheet .now) (piece-is (c .before .before .before .before .before .args .sheet .now) 0 newline (c .before .before .piece-end .result) (omega arith) (c .before .before .piece-end .ensures) .within))
+slice-aggregate-size-line c =
+    let start : tie.Start = search in
+    let piece-end-point : tie.After-piece-end = search in
+    let s = start .args .sheet .now in
+    let end = piece-end-point .piece-end in
+    let p = piece-is s 0 newline (end .result) (omega arith) (end .ensures) in
+    sym (length-take-le (end .result) s (p .within))
 
 size-line-requires : tie.Need-size-line-requires
 size-line-requires c κs = search needs
@@ -53,21 +69,53 @@ add-rest c = search needs
 
 rest-requires : tie.Need-rest-requires
 rest-requires c κs =
-    let w = went-on-by (sizeStep (take (c .before .before .before .before .before .before .piece-end .result) (c .before .before .before .before .before .before .before .before .before .args .sheet .now))) (c .before .before .before .size-line .result .desk) (c .before .taken2 .given .1) (c .before .before .before .size-line .ensures) in
-    ((w .0, w .2), omega (arith, c .before .before .before .before .before .if2 .left), omega arith, c .before .before .before .before .before .before .before .if1 .left)
+    let start : tie.Start = search in
+    let piece-end-point : tie.After-piece-end = search in
+    let size-line-point : tie.After-size-line = search in
+    let taken2-point : tie.After-taken2 = search in
+    let no2 : tie.Else2 = search in
+    let no1 : tie.Else1 = search in
+    let s = start .args .sheet .now in
+    let end = piece-end-point .piece-end in
+    let p = piece-is s 0 newline (end .result) (omega arith) (end .ensures) in
+    let turn = size-line-point .size-line in
+    let w = went-on-by (sizeStep (take (end .result) s)) (turn .result .desk) (taken2-point .taken2 .given .1) (turn .ensures) in
+    ((w .0, w .2), omega (arith, no2 .if2 .left), omega arith, no1 .if1 .left)
 
 returns-3 : tie.Need-returns-3
 returns-3 c =
-    let p = piece-is (c .before .before .before .before .before .before .before .before .before .before .args .sheet .now) 0 newline (c .before .before .before .before .before .before .before .piece-end .result) (omega arith) (c .before .before .before .before .before .before .before .piece-end .ensures) in
-    let w = faulted-by (sizeStep (take (c .before .before .before .before .before .before .before .piece-end .result) (c .before .before .before .before .before .before .before .before .before .before .args .sheet .now))) (c .before .before .before .before .size-line .result .desk) (c .before .before .taken .given .1) (c .before .before .before .before .size-line .ensures) in
-    refused-is (c .refused3 .result .desk) (c .before .before .taken .given .0 .0) 1 (w .1) (size-faults (c .before .before .before .before .before .before .before .before .before .before .args .sheet .now) (c .before .before .before .before .before .before .before .before .if1 .left) (c .before .before .before .before .before .before .before .piece-end .result) p (c .before .before .before .before .before .before .if2 .left) (w .0)) (c .refused3 .ensures)
+    let start : tie.Start = search in
+    let piece-end-point : tie.After-piece-end = search in
+    let size-line-point : tie.After-size-line = search in
+    let taken-point : tie.After-taken = search in
+    let no1 : tie.Else1 = search in
+    let no2 : tie.Else2 = search in
+    let s = start .args .sheet .now in
+    let end = piece-end-point .piece-end in
+    let p = piece-is s 0 newline (end .result) (omega arith) (end .ensures) in
+    let turn = size-line-point .size-line in
+    let why = taken-point .taken .given in
+    let w = faulted-by (sizeStep (take (end .result) s)) (turn .result .desk) (why .1) (turn .ensures) in
+    refused-is (c .refused3 .result .desk) (why .0 .0) 1 (size-faults s (no1 .if1 .left) (end .result) p (no2 .if2 .left) w) (c .refused3 .ensures)
 
 returns-4 : tie.Need-returns-4
 returns-4 c =
-    let p = piece-is (c .before .before .before .before .before .before .before .before .before .before .args .sheet .now) 0 newline (c .before .before .before .before .before .before .before .piece-end .result) (omega arith) (c .before .before .before .before .before .before .before .piece-end .ensures) in
-    let w = went-on-by (sizeStep (take (c .before .before .before .before .before .before .before .piece-end .result) (c .before .before .before .before .before .before .before .before .before .before .args .sheet .now))) (c .before .before .before .before .size-line .result .desk) (c .before .before .taken2 .given .1) (c .before .before .before .before .size-line .ensures) in
-    subst (λ (o : Meaning). Reads o (c .rest .result .told) (c .rest .result .desk)) (sym (size-goes-on (c .before .before .before .before .before .before .before .before .before .before .args .sheet .now) (c .before .before .before .before .before .before .before .before .if1 .left) (c .before .before .before .before .before .before .before .piece-end .result) p (c .before .before .before .before .before .before .if2 .left) (w .1)))
-    (subst (λ (k : ℕ). Reads (lines 2 (c .before .before .taken2 .given .0 .0) (w .0) (split newline (drop k (c .before .before .before .before .before .before .before .before .before .before .args .sheet .now)))) (c .rest .result .told) (c .rest .result .desk)) (add-one (c .before .before .before .before .before .before .before .piece-end .result)) (c .rest .ensures (w .0) (w .2)))
+    let start : tie.Start = search in
+    let piece-end-point : tie.After-piece-end = search in
+    let size-line-point : tie.After-size-line = search in
+    let taken2-point : tie.After-taken2 = search in
+    let no1 : tie.Else1 = search in
+    let no2 : tie.Else2 = search in
+    let s = start .args .sheet .now in
+    let end = piece-end-point .piece-end in
+    let p = piece-is s 0 newline (end .result) (omega arith) (end .ensures) in
+    let turn = size-line-point .size-line in
+    let due = taken2-point .taken2 .given in
+    let w = went-on-by (sizeStep (take (end .result) s)) (turn .result .desk) (due .1) (turn .ensures) in
+    let told = c .rest .result .told in
+    let desk = c .rest .result .desk in
+    subst (λ (o : Meaning). ReadsSheet o told desk) (sym (size-goes-on s (no1 .if1 .left) (end .result) p (no2 .if2 .left) (w .1)))
+    (subst (λ (k : ℕ). ReadsSheet (lines 2 (due .0 .0) (w .0) (split newline (drop k s))) told desk) (add-one (end .result)) (c .rest .ensures (w .0) (w .2)))
 
 pub read-spec : {M : Type 1} → statement M
 read-spec =

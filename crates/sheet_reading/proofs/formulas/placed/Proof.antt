@@ -11,25 +11,53 @@ enum-known-place : tie.Need-enum-known-place
 enum-known-place c = search needs
 
 ruled-requires : tie.Need-ruled-requires
-ruled-requires c κs = let room = subst (λ (p : Place). Room p (c .before .before .before .before .args .desk)) (c .before .before .place .given .1) (c .before .before .before .before .pre .0) in (c .before .before .before .before .pre .1, room .0, room .1, room .2)
+ruled-requires c κs =
+    let start : tie.Start = search in
+    let place-point : tie.After-place = search in
+    let a = start .args in
+    let room = subst (λ (p : Place). Room p (a .desk)) (place-point .place .given .1) (start .pre .0) in
+    (start .pre .1, room .0, room .1, room .2)
 
 enum-told : tie.Need-enum-told
 enum-told c = search needs
 
+made-requires : tie.Need-made-requires
+made-requires c κs = search needs
+
 enum-told-2 : tie.Need-enum-told-2
 enum-told-2 c = search needs
 
-asked-requires : tie.Need-asked-requires
-asked-requires c κs = let room = subst (λ (p : Place). Room p (c .before .before .before .args .desk)) (c .before .enum-told2 .given .1) (c .before .before .before .pre .0) in (c .before .before .before .pre .1, room .0, room .1)
+learning-requires : tie.Need-learning-requires
+learning-requires c κs =
+    let start : tie.Start = search in
+    let enum-told2-point : tie.After-enum-told2 = search in
+    let a = start .args in
+    let room = subst (λ (p : Place). Room p (a .desk)) (enum-told2-point .enum-told2 .given .1) (start .pre .0) in
+    (start .pre .1, room .0, room .1)
 
 returns : tie.Need-returns
-returns c = (ap (λ (p : Place). Next (dueAfter p)) (sym (c .before .before .before .place .given .1)), c .ruled .ensures ∙ ap (λ (p : Place). placedDesk p (c .before .before .before .before .before .args .desk) (c .before .before .before .before .before .args .t3)) (sym (c .before .before .before .place .given .1)))
+returns c =
+    let start : tie.Start = search in
+    let place-point : tie.After-place = search in
+    let a = start .args in
+    let e = sym (place-point .place .given .1) in
+    (ap (λ (p : Place). Next (dueAfter p)) e, c .ruled .ensures ∙ ap (λ (p : Place). placedDesk p (a .desk) (a .t3)) e)
 
 returns-2 : tie.Need-returns-2
-returns-2 c = (ap (λ (p : Place). Next (dueAfter p)) (sym (c .enum-told .given .1)), ap (λ (p : Place). placedDesk p (c .before .before .args .desk) (c .before .before .args .t3)) (sym (c .enum-told .given .1)))
+returns-2 c =
+    let start : tie.Start = search in
+    let enum-told-point : tie.After-enum-told = search in
+    let a = start .args in
+    let e = sym (enum-told-point .enum-told .given .1) in
+    (ap (λ (p : Place). Next (dueAfter p)) e, c .made .ensures ∙ ap (λ (p : Place). placedDesk p (a .desk) (a .t3)) e)
 
 returns-3 : tie.Need-returns-3
-returns-3 c = (ap (λ (p : Place). Next (dueAfter p)) (sym (c .before .before .enum-told2 .given .1)), c .asked .ensures ∙ ap (λ (p : Place). placedDesk p (c .before .before .before .before .args .desk) (c .before .before .before .before .args .t3)) (sym (c .before .before .enum-told2 .given .1)))
+returns-3 c =
+    let start : tie.Start = search in
+    let enum-told2-point : tie.After-enum-told2 = search in
+    let a = start .args in
+    let e = sym (enum-told2-point .enum-told2 .given .1) in
+    (ap (λ (p : Place). Next (dueAfter p)) e, c .learning .ensures ∙ ap (λ (p : Place). placedDesk p (a .desk) (a .t3)) e)
 
 pub placed-spec : {M : Type 1} → statement M
 placed-spec =
@@ -38,8 +66,9 @@ placed-spec =
     enum-known-place
     ruled-requires
     enum-told
+    made-requires
     enum-told-2
-    asked-requires
+    learning-requires
     returns
     returns-2
     returns-3)

@@ -8,15 +8,17 @@ use Rattle.sheet_reading.proofs.formulas.put_table.Statement.{statement
 use Rattle.sheet_reading.proofs.formulas.put_table.Tie as tie
 
 copy-requires : tie.Need-copy-requires
-copy-requires c κs = (omega arith, omega arith)
+copy-requires c κs = search needs
 
 same-length : tie.Need-same-length
 same-length c = search needs
 
 returns : tie.Need-returns
 returns c =
-    let a = c .before .before .before .before .before .before .args in
-    c .before .before .copy .ensures ∙ ap (sets (now (a .room)) (a .at)) (take-all 16 (now (a .table)) (omega (arith, c .before .before .before .before .before .before .pre .0)))
+    let start : tie.Start = search in
+    let copied : tie.After-copy = search in
+    let a = start .args in
+    copied .copy .ensures ∙ ap (sets (now (a .room)) (a .at)) (take-all 16 (now (a .table)) (omega (arith, start .pre)))
 
 pub put-table-spec : {M : Type 1} → statement M
 put-table-spec = tie.close (tie.spec copy-requires same-length returns)

@@ -19,7 +19,9 @@ array-write-stated c = search needs
 
 returns : tie.Need-returns
 unfolding ruledDesk
-returns c = rw (c .before .before .put-table .ensures) refl
+returns c =
+    let put-table-point : tie.After-put-table = search in
+    rw (put-table-point .put-table .ensures) refl
 
 pub ruled-spec : {M : Type 1} → statement M
 ruled-spec =

@@ -2,8 +2,8 @@
 use mathlib.Core.Path.{sym, _∙_}
 use borrow.Author.Tests.{not-true, not-false}
 use Rattle.ground.specs.Text.{bytes}
+use Rattle.refusal.specs.declared.Refusal.the-variants.{Malformed}
 use Rattle.sheet_words.proofs.Fronts.{begins-length}
-use Rattle.sheet_reading.specs.declared.desk.Fault.the-variants.{Malformed}
 use Rattle.sheet_reading.proofs.Turns.{faulty}
 use Rattle.sheet_reading.proofs.LineTurns.{ask-other, ask-fifth, ask-read}
 use borrow.Author.Needs.{needs}
@@ -20,16 +20,35 @@ at-fault-requires : tie.Need-at-fault-requires
 at-fault-requires c κs = search needs
 
 returns : tie.Need-returns
-returns c = λ sheet h. faulty Malformed (c .at-fault .result .desk) tt (ask-other sheet (c .before .before .before .before .before .args .desk) h (c .before .before .before .before .before .args .line .now) (sym (c .before .before .begins .ensures) ∙ not-true _ (c .before .if1 .taken))) (c .at-fault .ensures)
+returns c =
+    let start : tie.Start = search in
+    let begins-point : tie.After-begins = search in
+    let yes1 : tie.Then1 = search in
+    let a = start .args in
+    λ sheet h. faulty (Malformed (a .number)) (c .at-fault .result .desk) (ask-other sheet (a .desk) h (a .line .now) (a .number) (sym (begins-point .begins .ensures) ∙ not-true _ (yes1 .if1 .taken))) (c .at-fault .ensures)
+
+cast-if2 : tie.Need-cast-if2
+cast-if2 c = search needs
 
 at-fault-requires-2 : tie.Need-at-fault-requires-2
 at-fault-requires-2 c κs = search needs
 
 returns-2 : tie.Need-returns-2
-returns-2 c = λ sheet h. faulty Malformed (c .at-fault2 .result .desk) tt (ask-fifth sheet (c .before .before .before .before .before .before .before .args .desk) h (c .before .before .before .before .before .before .before .args .line .now) (sym (c .before .before .before .before .begins .ensures) ∙ not-false _ (c .before .before .before .if1 .left)) (c .before .if2 .taken)) (c .at-fault2 .ensures)
+returns-2 c =
+    let start : tie.Start = search in
+    let begins-point : tie.After-begins = search in
+    let no1 : tie.Else1 = search in
+    let yes2 : tie.Then2 = search in
+    let a = start .args in
+    λ sheet h. faulty (Malformed (a .number)) (c .at-fault2 .result .desk) (ask-fifth sheet (a .desk) h (a .line .now) (a .number) (sym (begins-point .begins .ensures) ∙ not-false _ (no1 .if1 .left)) (yes2 .if2 .taken)) (c .at-fault2 .ensures)
 
 sub-formula-line : tie.Need-sub-formula-line
-sub-formula-line c = begins-length (bytes "ask ") (c .before .before .before .before .before .before .args .line .now) (sym (c .before .before .before .begins .ensures) ∙ not-false _ (c .before .before .if1 .left))
+sub-formula-line c =
+    let start : tie.Start = search in
+    let begins-point : tie.After-begins = search in
+    let no1 : tie.Else1 = search in
+    let a = start .args in
+    begins-length (bytes "ask ") (a .line .now) (sym (begins-point .begins .ensures) ∙ not-false _ (no1 .if1 .left))
 
 part-formula-line-start : tie.Need-part-formula-line-start
 part-formula-line-start c = sub-formula-line c
@@ -38,10 +57,19 @@ part-formula-line-end : tie.Need-part-formula-line-end
 part-formula-line-end c = search needs
 
 formula-line-requires : tie.Need-formula-line-requires
-formula-line-requires c κs = (c .before .if2 .left, c .before .before .before .before .before .before .before .pre .1 .learn-size)
+formula-line-requires c κs =
+    let no2 : tie.Else2 = search in
+    let start : tie.Start = search in
+    (no2 .if2 .left, start .pre .1 .asked .learn-size)
 
 returns-3 : tie.Need-returns-3
-returns-3 c = λ sheet h. ask-read sheet (c .before .before .before .before .before .before .before .before .args .desk) h (c .before .before .before .before .before .before .before .before .args .line .now) (c .formula-line .result .taken) (c .formula-line .result .desk) (sym (c .before .before .before .before .before .begins .ensures) ∙ not-false _ (c .before .before .before .before .if1 .left)) (c .before .before .if2 .left) (c .formula-line .ensures)
+returns-3 c =
+    let start : tie.Start = search in
+    let begins-point : tie.After-begins = search in
+    let no1 : tie.Else1 = search in
+    let no2 : tie.Else2 = search in
+    let a = start .args in
+    λ sheet h. ask-read sheet (a .desk) h (a .line .now) (a .number) (c .formula-line .result .taken) (c .formula-line .result .desk) (sym (begins-point .begins .ensures) ∙ not-false _ (no1 .if1 .left)) (no2 .if2 .left) (c .formula-line .ensures)
 
 pub ask-line-spec : {M : Type 1} → statement M
 ask-line-spec =
@@ -51,6 +79,7 @@ ask-line-spec =
     begins-requires
     at-fault-requires
     returns
+    cast-if2
     at-fault-requires-2
     returns-2
     sub-formula-line

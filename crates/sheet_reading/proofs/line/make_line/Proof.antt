@@ -2,8 +2,8 @@
 use mathlib.Core.Path.{sym, _∙_}
 use borrow.Author.Tests.{not-true, not-false}
 use Rattle.ground.specs.Text.{bytes}
+use Rattle.refusal.specs.declared.Refusal.the-variants.{Malformed}
 use Rattle.sheet_words.proofs.Fronts.{begins-length}
-use Rattle.sheet_reading.specs.declared.desk.Fault.the-variants.{Malformed}
 use Rattle.sheet_reading.proofs.Turns.{faulty}
 use Rattle.sheet_reading.proofs.LineTurns.{make-other, make-read}
 use borrow.Author.Needs.{needs}
@@ -20,10 +20,20 @@ at-fault-requires : tie.Need-at-fault-requires
 at-fault-requires c κs = search needs
 
 returns : tie.Need-returns
-returns c = λ sheet h. faulty Malformed (c .at-fault .result .desk) tt (make-other sheet (c .before .before .before .before .before .args .desk) h (c .before .before .before .before .before .args .line .now) (sym (c .before .before .begins .ensures) ∙ not-true _ (c .before .if1 .taken))) (c .at-fault .ensures)
+returns c =
+    let start : tie.Start = search in
+    let begins-point : tie.After-begins = search in
+    let yes1 : tie.Then1 = search in
+    let a = start .args in
+    λ sheet h. faulty (Malformed (a .number)) (c .at-fault .result .desk) (make-other sheet (a .desk) h (a .line .now) (a .number) (sym (begins-point .begins .ensures) ∙ not-true _ (yes1 .if1 .taken))) (c .at-fault .ensures)
 
 sub-formula-line : tie.Need-sub-formula-line
-sub-formula-line c = begins-length (bytes "make ") (c .before .before .before .before .args .line .now) (sym (c .before .begins .ensures) ∙ not-false _ (c .if1 .left))
+sub-formula-line c =
+    let start : tie.Start = search in
+    let begins-point : tie.After-begins = search in
+    let no1 : tie.Else1 = search in
+    let a = start .args in
+    begins-length (bytes "make ") (a .line .now) (sym (begins-point .begins .ensures) ∙ not-false _ (no1 .if1 .left))
 
 part-formula-line-start : tie.Need-part-formula-line-start
 part-formula-line-start c = sub-formula-line c
@@ -35,7 +45,12 @@ formula-line-requires : tie.Need-formula-line-requires
 formula-line-requires c κs = tt
 
 returns-2 : tie.Need-returns-2
-returns-2 c = λ sheet h. make-read sheet (c .before .before .before .before .before .before .args .desk) h (c .before .before .before .before .before .before .args .line .now) (c .formula-line .result .taken) (c .formula-line .result .desk) (sym (c .before .before .before .begins .ensures) ∙ not-false _ (c .before .before .if1 .left)) (c .formula-line .ensures)
+returns-2 c =
+    let start : tie.Start = search in
+    let begins-point : tie.After-begins = search in
+    let no1 : tie.Else1 = search in
+    let a = start .args in
+    λ sheet h. make-read sheet (a .desk) h (a .line .now) (a .number) (c .formula-line .result .taken) (c .formula-line .result .desk) (sym (begins-point .begins .ensures) ∙ not-false _ (no1 .if1 .left)) (c .formula-line .ensures)
 
 pub make-line-spec : {M : Type 1} → statement M
 make-line-spec =

@@ -20,10 +20,19 @@ slice-aggregate-rule-line : tie.Need-slice-aggregate-rule-line
 slice-aggregate-rule-line c = search needs
 
 rule-line-requires : tie.Need-rule-line-requires
-rule-line-requires c κs = (c .before .before .before .before .before .pre, lit< tt, true→T (sym (c .before .before .is-rule .ensures) ∙ c .before .if1 .taken))
+rule-line-requires c κs =
+    let start : tie.Start = search in
+    let is-rule-point : tie.After-is-rule = search in
+    let yes1 : tie.Then1 = search in
+    (start .pre, lit< tt, true→T (sym (is-rule-point .is-rule .ensures) ∙ yes1 .if1 .taken))
 
 returns : tie.Need-returns
-returns c = λ sheet h. subst (λ (s : Step). Steps s (c .rule-line .result .taken) (c .rule-line .result .desk)) (sym (rights-of sheet (c .before .before .before .before .before .before .args .desk) h (c .before .before .before .before .before .before .args .line .now) true _ (sym (c .before .before .before .is-rule .ensures) ∙ c .before .before .if1 .taken) refl)) (c .rule-line .ensures sheet h)
+returns c =
+    let start : tie.Start = search in
+    let is-rule-point : tie.After-is-rule = search in
+    let yes1 : tie.Then1 = search in
+    let a = start .args in
+    λ sheet h. subst (λ (s : Step). Steps s (c .rule-line .result .taken) (c .rule-line .result .desk)) (sym (rights-of sheet (a .desk) h (a .line .now) (a .number) true _ (sym (is-rule-point .is-rule .ensures) ∙ yes1 .if1 .taken) refl)) (c .rule-line .ensures sheet h)
 
 slice-aggregate-is-rule-2 : tie.Need-slice-aggregate-is-rule-2
 slice-aggregate-is-rule-2 c = search needs
@@ -35,16 +44,34 @@ slice-aggregate-rule-line-2 : tie.Need-slice-aggregate-rule-line-2
 slice-aggregate-rule-line-2 c = search needs
 
 rule-line-requires-2 : tie.Need-rule-line-requires-2
-rule-line-requires-2 c κs = (c .before .before .before .before .before .before .before .before .pre, lit< tt, true→T (sym (c .before .before .is-rule2 .ensures) ∙ c .before .if2 .taken))
+rule-line-requires-2 c κs =
+    let start : tie.Start = search in
+    let is-rule2-point : tie.After-is-rule2 = search in
+    let yes2 : tie.Then2 = search in
+    (start .pre, lit< tt, true→T (sym (is-rule2-point .is-rule2 .ensures) ∙ yes2 .if2 .taken))
 
 returns-2 : tie.Need-returns-2
-returns-2 c = λ sheet h. subst (λ (s : Step). Steps s (c .rule-line2 .result .taken) (c .rule-line2 .result .desk)) (sym (rights-of sheet (c .before .before .before .before .before .before .before .before .before .args .desk) h (c .before .before .before .before .before .before .before .before .before .args .line .now) false true (sym (c .before .before .before .before .before .before .is-rule .ensures) ∙ c .before .before .before .before .before .if1 .left) (sym (c .before .before .before .is-rule2 .ensures) ∙ c .before .before .if2 .taken))) (c .rule-line2 .ensures sheet h)
+returns-2 c =
+    let start : tie.Start = search in
+    let is-rule-point : tie.After-is-rule = search in
+    let no1 : tie.Else1 = search in
+    let is-rule2-point : tie.After-is-rule2 = search in
+    let yes2 : tie.Then2 = search in
+    let a = start .args in
+    λ sheet h. subst (λ (s : Step). Steps s (c .rule-line2 .result .taken) (c .rule-line2 .result .desk)) (sym (rights-of sheet (a .desk) h (a .line .now) (a .number) false true (sym (is-rule-point .is-rule .ensures) ∙ no1 .if1 .left) (sym (is-rule2-point .is-rule2 .ensures) ∙ yes2 .if2 .taken))) (c .rule-line2 .ensures sheet h)
 
 team-line-requires : tie.Need-team-line-requires
 team-line-requires c κs = search needs
 
 returns-3 : tie.Need-returns-3
-returns-3 c = λ sheet h. subst (λ (s : Step). Steps s (c .team-line .result .taken) (c .team-line .result .desk)) (sym (rights-of sheet (c .before .before .before .before .before .before .before .before .args .desk) h (c .before .before .before .before .before .before .before .before .args .line .now) false false (sym (c .before .before .before .before .before .is-rule .ensures) ∙ c .before .before .before .before .if1 .left) (sym (c .before .before .is-rule2 .ensures) ∙ c .before .if2 .left))) (c .team-line .ensures sheet h)
+returns-3 c =
+    let start : tie.Start = search in
+    let is-rule-point : tie.After-is-rule = search in
+    let no1 : tie.Else1 = search in
+    let is-rule2-point : tie.After-is-rule2 = search in
+    let no2 : tie.Else2 = search in
+    let a = start .args in
+    λ sheet h. subst (λ (s : Step). Steps s (c .team-line .result .taken) (c .team-line .result .desk)) (sym (rights-of sheet (a .desk) h (a .line .now) (a .number) false false (sym (is-rule-point .is-rule .ensures) ∙ no1 .if1 .left) (sym (is-rule2-point .is-rule2 .ensures) ∙ no2 .if2 .left))) (c .team-line .ensures sheet h)
 
 pub rights-line-spec : {M : Type 1} → statement M
 rights-line-spec =

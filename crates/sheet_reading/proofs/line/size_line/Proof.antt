@@ -3,11 +3,11 @@ use mathlib.Core.Path.{sym, _∙_, subst}
 use Prim.Native.Nat.{ℕ, _-_, _<_}
 use native.Mathlib.Omega.{arith}
 use borrow.Author.Tests.{not-true, not-false}
+use Rattle.refusal.specs.declared.Refusal.the-variants.{Malformed, SheetSettings}
 use Rattle.sheet_reading.specs.Steps.{sized}
-use Rattle.sheet_reading.specs.Desk.{Holds}
-use Rattle.sheet_reading.specs.declared.desk.Fault.the-variants.{Malformed, Settings}
-use Rattle.sheet_reading.proofs.Turns.{faulty, taken}
+use Rattle.sheet_reading.specs.Desk.{OnDesk}
 use Rattle.sheet_reading.specs.Forms.{digitAt}
+use Rattle.sheet_reading.proofs.Turns.{faulty, taken}
 use Rattle.sheet_reading.proofs.LineFormLaws.{size-bounds, digit-of}
 use Rattle.sheet_reading.proofs.LineStepLaws.{size-malformed, size-large, size-next}
 use borrow.Author.Needs.{needs}
@@ -21,35 +21,85 @@ at-fault-requires : tie.Need-at-fault-requires
 at-fault-requires c κs = search needs
 
 returns : tie.Need-returns
-returns c = faulty Malformed (c .at-fault .result .desk) tt (size-malformed (c .before .before .before .before .args .line .now) (sym (c .before .before .is-size .ensures) ∙ not-true _ (c .before .if1 .taken))) (c .at-fault .ensures)
+returns c =
+    let start : tie.Start = search in
+    let is-size-point : tie.After-is-size = search in
+    let yes1 : tie.Then1 = search in
+    let line = start .args .line .now in
+    let is = is-size-point .is-size .ensures in
+    faulty (Malformed 1) (c .at-fault .result .desk) (size-malformed line (sym is ∙ not-true _ (yes1 .if1 .taken))) (c .at-fault .ensures)
 
 peek-requires : tie.Need-peek-requires
 peek-requires c κs = search needs
 
 sub-settings : tie.Need-sub-settings
-sub-settings c = omega (arith, c .peek .ensures, size-bounds (c .before .before .before .before .args .line .now) (sym (c .before .before .is-size .ensures) ∙ not-false _ (c .before .if1 .left)) .0)
+sub-settings c =
+    let start : tie.Start = search in
+    let is-size-point : tie.After-is-size = search in
+    let no1 : tie.Else1 = search in
+    let line = start .args .line .now in
+    let is = is-size-point .is-size .ensures in
+    let z = size-bounds line (sym is ∙ not-false _ (no1 .if1 .left)) in
+    omega (arith, c .peek .ensures, z .0)
+
+cast-if2 : tie.Need-cast-if2
+cast-if2 c = search needs
 
 at-fault-requires-2 : tie.Need-at-fault-requires-2
 at-fault-requires-2 c κs = search needs
 
 returns-2 : tie.Need-returns-2
-returns-2 c = faulty Settings (c .at-fault2 .result .desk) tt (size-large (c .before .before .before .before .before .before .args .line .now) (sym (c .before .before .before .before .is-size .ensures) ∙ not-false _ (c .before .before .before .if1 .left)) (subst (λ (x : ℕ). 5 < x) (digit-of (c .before .before .before .before .before .before .args .line .now) 5 (c .before .before .peek .ensures)) (c .before .if2 .taken))) (c .at-fault2 .ensures)
+returns-2 c =
+    let start : tie.Start = search in
+    let is-size-point : tie.After-is-size = search in
+    let no1 : tie.Else1 = search in
+    let peek-point : tie.After-peek = search in
+    let yes2 : tie.Then2 = search in
+    let line = start .args .line .now in
+    let is = is-size-point .is-size .ensures in
+    faulty SheetSettings (c .at-fault2 .result .desk) (size-large line (sym is ∙ not-false _ (no1 .if1 .left)) (subst (λ (x : ℕ). 5 < x) (digit-of line 5 (peek-point .peek .ensures)) (yes2 .if2 .taken))) (c .at-fault2 .ensures)
 
 peek-requires-2 : tie.Need-peek-requires-2
 peek-requires-2 c κs = search needs
 
 sub-sized : tie.Need-sub-sized
-sub-sized c = omega (arith, c .peek2 .ensures, size-bounds (c .before .before .before .before .before .before .args .line .now) (sym (c .before .before .before .before .is-size .ensures) ∙ not-false _ (c .before .before .before .if1 .left)) .2)
+sub-sized c =
+    let start : tie.Start = search in
+    let is-size-point : tie.After-is-size = search in
+    let no1 : tie.Else1 = search in
+    let line = start .args .line .now in
+    let is = is-size-point .is-size .ensures in
+    let z = size-bounds line (sym is ∙ not-false _ (no1 .if1 .left)) in
+    omega (arith, c .peek2 .ensures, z .2)
 
 sized-requires : tie.Need-sized-requires
 sized-requires c κs =
-    let z = size-bounds (c .before .before .before .before .before .before .args .line .now) (sym (c .before .before .before .before .is-size .ensures) ∙ not-false _ (c .before .before .before .if1 .left)) in
-    (omega (arith, c .before .before .peek .ensures, z .0), c .before .if2 .left, omega (arith, c .peek2 .ensures, z .2), omega (arith, c .peek2 .ensures, z .3))
+    let start : tie.Start = search in
+    let is-size-point : tie.After-is-size = search in
+    let no1 : tie.Else1 = search in
+    let peek-point : tie.After-peek = search in
+    let no2 : tie.Else2 = search in
+    let line = start .args .line .now in
+    let is = is-size-point .is-size .ensures in
+    let z = size-bounds line (sym is ∙ not-false _ (no1 .if1 .left)) in
+    let n = peek-point .peek .ensures in
+    (omega (arith, n, z .0), no2 .if2 .left, omega (arith, c .peek2 .ensures, z .2), omega (arith, c .peek2 .ensures, z .3))
 
 returns-3 : tie.Need-returns-3
 returns-3 c =
-    taken (size-next (c .before .before .before .before .before .before .before .args .line .now) (sym (c .before .before .before .before .before .is-size .ensures) ∙ not-false _ (c .before .before .before .before .if1 .left)) (omega (arith, digit-of (c .before .before .before .before .before .before .before .args .line .now) 5 (c .before .before .before .peek .ensures), c .before .before .if2 .left)))
-    (subst (λ (x : ℕ). Holds (sized x (digitAt (c .before .before .before .before .before .before .before .args .line .now) 7)) (c .sized .result)) (digit-of (c .before .before .before .before .before .before .before .args .line .now) 5 (c .before .before .before .peek .ensures)) (subst (λ (x : ℕ). Holds (sized (c .before .before .before .peek .result - 48) x) (c .sized .result)) (digit-of (c .before .before .before .before .before .before .before .args .line .now) 7 (c .before .peek2 .ensures)) (c .sized .ensures)))
+    let start : tie.Start = search in
+    let is-size-point : tie.After-is-size = search in
+    let peek-point : tie.After-peek = search in
+    let peek2-point : tie.After-peek2 = search in
+    let no1 : tie.Else1 = search in
+    let no2 : tie.Else2 = search in
+    let line = start .args .line .now in
+    let is = is-size-point .is-size .ensures in
+    let n = peek-point .peek in
+    let five = digit-of line 5 (n .ensures) in
+    let seven = digit-of line 7 (peek2-point .peek2 .ensures) in
+    taken (size-next line (sym is ∙ not-false _ (no1 .if1 .left)) (omega (arith, five, no2 .if2 .left)))
+    (subst (λ (x : ℕ). OnDesk (sized x (digitAt line 7)) (c .sized .result)) five (subst (λ (x : ℕ). OnDesk (sized (n .result - 48) x) (c .sized .result)) seven (c .sized .ensures)))
 
 pub size-line-spec : {M : Type 1} → statement M
 size-line-spec =
@@ -60,6 +110,7 @@ size-line-spec =
     returns
     peek-requires
     sub-settings
+    cast-if2
     at-fault-requires-2
     returns-2
     peek-requires-2

@@ -2,7 +2,7 @@
 use mathlib.Core.Path.{ap}
 use Prim.Native.Nat.{ℕ, _-_}
 use native.Mathlib.Omega.{arith}
-use Rattle.sheet_reading.specs.declared.desk.Fault.the-variants.{Twice}
+use Rattle.refusal.specs.declared.Refusal.the-variants.{Twice}
 use Rattle.sheet_reading.proofs.FormLaws.{rule-bounds}
 use Rattle.sheet_reading.proofs.Turns.{faulty}
 use Rattle.sheet_reading.proofs.RuleTurns.{slot-fits, line-twice, line-read}
@@ -14,7 +14,13 @@ peek-requires : tie.Need-peek-requires
 peek-requires c κs = search needs
 
 sub-setting : tie.Need-sub-setting
-sub-setting c = omega (arith, c .peek .ensures, rule-bounds (c .before .before .before .args .word .now) (c .before .before .before .args .desk .settings) (c .before .before .before .args .desk .posts) (c .before .before .before .args .line .now) (c .before .before .before .pre .2) .setting-least)
+sub-setting c =
+    let start : tie.Start = search in
+    let a = start .args in
+    let w = a .word .now in
+    let line = a .line .now in
+    let b = rule-bounds w (a .desk .rules .settings) (a .desk .rules .posts) line (start .pre .2) in
+    omega (arith, c .peek .ensures, b .setting-least)
 
 add-peek : tie.Need-add-peek
 add-peek c = search needs
@@ -23,30 +29,62 @@ peek-requires-2 : tie.Need-peek-requires-2
 peek-requires-2 c κs = search needs
 
 sub-post : tie.Need-sub-post
-sub-post c = omega (arith, c .peek2 .ensures, rule-bounds (c .before .before .before .before .args .word .now) (c .before .before .before .before .args .desk .settings) (c .before .before .before .before .args .desk .posts) (c .before .before .before .before .args .line .now) (c .before .before .before .before .pre .2) .post-least)
+sub-post c =
+    let start : tie.Start = search in
+    let a = start .args in
+    let w = a .word .now in
+    let line = a .line .now in
+    let b = rule-bounds w (a .desk .rules .settings) (a .desk .rules .posts) line (start .pre .2) in
+    omega (arith, c .peek2 .ensures, b .post-least)
 
 slot-of-requires : tie.Need-slot-of-requires
 slot-of-requires c κs = search needs
 
 array-read-if1 : tie.Need-array-read-if1
 array-read-if1 c =
-    slot-fits (c .before .before .before .before .before .before .pre .0 .0) (c .before .before .before .before .before .before .args .desk) (c .before .before .before .before .before .before .pre .0 .1) (c .before .before .before .before .before .before .args .right) (c .before .before .before .before .before .before .args .word .now) (c .before .before .before .before .before .before .args .line .now) (rule-bounds (c .before .before .before .before .before .before .args .word .now) (c .before .before .before .before .before .before .args .desk .settings) (c .before .before .before .before .before .before .args .desk .posts) (c .before .before .before .before .before .before .args .line .now) (c .before .before .before .before .before .before .pre .2))
-    (c .before .before .before .peek .result - 97) (c .before .before .peek2 .result - 49) (ap (λ (x : ℕ). x - 97) (c .before .before .before .peek .ensures)) (ap (λ (x : ℕ). x - 49) (c .before .before .peek2 .ensures)) (c .before .slot-of .result) (c .before .slot-of .ensures)
+    let start : tie.Start = search in
+    let peek-point : tie.After-peek = search in
+    let peek2-point : tie.After-peek2 = search in
+    let slot-of-point : tie.After-slot-of = search in
+    let a = start .args in
+    let w = a .word .now in
+    let line = a .line .now in
+    let b = rule-bounds w (a .desk .rules .settings) (a .desk .rules .posts) line (start .pre .2) in
+    let p = peek-point .peek in
+    let q = peek2-point .peek2 in
+    let slot = slot-of-point .slot-of in
+    slot-fits (start .pre .0 .0) (a .desk) (start .pre .0 .1) (a .right) w line b (p .result - 97) (q .result - 49) (ap (λ (x : ℕ). x - 97) (p .ensures)) (ap (λ (x : ℕ). x - 49) (q .ensures)) (slot .result) (slot .ensures)
 
 at-fault-requires : tie.Need-at-fault-requires
 at-fault-requires c κs = search needs
 
 returns : tie.Need-returns
-returns c = λ sheet h.
-    faulty Twice (c .at-fault .result .desk) tt
-    (line-twice sheet (c .before .before .before .before .before .before .before .before .args .desk) h (c .before .before .before .before .before .before .before .before .args .right) (c .before .before .before .before .before .before .before .before .args .word .now) (c .before .before .before .before .before .before .before .before .args .line .now) (rule-bounds (c .before .before .before .before .before .before .before .before .args .word .now) (c .before .before .before .before .before .before .before .before .args .desk .settings) (c .before .before .before .before .before .before .before .before .args .desk .posts) (c .before .before .before .before .before .before .before .before .args .line .now) (c .before .before .before .before .before .before .before .before .pre .2))
-    (c .before .before .before .before .before .peek .result - 97) (c .before .before .before .before .peek2 .result - 49) (ap (λ (x : ℕ). x - 97) (c .before .before .before .before .before .peek .ensures)) (ap (λ (x : ℕ). x - 49) (c .before .before .before .before .peek2 .ensures)) (c .before .before .before .slot-of .result) (c .before .before .before .slot-of .ensures) (c .before .if1 .taken)) (c .at-fault .ensures)
+returns c =
+    let start : tie.Start = search in
+    let peek-point : tie.After-peek = search in
+    let peek2-point : tie.After-peek2 = search in
+    let slot-of-point : tie.After-slot-of = search in
+    let yes1 : tie.Then1 = search in
+    let a = start .args in
+    let w = a .word .now in
+    let line = a .line .now in
+    let b = rule-bounds w (a .desk .rules .settings) (a .desk .rules .posts) line (start .pre .2) in
+    let p = peek-point .peek in
+    let q = peek2-point .peek2 in
+    let slot = slot-of-point .slot-of in
+    λ sheet h. faulty (Twice (a .number)) (c .at-fault .result .desk) (line-twice sheet (a .desk) h (a .right) w line b (p .result - 97) (q .result - 49) (ap (λ (x : ℕ). x - 97) (p .ensures)) (ap (λ (x : ℕ). x - 49) (q .ensures)) (slot .result) (slot .ensures) (a .number) (yes1 .if1 .taken)) (c .at-fault .ensures)
 
 add-from : tie.Need-add-from
 add-from c = search needs
 
 sub-formula-line : tie.Need-sub-formula-line
-sub-formula-line c = rule-bounds (c .before .before .before .before .before .before .before .args .word .now) (c .before .before .before .before .before .before .before .args .desk .settings) (c .before .before .before .before .before .before .before .args .desk .posts) (c .before .before .before .before .before .before .before .args .line .now) (c .before .before .before .before .before .before .before .pre .2) .size
+sub-formula-line c =
+    let start : tie.Start = search in
+    let a = start .args in
+    let w = a .word .now in
+    let line = a .line .now in
+    let b = rule-bounds w (a .desk .rules .settings) (a .desk .rules .posts) line (start .pre .2) in
+    b .size
 
 part-formula-line-start : tie.Need-part-formula-line-start
 part-formula-line-start c = sub-formula-line c
@@ -55,18 +93,36 @@ part-formula-line-end : tie.Need-part-formula-line-end
 part-formula-line-end c = search needs
 
 formula-line-requires : tie.Need-formula-line-requires
-formula-line-requires c κs = (
-  slot-fits (c .before .before .before .before .before .before .before .before .pre .0 .0) (c .before .before .before .before .before .before .before .before .args .desk) (c .before .before .before .before .before .before .before .before .pre .0 .1) (c .before .before .before .before .before .before .before .before .args .right) (c .before .before .before .before .before .before .before .before .args .word .now) (c .before .before .before .before .before .before .before .before .args .line .now) (rule-bounds (c .before .before .before .before .before .before .before .before .args .word .now) (c .before .before .before .before .before .before .before .before .args .desk .settings) (c .before .before .before .before .before .before .before .before .args .desk .posts) (c .before .before .before .before .before .before .before .before .args .line .now) (c .before .before .before .before .before .before .before .before .pre .2))
-      (c .before .before .before .before .before .peek .result - 97) (c .before .before .before .before .peek2 .result - 49) (ap (λ (x : ℕ). x - 97) (c .before .before .before .before .before .peek .ensures)) (ap (λ (x : ℕ). x - 49) (c .before .before .before .before .peek2 .ensures)) (c .before .before .before .slot-of .result) (c .before .before .before .slot-of .ensures),
-  c .before .before .before .before .before .before .before .before .pre .0 .1 .rights-size,
-  c .before .before .before .before .before .before .before .before .pre .0 .1 .stated-size,
-)
+formula-line-requires c κs =
+    let start : tie.Start = search in
+    let peek-point : tie.After-peek = search in
+    let peek2-point : tie.After-peek2 = search in
+    let slot-of-point : tie.After-slot-of = search in
+    let a = start .args in
+    let w = a .word .now in
+    let line = a .line .now in
+    let b = rule-bounds w (a .desk .rules .settings) (a .desk .rules .posts) line (start .pre .2) in
+    let p = peek-point .peek in
+    let q = peek2-point .peek2 in
+    let slot = slot-of-point .slot-of in
+    let h = start .pre .0 in
+    (slot-fits (h .0) (a .desk) (h .1) (a .right) w line b (p .result - 97) (q .result - 49) (ap (λ (x : ℕ). x - 97) (p .ensures)) (ap (λ (x : ℕ). x - 49) (q .ensures)) (slot .result) (slot .ensures), h .1 .rules .rights-size, h .1 .rules .stated-size)
 
 returns-2 : tie.Need-returns-2
-returns-2 c = λ sheet h.
-    line-read sheet (c .before .before .before .before .before .before .before .before .before .args .desk) h (c .before .before .before .before .before .before .before .before .before .args .right) (c .before .before .before .before .before .before .before .before .before .args .word .now) (c .before .before .before .before .before .before .before .before .before .args .line .now) (rule-bounds (c .before .before .before .before .before .before .before .before .before .args .word .now) (c .before .before .before .before .before .before .before .before .before .args .desk .settings) (c .before .before .before .before .before .before .before .before .before .args .desk .posts) (c .before .before .before .before .before .before .before .before .before .args .line .now) (c .before .before .before .before .before .before .before .before .before .pre .2))
-    (c .before .before .before .before .before .before .peek .result - 97) (c .before .before .before .before .before .peek2 .result - 49) (ap (λ (x : ℕ). x - 97) (c .before .before .before .before .before .before .peek .ensures)) (ap (λ (x : ℕ). x - 49) (c .before .before .before .before .before .peek2 .ensures)) (c .before .before .before .before .slot-of .result) (c .before .before .before .before .slot-of .ensures) (c .before .before .if1 .left)
-    (c .formula-line .result .taken) (c .formula-line .result .desk) (c .formula-line .ensures)
+returns-2 c =
+    let start : tie.Start = search in
+    let peek-point : tie.After-peek = search in
+    let peek2-point : tie.After-peek2 = search in
+    let slot-of-point : tie.After-slot-of = search in
+    let no1 : tie.Else1 = search in
+    let a = start .args in
+    let w = a .word .now in
+    let line = a .line .now in
+    let b = rule-bounds w (a .desk .rules .settings) (a .desk .rules .posts) line (start .pre .2) in
+    let p = peek-point .peek in
+    let q = peek2-point .peek2 in
+    let slot = slot-of-point .slot-of in
+    λ sheet h. line-read sheet (a .desk) h (a .right) w line b (p .result - 97) (q .result - 49) (ap (λ (x : ℕ). x - 97) (p .ensures)) (ap (λ (x : ℕ). x - 49) (q .ensures)) (slot .result) (slot .ensures) (a .number) (no1 .if1 .left) (c .formula-line .result .taken) (c .formula-line .result .desk) (c .formula-line .ensures)
 
 pub rule-line-spec : {M : Type 1} → statement M
 rule-line-spec =

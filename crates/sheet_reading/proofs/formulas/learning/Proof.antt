@@ -1,9 +1,9 @@
--- `asked` meets its contract: the table is written, and counted.
+-- `learning` meets its contract: the table is written, and counted.
 use mathlib.Core.Path.{refl}
-use Rattle.sheet_reading.specs.Places.{askedDesk}
+use Rattle.sheet_reading.specs.Places.{learnDesk}
 use borrow.Author.Needs.{needs}
-use Rattle.sheet_reading.proofs.formulas.asked.Statement.{statement}
-use Rattle.sheet_reading.proofs.formulas.asked.Tie as tie
+use Rattle.sheet_reading.proofs.formulas.learning.Statement.{statement}
+use Rattle.sheet_reading.proofs.formulas.learning.Tie as tie
 
 slice-aggregate-put-table : tie.Need-slice-aggregate-put-table
 slice-aggregate-put-table c = search needs
@@ -17,20 +17,22 @@ mul-put-table c = search needs
 put-table-requires : tie.Need-put-table-requires
 put-table-requires c κs = search needs
 
-add-next : tie.Need-add-next
-add-next c = search needs
+add-asked : tie.Need-add-asked
+add-asked c = search needs
 
 returns : tie.Need-returns
-unfolding askedDesk
-returns c = rw (c .before .before .put-table .ensures) refl
+unfolding learnDesk
+returns c =
+    let put-table-point : tie.After-put-table = search in
+    rw (put-table-point .put-table .ensures) refl
 
-pub asked-spec : {M : Type 1} → statement M
-asked-spec =
+pub learning-spec : {M : Type 1} → statement M
+learning-spec =
     tie.close
     (tie.spec
     slice-aggregate-put-table
     cast-put-table
     mul-put-table
     put-table-requires
-    add-next
+    add-asked
     returns)

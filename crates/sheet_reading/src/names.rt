@@ -1,0 +1,131 @@
+// The lines that name things: `team G ..` and `known`.
+use crate::desk::Desk;
+use crate::desk::Due;
+use crate::desk::Taken;
+use crate::desk::Turn;
+use crate::desk::at_fault;
+use ground::peek;
+use refusal::Refusal;
+use sheet_words::Marks;
+use sheet_words::Naming;
+use sheet_words::begins;
+use sheet_words::marks_of;
+ghost use mathlib.Core.Path.{_≡_};
+ghost use Prim.Native.Nat.{_≤_};
+ghost use Rattle.sheet_words.specs.Marks.{Names};
+ghost use Rattle.sheet_reading.specs.Sheet.{Sheet};
+ghost use Rattle.sheet_reading.specs.Desk.{OnDesk, Steps};
+ghost use Rattle.sheet_reading.specs.Forms.{isNames, nameWords};
+ghost use Rattle.sheet_reading.specs.Names.{NamesTaken};
+ghost use Rattle.sheet_reading.specs.LineSteps.{teamStep, knownStep};
+
+// What becomes of a line that is to name things.
+pub enum Named {
+    // It names these, each once.
+    As(Marks),
+    // It is at fault.
+    Not(Refusal),
+}
+
+// What the line names after `word`, where it has that form: the word may stand `alone` or not, names may
+// be `signed` with `~` or not, and are the `count` signs from `first` on.
+fn names_in(word: &[u8], alone: bool, signed: bool, first: u8, count: u8, line: &[u8]) -> Naming
+    requires { ⌜ count ≤ 8 ⌝ }
+    ensures { λ r. ⌜ Names (isNames (now (word .entry)) alone signed first count (now (line .entry))) first (nameWords (now (word .entry)) (now (line .entry))) r ⌝ }
+{
+    if !begins(word, line) {
+        return Naming::Stray;
+    }
+    let at = word.len();
+    if line.len() == at {
+        if alone {
+            return Naming::Of(Marks {
+                named: 0,
+                values: 0,
+                twice: false,
+            });
+        }
+        return Naming::Stray;
+    }
+    if peek(line, at) != b' ' {
+        return Naming::Stray;
+    }
+    let from = at + 1;
+    marks_of(signed, first, count, &line[from..])
+}
+
+// The same, with the fault of a line that has not the form, or names a thing twice.
+fn names_line(
+    word: &[u8],
+    alone: bool,
+    signed: bool,
+    first: u8,
+    count: u8,
+    line: &[u8],
+    number: usize,
+) -> Named
+    requires { ⌜ count ≤ 8 ⌝ }
+    ensures { λ r. ⌜ NamesTaken number (isNames (now (word .entry)) alone signed first count (now (line .entry))) first (nameWords (now (word .entry)) (now (line .entry))) r ⌝ }
+{
+    let naming = names_in(word, alone, signed, first, count, line);
+    match naming {
+        Naming::Stray => Named::Not(Refusal::Malformed(number)),
+        Naming::Of(marks) => {
+            if marks.twice {
+                return Named::Not(Refusal::Twice(number));
+            }
+            Named::As(marks)
+        }
+    }
+}
+
+// The line `team G ..`.
+pub fn team_line(desk: Desk, line: &[u8], number: usize) -> Turn
+    requires { ⌜ ((sheet : Sheet) × OnDesk sheet desk) ⌝ }
+    ensures { λ r. ⌜ ((sheet : Sheet) → OnDesk sheet desk → Steps (teamStep number sheet (now (line .entry))) (r .taken) (r .desk)) ⌝ }
+{
+    let named = names_line(b"team", false, false, b'1', desk.rules.posts, line, number);
+    match named {
+        Named::Not(why) => at_fault(why),
+        Named::As(marks) => {
+            let mut asked = desk.asked;
+            asked.team = marks.named;
+            let mut next = desk;
+            next.asked = asked;
+            Turn {
+                taken: Taken::Next(Due::Known),
+                desk: next,
+            }
+        }
+    }
+}
+
+// The line `known`.
+pub fn known_line(desk: Desk, line: &[u8], number: usize) -> Turn
+    requires { ⌜ ((sheet : Sheet) × OnDesk sheet desk) ⌝ }
+    ensures { λ r. ⌜ ((sheet : Sheet) → OnDesk sheet desk → Steps (knownStep number sheet (now (line .entry))) (r .taken) (r .desk)) ⌝ }
+{
+    let named = names_line(
+        b"known",
+        true,
+        true,
+        b'a',
+        desk.rules.settings,
+        line,
+        number,
+    );
+    match named {
+        Named::Not(why) => at_fault(why),
+        Named::As(marks) => {
+            let mut asked = desk.asked;
+            asked.known = marks.named;
+            asked.values = marks.values;
+            let mut next = desk;
+            next.asked = asked;
+            Turn {
+                taken: Taken::Next(Due::Make),
+                desk: next,
+            }
+        }
+    }
+}
