@@ -1,4 +1,4 @@
--- `acts::act::of_kind` meets its contract: by the kind.
+-- `knowledge_acts::act::of_kind` meets its contract: by the kind.
 use mathlib.Core.Path.{sym}
 use Rattle.knowledge_acts.proofs.Acts.{kind-look}
 use Rattle.knowledge_acts.proofs.act.of_kind.Statement.{statement}

@@ -1,4 +1,4 @@
--- `acts::act::offers` meets its contract: by the two tests.
+-- `knowledge_acts::act::offers` meets its contract: by the two tests.
 use borrow.Author.Needs.{needs}
 use borrow.Author.Tests.{lt-ltb, le-ltb}
 use Rattle.knowledge_acts.proofs.act.offers.Statement.{statement}

@@ -1,4 +1,4 @@
--- `acts::digit::after_look` meets its contract: the two outcomes.
+-- `knowledge_acts::digit::after_look` meets its contract: the two outcomes.
 use Rattle.knowledge_acts.specs.Seven.{afterLook}
 use Rattle.knowledge_acts.proofs.digit.after_look.Statement.{statement}
 use Rattle.knowledge_acts.proofs.digit.after_look.Tie as tie

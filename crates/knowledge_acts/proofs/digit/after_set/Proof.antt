@@ -1,4 +1,4 @@
--- `acts::digit::after_set` meets its contract: the constant table agrees with the table of specs/, by a test at each digit.
+-- `knowledge_acts::digit::after_set` meets its contract: the constant table agrees with the table of specs/, by a test at each digit.
 use borrow.Author.Needs.{needs}
 use mathlib.Core.List.{List, [], _∷_}
 use mathlib.Core.Path.{_≡_, sym}

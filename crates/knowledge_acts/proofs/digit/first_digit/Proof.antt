@@ -1,4 +1,4 @@
--- `acts::digit::first_digit` meets its contract: a known start value has the digit that a look gives.
+-- `knowledge_acts::digit::first_digit` meets its contract: a known start value has the digit that a look gives.
 use borrow.Author.Needs.{needs}
 use mathlib.Core.Path.{_∙_, sym}
 use Rattle.knowledge_acts.specs.Seven.{firstDigit}

@@ -1,4 +1,4 @@
--- `acts::digit::now_side` meets its contract: an odd digit tells false, an even one but 0 tells true.
+-- `knowledge_acts::digit::now_side` meets its contract: an odd digit tells false, an even one but 0 tells true.
 use mathlib.Core.Path.{sym}
 use Rattle.knowledge_acts.specs.Seven.{nowTold}
 use Rattle.knowledge_acts.proofs.Seven.{now-past, now-odd, now-even}

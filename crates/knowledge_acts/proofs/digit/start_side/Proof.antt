@@ -1,4 +1,4 @@
--- `acts::digit::start_side` meets its contract: the digits stand in the order of what they tell of the start.
+-- `knowledge_acts::digit::start_side` meets its contract: the digits stand in the order of what they tell of the start.
 use mathlib.Core.Path.{sym}
 use native.Mathlib.Omega.{arith}
 use Rattle.knowledge_acts.proofs.Seven.{start-low, start-middle, start-high, start-past}

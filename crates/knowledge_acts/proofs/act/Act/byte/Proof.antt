@@ -1,4 +1,4 @@
--- `acts::Act::byte` meets its contract: by the kind of act.
+-- `knowledge_acts::Act::byte` meets its contract: by the kind of act.
 use borrow.Author.Needs.{needs}
 use Rattle.knowledge_acts.specs.Acts.{planByte, byteOf}
 use Rattle.knowledge_acts.proofs.act.Act.byte.Statement.{statement}

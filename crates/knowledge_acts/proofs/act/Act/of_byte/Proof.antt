@@ -1,4 +1,4 @@
--- `acts::Act::of_byte` meets its contract: by the tests of the byte.
+-- `knowledge_acts::Act::of_byte` meets its contract: by the tests of the byte.
 use borrow.Author.Needs.{needs}
 use mathlib.Core.Path.{ap}
 use native.Mathlib.Omega.{arith}

@@ -1,4 +1,4 @@
--- `acts::Act::offered` meets its contract: by that of the call, for either kind of act.
+-- `knowledge_acts::Act::offered` meets its contract: by that of the call, for either kind of act.
 use borrow.Author.Needs.{needs}
 use Rattle.knowledge_acts.specs.Acts.{offered}
 use Rattle.knowledge_acts.proofs.act.Act.offered.Statement.{statement}
