@@ -20,6 +20,12 @@ unfolding tablePlace
 place-most q Look h = omega arith
 place-most q Set h = omega arith
 
+-- and for any post of a byte it begins below 2^14
+pub place-small : (q : ℕ) (right : Right) → q < 256 → tablePlace q right < 16384
+unfolding tablePlace
+place-small q Look h = omega arith
+place-small q Set h = omega arith
+
 -- the rule of setting i is a table of block 1 + i
 pub rule-table : (book : List ℕ) (i q : ℕ) (right : Right) → q < 8 → 512 * (2 + i) ≤ length book → rule book i q right ≡ table (block book (1 + i)) q right
 unfolding rule rulePlace table block

@@ -7,7 +7,7 @@ use lib.ListN.{drop, replicate}
 use Rattle.book_block.specs.declared.sums.Sums.{Sums}
 use Rattle.book_block.specs.Check.{check, sumsAfter, added}
 use Rattle.book_block.specs.declared.rule.Right.{Right}
-use Rattle.book_block.specs.Rule.{rulePlace}
+use Rattle.book_block.specs.Rule.{tablePlace, rulePlace}
 use Rattle.book_block.specs.Sealed.{sealedAt}
 use Rattle.ground.specs.Tells.{Tells}
 
@@ -15,7 +15,10 @@ use Rattle.ground.specs.Tells.{Tells}
 pub check-one : (bytes : List ℕ) (from : ℕ) (a b : Sums) → a ≡ check (drop from bytes) → b ≡ check (drop from bytes) → a ≡ b
 check-one bytes from a b p q = p ∙ sym q
 
--- `rule_at`
+-- `table_at` and `rule_at`
+pub table-at-one : (post : ℕ) (right : Right) (a b : ℕ) → a ≡ tablePlace post right → b ≡ tablePlace post right → a ≡ b
+table-at-one post right a b p q = p ∙ sym q
+
 pub rule-at-one : (book : List ℕ) (setting post : ℕ) (right : Right) (a b : ℕ) → a ≡ rulePlace book setting post right
     → b ≡ rulePlace book setting post right → a ≡ b
 rule-at-one book setting post right a b p q = p ∙ sym q

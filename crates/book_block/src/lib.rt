@@ -11,6 +11,7 @@ mod sums;
 pub use bytes::are_zeros;
 pub use rule::Right;
 pub use rule::rule_at;
+pub use rule::table_at;
 pub use stray::are_tables;
 pub use stray::is_setting;
 pub use sums::Sums;

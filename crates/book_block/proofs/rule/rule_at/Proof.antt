@@ -1,49 +1,31 @@
--- `book_block::rule_at` meets its contract: in each arm of the `match` the right is the one that the place was added up for.
+-- `book_block::rule::rule_at` meets its contract: the setting's block, and the place of the table in it.
 use borrow.Author.Needs.{needs}
+use mathlib.Core.Path.{ap}
+use Prim.Native.Nat.{ℕ, _+_, _*_}
 use native.Mathlib.Omega.{arith}
-use Rattle.book_block.specs.Rule.{rulePlace, tablePlace}
+use Rattle.book_block.specs.Rule.{rulePlace}
+use Rattle.book_block.proofs.RuleLaws.{place-small}
 use Rattle.book_block.proofs.rule.rule_at.Statement.{statement}
 use Rattle.book_block.proofs.rule.rule_at.Tie as tie
-
-add-place : tie.Need-add-place
-add-place c = search needs
-
-mul-place : tie.Need-mul-place
-mul-place c = search needs
-
-mul-place-2 : tie.Need-mul-place-2
-mul-place-2 c = search needs
-
-add-place-2 : tie.Need-add-place-2
-add-place-2 c = search needs
-
-enum-told : tie.Need-enum-told
-enum-told c = search needs
-
-enum-told-2 : tie.Need-enum-told-2
-enum-told-2 c = search needs
 
 add-result : tie.Need-add-result
 add-result c = search needs
 
-returns : tie.Need-returns
-unfolding rulePlace tablePlace
-returns c = rw (c .enum-told .given .1)
+mul-result : tie.Need-mul-result
+mul-result c = search needs
 
-returns-2 : tie.Need-returns-2
-unfolding rulePlace tablePlace
-returns-2 c = rw (c .enum-told2 .given .1) (omega arith)
+table-at-requires : tie.Need-table-at-requires
+table-at-requires c κs = search needs
+
+add-result-2 : tie.Need-add-result-2
+add-result-2 c =
+    let start = c .before .before in
+    let a = start .args in
+    omega (arith, c .table-at .ensures, place-small (a .post) (a .right) (omega (arith, start .fits .post)))
+
+returns : tie.Need-returns
+unfolding rulePlace
+returns c = ap (λ (k : ℕ). 512 * (1 + c .before .before .args .setting) + k) (c .table-at .ensures)
 
 pub rule-at-spec : {M : Type 1} → statement M
-rule-at-spec =
-    tie.close
-    (tie.spec
-    add-place
-    mul-place
-    mul-place-2
-    add-place-2
-    enum-told
-    enum-told-2
-    add-result
-    returns
-    returns-2)
+rule-at-spec = tie.close (tie.spec add-result mul-result table-at-requires add-result-2 returns)
