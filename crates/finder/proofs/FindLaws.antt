@@ -1,61 +1,34 @@
--- From the tables filled to what `find` gives: the start, the rank table, and refusals 6 to 13.
-use mathlib.Core.Path.{_≡_, refl, sym, _∙_, subst}
-use mathlib.Core.Logic.{inl, inr}
-use mathlib.Core.List.{List}
+-- Refusals 6 to 13 in their order: a question's own come first, and a valid question leaves 13 alone.
+use mathlib.Core.Path.{sym, subst}
+use mathlib.Core.List.{List, [], _∷_}
 use Prim.Native.Nat.{ℕ, _^_, _≤_, _<_}
 use native.Mathlib.Omega.{arith}
-use lib.Dec.{lit<}
 use lib.ListN.{length}
-use Rattle.ground.specs.Digits.{bit}
-use Rattle.ground.proofs.Bools.{T→false, decide}
-use Rattle.knowledge_acts.specs.Seven.{firstDigit}
-use Rattle.knowledge_acts.proofs.Seven.{first-lt}
-use Rattle.knowledge.specs.Number.{firstAt}
-use Rattle.knowledge.proofs.Number.{sum-lt, sum-short}
-use Rattle.ground.specs.Order.{First}
-use Rattle.ground.proofs.OrderLaws.{least-only, first-left, first-right}
+use Rattle.refusal.specs.declared.Refusal.{Refusal}
+use Rattle.refusal.specs.declared.Refusal.the-variants.{RankRoom}
+use Rattle.refusal.specs.Order.{when, First, Clear}
+use Rattle.refusal.proofs.OrderLaws.{first-left, first-right, first-when, clear-append, clear-when, clear-none}
+use Rattle.book_sound.specs.Refusals.{settingsOf}
 use Rattle.book_sound.proofs.SoundLaws.{sound-settings}
-use Rattle.plan.specs.Plans.{System}
-use Rattle.finder_sides.specs.Over.{Marks}
-use Rattle.finder_ranks.specs.Spread.{Spread}
-use Rattle.question.specs.Question.{startNumber}
-use Rattle.question.specs.Rows.{KnownFits, questionRows}
+use Rattle.knowledge.specs.Goal.{Goal}
+use Rattle.question.specs.Rows.{questionRows}
 use Rattle.question.specs.Asks.{ValidQuestion}
-use Rattle.finder.specs.Finds.{RanksFilled, findRows}
-use Rattle.finder.specs.Told.{Told}
 use Rattle.question.specs.declared.Question.{Question}
 use Rattle.question.proofs.RowLaws.{question-clear}
+use Rattle.finder.specs.Finds.{findRows}
 
--- ---- the start
+pub early : (book : List ℕ) (q : Question) (goal : Goal) (ranks : List ℕ) {r : Refusal} → First (questionRows book q goal) r
+    → First (findRows book q goal ranks) r
+unfolding findRows
+early book q goal ranks f = first-left (when (length ranks < 7 ^ settingsOf book) (RankRoom 0) ∷ []) f
 
-pub start-below : (n known values : ℕ) → n ≤ 7 → KnownFits n known values → startNumber known values < 7 ^ n
-unfolding startNumber firstAt firstDigit
-start-below n known values few fits =
-    subst (λ (x : ℕ). x < 7 ^ n) (sym (sum-short 7 (firstAt known values) 7 n few past))
-    (sum-lt (lit< tt) (firstAt known values) n (λ i h. first-lt (bit known i) (bit values i)))
-  where
-    past : (i : ℕ) → n ≤ i → i < 7 → firstAt known values i ≡ 0
-    past i l h = elim (decide (bit known i)) [
-      | inl t ↦ absurd (omega (arith, fits .settings i t))
-      | inr t ↦ rw (T→false (bit known i) t) refl
-    ]
-
--- ---- the rank table
-
-pub filled : {n : ℕ} {S : System} {sets′ looks : List (List ℕ)} {made learnt old marks ranks : List ℕ} → Marks n made learnt old marks → Spread n sets′ looks marks ranks
-    → Told n sets′ looks ranks S → RanksFilled n S old ranks
-filled m s t = record { size = s .same-length ∙ m .long; ranks = t .ranked; later = λ j h. s .beyond j h ∙ m .kept j h }
-
--- ---- refusals 6 to 13
-
-module _ (book : List ℕ) (q : Question) (make learn ranks : List ℕ) where
-  pub early : (x p : ℕ) → First (questionRows book (q .team) (q .known) (q .values) make learn) x p → First (findRows book (q .team) (q .known) (q .values) make learn ranks) x p
+module _ {book : List ℕ} {q : Question} {goal : Goal} {n m : ℕ} (v : ValidQuestion book q goal n m) (ranks : List ℕ) where
+  pub short-table : length ranks < 7 ^ n → First (findRows book q goal ranks) (RankRoom 0)
   unfolding findRows
-  early x p f = first-left (questionRows book (q .team) (q .known) (q .values) make learn) _ x p f
+  short-table l = first-right (question-clear v) (first-when (subst (λ (n : ℕ). length ranks < 7 ^ n) (sym (sound-settings (v .sound))) l))
 
-  pub short-table : {n m : ℕ} → ValidQuestion book q make learn n m → length ranks < 7 ^ n → First (findRows book (q .team) (q .known) (q .values) make learn ranks) 13 0
+  pub find-clear : 7 ^ n ≤ length ranks → Clear (findRows book q goal ranks)
   unfolding findRows
-  short-table {n} v l =
-      first-right (questionRows book (q .team) (q .known) (q .values) make learn) _ 13 0
-      (question-clear book (q .team) (q .known) (q .values) make learn (v .sound) (v .team) (v .known) (v .goal))
-      (inl (refl, least-only (subst (λ (n : ℕ). length ranks < 7 ^ n) (sym (sound-settings (v .sound))) l)))
+  find-clear h =
+      clear-append (question-clear v)
+      (clear-when (λ l. omega (arith, h, subst (λ (x : ℕ). length ranks < 7 ^ x) (sound-settings (v .sound)) l)) clear-none)

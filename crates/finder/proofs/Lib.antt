@@ -1,11 +1,10 @@
--- The laws of one step and of the plan written.
--- The laws of an answer, and that it is one alone.
--- The laws and theorems of the finder.
-pub mod StepLaws
-pub mod PlanLaws
-pub mod StartLaws
-pub mod Unique
-pub mod Tables
-pub mod FindLaws
-pub mod Small
+-- The theorems of the finder, that its answer is one alone, and how far its refusals' places and its plans go; then the laws of its functions: the
+-- refusals in their order, what the tables tell, a step, the plan written, the answer from the start.
 pub mod Theorems
+pub mod Unique
+pub mod Small
+pub mod FindLaws
+mod Tables
+mod StepLaws
+mod PlanLaws
+mod StartLaws

@@ -22,21 +22,21 @@ use Rattle.plan.proofs.Certificate.{numbers-closed}
 use Rattle.plan.proofs.Table.{lowers-out}
 use Rattle.plan.proofs.Written.{written-exists}
 use Rattle.plan.proofs.Accepted.{written-most}
-use Rattle.finder.specs.Told.{Told, Lower, Chooses, Ranked, Room}
+use Rattle.finder.specs.Tables.{TablesTell, Lower, Chooses, Ranked, PlanFits}
 use Rattle.finder.specs.declared.steps.Step.the-variants.{Stop}
 
 module _ {n : ℕ} {sets′ looks : List (List ℕ)} {ranks : List ℕ} where
   -- the act chosen leads to lower entries
-  chosen-lower : {S : System} {k : ℕ} {a : Act} → Told n sets′ looks ranks S → k < 7 ^ n → Chosen S k a → Lower S ranks k a
+  chosen-lower : {S : System} {k : ℕ} {a : Act} → TablesTell n sets′ looks ranks S → k < 7 ^ n → Chosen S k a → Lower S ranks k a
   chosen-lower {S} {k} {a} t h c =
       subst (λ (r : ℕ). Leads S (λ x. getD ranks x 0) k r a) (rank-unique S k (c .is-rank) (t .ranked k h))
       (lowers-out (numbers-closed (t .law)) (t .ranked) k (c .rank) a h (c .lowers))
 
-  chosen-setting : {S : System} {k : ℕ} {a : Act} → Told n sets′ looks ranks S → Chosen S k a → settingOf a < n
+  chosen-setting : {S : System} {k : ℕ} {a : Act} → TablesTell n sets′ looks ranks S → Chosen S k a → settingOf a < n
   chosen-setting {S} {k} {a} t c = t .law .setting-of k a (c .lowers .allowed)
 
   -- where no act leads lower, the rank is 0
-  stop-rank : {S : System} {k : ℕ} → Told n sets′ looks ranks S → k < 7 ^ n → getD ranks k 0 < 255 → ((a : Act) → Lower S ranks k a → ⊥) → IsRank S k 0
+  stop-rank : {S : System} {k : ℕ} → TablesTell n sets′ looks ranks S → k < 7 ^ n → getD ranks k 0 < 255 → ((a : Act) → Lower S ranks k a → ⊥) → IsRank S k 0
   stop-rank {S} {k} t h f none = first (written-exists (t .law) (t .few) k (getD ranks k 0) (t .ranked k h) f)
     where
       first : (p : Plan) × Written S k p → IsRank S k 0
@@ -82,27 +82,27 @@ module _ {n : ℕ} {sets′ looks : List (List ℕ)} {ranks : List ℕ} where
     step-byte a c = plan-byte a (step-setting a c) (from .told .law .post-of k a (c .lowers .allowed))
 
     -- a plan written from k has at most 32,640 bytes
-    pub most : {r : ℕ} → ((S : System) → Told n sets′ looks ranks S → (p : Plan) × Written S k p × (r ≡ length (encode p))) → r ≤ 32640
+    pub most : {r : ℕ} → ((S : System) → TablesTell n sets′ looks ranks S → (p : Plan) × Written S k p × (r ≡ length (encode p))) → r ≤ 32640
     most f =
         let x = f (from .system) (from .told) in
         omega (arith, x .2, written-most (from .told .law) (from .few) k (x .0) (getD ranks k 0) (x .1) (from .told .ranked k (from .state)) (from .finite))
 
-    pub stop-plan : (S : System) → Told n sets′ looks ranks S → Chooses S ranks k Stop → Written S k stop
+    pub stop-plan : (S : System) → TablesTell n sets′ looks ranks S → Chooses S ranks k Stop → Written S k stop
     stop-plan S t none = stop-rank t (from .state) (from .finite) none
 
 -- a plan that was written from each state after the act, and its bytes
 module _ {n : ℕ} {sets′ looks : List (List ℕ)} {ranks : List ℕ} {k : ℕ} where
-  pub set-plan : {i q : ℕ} {b : Bool} {x r : ℕ} → ((S : System) → Told n sets′ looks ranks S → Chosen S k (Set i q b)) → x ≡ setTo k i b
-      → ((S : System) → Told n sets′ looks ranks S → (p : Plan) × Written S x p × (r ≡ length (encode p)))
-      → (S : System) → Told n sets′ looks ranks S → (p : Plan) × Written S k p × (1 + r ≡ length (encode p))
+  pub set-plan : {i q : ℕ} {b : Bool} {x r : ℕ} → ((S : System) → TablesTell n sets′ looks ranks S → Chosen S k (Set i q b)) → x ≡ setTo k i b
+      → ((S : System) → TablesTell n sets′ looks ranks S → (p : Plan) × Written S x p × (r ≡ length (encode p)))
+      → (S : System) → TablesTell n sets′ looks ranks S → (p : Plan) × Written S k p × (1 + r ≡ length (encode p))
   set-plan {i} {q} {b} c e f S t =
       let y = f S t in
       (set-then i q b (y .0), (c S t, subst (λ (z : ℕ). Written S z (y .0)) e (y .1)), omega (arith, y .2))
 
-  pub look-plan : {i q x y r s : ℕ} → ((S : System) → Told n sets′ looks ranks S → Chosen S k (Look i q)) → x ≡ lookAt k i false → y ≡ lookAt k i true
-      → ((S : System) → Told n sets′ looks ranks S → (p : Plan) × Written S x p × (r ≡ length (encode p)))
-      → ((S : System) → Told n sets′ looks ranks S → (p : Plan) × Written S y p × (s ≡ length (encode p)))
-      → (S : System) → Told n sets′ looks ranks S → (p : Plan) × Written S k p × (1 + r + s ≡ length (encode p))
+  pub look-plan : {i q x y r s : ℕ} → ((S : System) → TablesTell n sets′ looks ranks S → Chosen S k (Look i q)) → x ≡ lookAt k i false → y ≡ lookAt k i true
+      → ((S : System) → TablesTell n sets′ looks ranks S → (p : Plan) × Written S x p × (r ≡ length (encode p)))
+      → ((S : System) → TablesTell n sets′ looks ranks S → (p : Plan) × Written S y p × (s ≡ length (encode p)))
+      → (S : System) → TablesTell n sets′ looks ranks S → (p : Plan) × Written S k p × (1 + r + s ≡ length (encode p))
   look-plan {i} {q} c e d f g S t =
       let a = f S t in let b = g S t in (
         look-then i q (a .0) (b .0),
@@ -123,45 +123,45 @@ sets-byte room at v vs e = ap₂ (λ (x i : ℕ). sets (set room at x) i vs) e (
 
 module _ {n : ℕ} {sets′ looks : List (List ℕ)} {ranks : List ℕ} {k : ℕ} (from : Ranked n sets′ looks ranks k) where
   -- the room has a byte for the step
-  pub room-here : {at end : ℕ} → Room n sets′ looks ranks k at end → at < end
+  pub room-here : {at end : ℕ} → PlanFits n sets′ looks ranks k at end → at < end
   room-here room =
       let p = written-exists (from .told .law) (from .few) k (getD ranks k 0) (from .told .ranked k (from .state)) (from .finite) in
       omega (arith, room (from .system) (from .told) (p .0) (p .1), encode-some (p .0))
 
-  module _ {i q : ℕ} {b : Bool} (c : (S : System) → Told n sets′ looks ranks S → Chosen S k (Set i q b)) where
-    pub room-set : {x : ℕ} (at end : ℕ) → x ≡ setTo k i b → Room n sets′ looks ranks k at end → Room n sets′ looks ranks x (at + 1) end
+  module _ {i q : ℕ} {b : Bool} (c : (S : System) → TablesTell n sets′ looks ranks S → Chosen S k (Set i q b)) where
+    pub room-set : {x : ℕ} (at end : ℕ) → x ≡ setTo k i b → PlanFits n sets′ looks ranks k at end → PlanFits n sets′ looks ranks x (at + 1) end
     room-set at end e room S t p w = omega (arith, room S t (set-then i q b p) (c S t, subst (λ (z : ℕ). Written S z p) e w))
 
     pub set-written : {x r at byte : ℕ} {room last : List ℕ} → x ≡ setTo k i b → byte ≡ byteOf (Set i q b)
-        → ((S : System) → Told n sets′ looks ranks S → (p : Plan) × Written S x p × (last ≡ sets (set room at byte) (at + 1) (encode p)) × (r ≡ at + 1 + length (encode p)))
-        → (S : System) → Told n sets′ looks ranks S → (p : Plan) × Written S k p × (last ≡ sets room at (encode p)) × (r ≡ at + length (encode p))
+        → ((S : System) → TablesTell n sets′ looks ranks S → (p : Plan) × Written S x p × (last ≡ sets (set room at byte) (at + 1) (encode p)) × (r ≡ at + 1 + length (encode p)))
+        → (S : System) → TablesTell n sets′ looks ranks S → (p : Plan) × Written S k p × (last ≡ sets room at (encode p)) × (r ≡ at + length (encode p))
     set-written {at = at} {room = room} e d f S t =
         let y = f S t in
         (set-then i q b (y .0), (c S t, subst (λ (z : ℕ). Written S z (y .0)) e (y .1)), y .2 ∙ sets-byte room at (byteOf (Set i q b)) (encode (y .0)) d, omega (arith, y .3))
 
-  module _ {i q : ℕ} (c : (S : System) → Told n sets′ looks ranks S → Chosen S k (Look i q)) where
-    other : (S : System) → Told n sets′ looks ranks S → (p : Plan) × Written S (lookAt k i true) p
+  module _ {i q : ℕ} (c : (S : System) → TablesTell n sets′ looks ranks S → Chosen S k (Look i q)) where
+    other : (S : System) → TablesTell n sets′ looks ranks S → (p : Plan) × Written S (lookAt k i true) p
     other S t =
         let h = look-below k i true n (from .state) (chosen-setting t (c S t)) in
         let l : getD ranks (lookAt k i true) 0 < getD ranks k 0 = chosen-lower t (from .state) (c S t) .lower (lookAt k i true) (after-look i q true) in
         written-exists (t .law) (t .few) (lookAt k i true) (getD ranks (lookAt k i true) 0) (t .ranked (lookAt k i true) h) (omega (arith, from .finite))
 
-    pub room-false : {x : ℕ} (at end : ℕ) → x ≡ lookAt k i false → Room n sets′ looks ranks k at end → Room n sets′ looks ranks x (at + 1) end
+    pub room-false : {x : ℕ} (at end : ℕ) → x ≡ lookAt k i false → PlanFits n sets′ looks ranks k at end → PlanFits n sets′ looks ranks x (at + 1) end
     room-false at end e room S t p w =
         let r = other S t in
         omega (arith, room S t (look-then i q p (r .0)) (c S t, subst (λ (z : ℕ). Written S z p) e w, r .1), length-append (encode p) (encode (r .0)))
 
     pub room-true : {x y next : ℕ} {last : List ℕ} (at end byte : ℕ) (before : List ℕ) → x ≡ lookAt k i false → y ≡ lookAt k i true
-        → ((S : System) → Told n sets′ looks ranks S → (p : Plan) × Written S x p × (last ≡ sets (set before at byte) (at + 1) (encode p)) × (next ≡ at + 1 + length (encode p)))
-        → Room n sets′ looks ranks k at end → Room n sets′ looks ranks y next end
+        → ((S : System) → TablesTell n sets′ looks ranks S → (p : Plan) × Written S x p × (last ≡ sets (set before at byte) (at + 1) (encode p)) × (next ≡ at + 1 + length (encode p)))
+        → PlanFits n sets′ looks ranks k at end → PlanFits n sets′ looks ranks y next end
     room-true at end byte before e d f room S t r w =
         let a = f S t in
         omega (arith, room S t (look-then i q (a .0) r) (c S t, subst (λ (z : ℕ). Written S z (a .0)) e (a .1), subst (λ (z : ℕ). Written S z r) d w), a .3, length-append (encode (a .0)) (encode r))
 
     pub look-written : {x y r s at byte : ℕ} {room between last : List ℕ} → x ≡ lookAt k i false → y ≡ lookAt k i true → byte ≡ byteOf (Look i q)
-        → ((S : System) → Told n sets′ looks ranks S → (p : Plan) × Written S x p × (between ≡ sets (set room at byte) (at + 1) (encode p)) × (r ≡ at + 1 + length (encode p)))
-        → ((S : System) → Told n sets′ looks ranks S → (p : Plan) × Written S y p × (last ≡ sets between r (encode p)) × (s ≡ r + length (encode p)))
-        → (S : System) → Told n sets′ looks ranks S → (p : Plan) × Written S k p × (last ≡ sets room at (encode p)) × (s ≡ at + length (encode p))
+        → ((S : System) → TablesTell n sets′ looks ranks S → (p : Plan) × Written S x p × (between ≡ sets (set room at byte) (at + 1) (encode p)) × (r ≡ at + 1 + length (encode p)))
+        → ((S : System) → TablesTell n sets′ looks ranks S → (p : Plan) × Written S y p × (last ≡ sets between r (encode p)) × (s ≡ r + length (encode p)))
+        → (S : System) → TablesTell n sets′ looks ranks S → (p : Plan) × Written S k p × (last ≡ sets room at (encode p)) × (s ≡ at + length (encode p))
     look-written {at = at} {byte = byte} {room = room} e d v f g S t =
         let a = f S t in let b = g S t in (
           look-then i q (a .0) (b .0),

@@ -26,8 +26,8 @@ use Rattle.plan.proofs.Acts.{after-a-set, after-a-look}
 use Rattle.plan.proofs.Certificate.{numbers-closed}
 use Rattle.plan.proofs.Table.{chosen}
 use Rattle.finder_sides.specs.Sides.{nowSideNumber}
-use Rattle.finder_sides.specs.Over.{entry}
-use Rattle.finder.specs.Told.{Told, Lower, Tries, family}
+use Rattle.finder_sides.specs.Tables.{entry}
+use Rattle.finder.specs.Tables.{TablesTell, Lower, Tries, family}
 
 -- ---- bounds
 
@@ -67,7 +67,7 @@ lowest-last x q h ne l m f = elim (decide (bit x 7)) [
 
 -- ---- a step of each kind
 
-module _ {n : ℕ} {sets looks : List (List ℕ)} {ranks : List ℕ} {S : System} (told : Told n sets looks ranks S) (k i : ℕ) (hi : i < n) where
+module _ {n : ℕ} {sets looks : List (List ℕ)} {ranks : List ℕ} {S : System} (told : TablesTell n sets looks ranks S) (k i : ℕ) (hi : i < n) where
   -- an act by a post that the mask does not have leads nowhere
   set-bit : (q : ℕ) (b : Bool) → T (may S k (Set i q b)) → T (bit (entry sets i (nowSideNumber n k)) q)
   set-bit q b m = subst T (told .sets k i q b hi (told .law .post-of k (Set i q b) m)) m
@@ -155,7 +155,7 @@ post-family p q = post-of-kind (p / 7) (p % 7) q
 abbrev pub NoneTo : System → List ℕ → ℕ → ℕ → Type 0
 NoneTo S ranks k p = (x : ℕ) → x < p → (q : ℕ) → Lower S ranks k (family x q) → ⊥
 
-module _ {n : ℕ} {sets looks : List (List ℕ)} {ranks : List ℕ} {S : System} (told : Told n sets looks ranks S) (k : ℕ) (hk : k < 7 ^ n) where
+module _ {n : ℕ} {sets looks : List (List ℕ)} {ranks : List ℕ} {S : System} (told : TablesTell n sets looks ranks S) (k : ℕ) (hk : k < 7 ^ n) where
   seven : (a : Act) → Lower S ranks k a → settingOf a < 7
   seven a l = omega (arith, told .law .setting-of k a (l .allowed), told .few)
 
@@ -187,7 +187,7 @@ module _ {n : ℕ} {sets looks : List (List ℕ)} {ranks : List ℕ} {S : System
           ]
 
 -- a pair whose setting the book has not
-pub pair-past : {n : ℕ} {sets looks : List (List ℕ)} {ranks : List ℕ} {S : System} (told : Told n sets looks ranks S) (k p : ℕ) → n ≤ p % 7
+pub pair-past : {n : ℕ} {sets looks : List (List ℕ)} {ranks : List ℕ} {S : System} (told : TablesTell n sets looks ranks S) (k p : ℕ) → n ≤ p % 7
     → (q : ℕ) → Lower S ranks k (family p q) → ⊥
 pair-past told k p h q l = omega (arith, told .law .setting-of k (family p q) (l .allowed), setting-of-kind (p / 7) (p % 7) q)
 

@@ -13,7 +13,7 @@ use Rattle.ground.specs.Search.{all}
 use Rattle.ground.proofs.Bools.{and-in, true→T}
 use Rattle.knowledge.specs.Fits.{known, learnSettled}
 use Rattle.knowledge.proofs.Known.{known-intro}
-use Rattle.ground.proofs.OrderLaws.{first-clear}
+use Rattle.refusal.proofs.OrderLaws.{first-clear}
 use Rattle.book_sound.proofs.Theorems.{sound-one}
 use Rattle.plan.specs.Plans.{System, Plan, Permitted, Works, height}
 use Rattle.plan.specs.Ranks.{Cannot as CannotFrom}
@@ -23,108 +23,97 @@ use Rattle.plan.proofs.Ranks.{rank-least, rank-most, has-rank, rank-reach}
 use Rattle.plan.proofs.Written.{written-works, written-height}
 use Rattle.plan.proofs.Accepted.{written-most}
 use Rattle.plan.proofs.Secret.{secret}
-use Rattle.knowledge.specs.Goal.{learnCount, learnTable, allSettled, goalSettled}
-use Rattle.question.specs.Question.{systemOf, startNumber, NoMaking}
-use Rattle.question.specs.Rows.{number, place}
+use Rattle.knowledge.specs.Goal.{Goal, learnCount, learnTable, allSettled, goalSettled}
+use Rattle.question.specs.Question.{systemOf, startOf, NoMaking}
 use Rattle.question.specs.Asks.{ValidQuestion}
-use Rattle.finder.specs.Finds.{RanksFilled, Finds, findRows}
+use Rattle.finder.specs.Finds.{RanksFilled, Finds}
 use Rattle.question.specs.declared.Question.{Question}
 use Rattle.finder.specs.declared.answer.Answer.{Answer}
 use Rattle.finder.specs.declared.answer.Answer.the-variants.{Reach, Cannot, Refused}
-use Rattle.question.proofs.Unique.{lawful, few}
-use Rattle.finder.proofs.Unique.{late}
-use Rattle.finder.proofs.Unique.{find-clear}
+use Rattle.question.proofs.SystemLaws.{lawful, few}
+use Rattle.finder.proofs.FindLaws.{find-clear}
 
 -- ---- demand 2: "reach" exactly when a working plan exists, the least height, and such a plan
 
--- the question's system and its start
-abbrev pub System-of : List ℕ → Question → List ℕ → List ℕ → ℕ → System
-System-of book q make learn n = systemOf n book (q .team) make learn
-
-abbrev pub Start-of : Question → ℕ
-Start-of q = startNumber (q .known) (q .values)
-
-module _ (book : List ℕ) (q : Question) (make learn ranks plan : List ℕ) (r x : List ℕ) where
+module _ (book : List ℕ) (q : Question) (goal : Goal) (ranks plan r x : List ℕ) where
   -- "reach": the question is valid over the book's n settings, the plan in the room works, has the height named and the length named, and none that works
   -- is lower
-  pub reach-works : (h size : ℕ) → Finds book q make learn ranks plan (Reach h size) r x
-      → (n : ℕ) × (m : ℕ) × ValidQuestion book q make learn n m
-      × ((p : Plan) × Works (System-of book q make learn n) (Start-of q) p × (height p ≡ h)
-      × ((s : Plan) → Works (System-of book q make learn n) (Start-of q) s → h ≤ height s)
+  pub reach-works : (h size : ℕ) → Finds book q goal ranks plan (Reach h size) r x
+      → (n : ℕ) × (m : ℕ) × ValidQuestion book q goal n m
+      × ((p : Plan) × Works (systemOf n book q goal) (startOf q) p × (height p ≡ h)
+      × ((s : Plan) → Works (systemOf n book q goal) (startOf q) s → h ≤ height s)
       × (size ≡ length (encode p)) × (x ≡ encode p ++ drop size plan))
   reach-works h size (inl u) = let e : Reach h size ≡ Refused (u .why) = u .answered in let z : _≡_ {A = ℕ} 0 1 = cc in absurd (omega arith)
   reach-works h size (inr (n, m, v, l, f, a)) =
-      let S = System-of book q make learn n in
+      let S = systemOf n book q goal in
       let p = a .1 in
-      (n, m, v, (p .0, written-works S (p .0) (Start-of q) (p .1), written-height S (p .0) (Start-of q) h (p .1) (inl (a .0)), (λ s w. rank-least S (Start-of q) (inl (a .0)) s w), p .2, p .4))
+      (n, m, v, (p .0, written-works S (p .0) (startOf q) (p .1), written-height S (p .0) (startOf q) h (p .1) (inl (a .0)), (λ s w. rank-least S (startOf q) (inl (a .0)) s w), p .2, p .4))
 
   -- "cannot": the question is valid over the book's n settings, no plan works, and the plan room is as it was
-  pub cannot-none : Finds book q make learn ranks plan Cannot r x
-      → (n : ℕ) × (m : ℕ) × ValidQuestion book q make learn n m × ((p : Plan) → Works (System-of book q make learn n) (Start-of q) p → ⊥) × (x ≡ plan)
+  pub cannot-none : Finds book q goal ranks plan Cannot r x
+      → (n : ℕ) × (m : ℕ) × ValidQuestion book q goal n m × ((p : Plan) → Works (systemOf n book q goal) (startOf q) p → ⊥) × (x ≡ plan)
   cannot-none (inl u) = let e : Cannot ≡ Refused (u .why) = u .answered in let z : _≡_ {A = ℕ} 0 1 = cc in absurd (omega arith)
   cannot-none (inr (n, m, v, l, f, a)) = (n, m, v, a .0, a .1)
 
   -- and a valid question whose plan works is answered "reach", where the rooms are long enough: 32,640 bytes always suffice for the plan
-  pub works-reach : {n m : ℕ} (a : Answer) → ValidQuestion book q make learn n m → 7 ^ n ≤ length ranks → 32640 ≤ length plan
-      → (p : Plan) → Works (System-of book q make learn n) (Start-of q) p → Finds book q make learn ranks plan a r x → (h : ℕ) × (size : ℕ) × (a ≡ Reach h size)
+  pub works-reach : {n m : ℕ} (a : Answer) → ValidQuestion book q goal n m → 7 ^ n ≤ length ranks → 32640 ≤ length plan
+      → (p : Plan) → Works (systemOf n book q goal) (startOf q) p → Finds book q goal ranks plan a r x → (h : ℕ) × (size : ℕ) × (a ≡ Reach h size)
   works-reach a v l big p w (inl u) =
-      absurd (first-clear (findRows book (q .team) (q .known) (q .values) make learn ranks) (number (u .why)) (place (u .why)) (u .first) (find-clear v ranks l))
+      first-clear (u .first) (find-clear v ranks l)
   works-reach (Reach h size) v l big p w (inr (k, o, d, e, f, g)) = (h, size, refl)
   works-reach {n} Cannot v l big p w (inr (k, o, d, e, f, g)) =
       let same : k ≡ n = sound-one (d .sound) (v .sound) .0 in
-      absurd (subst (λ (j : ℕ). CannotFrom (System-of book q make learn j) (Start-of q)) same (g .0) p w)
+      absurd (subst (λ (j : ℕ). CannotFrom (systemOf j book q goal) (startOf q)) same (g .0) p w)
   works-reach (Refused y) v l big p w (inr (k, o, d, e, f, g)) =
-      let S = System-of book q make learn k in
-      let z = late S (Start-of q) plan x y g in
-      let s = z .1 in
-      let rank = has-rank (lawful d) (Start-of q) in
-      absurd (omega (arith, s .2, written-most (lawful d) (few d) (Start-of q) (s .0) (rank .0) (s .1) (rank .1) (rank-reach (lawful d) (Start-of q) (rank .0) (few d) (rank .1) .1 (s .0, written-works S (s .0) (Start-of q) (s .1)))))
+      let S = systemOf k book q goal in
+      let s = g .1 in
+      let rank = has-rank (lawful d) (startOf q) in
+      absurd (omega (arith, s .2, written-most (lawful d) (few d) (startOf q) (s .0) (rank .0) (s .1) (rank .1) (rank-reach (lawful d) (startOf q) (rank .0) (few d) (rank .1) .1 (s .0, written-works S (s .0) (startOf q) (s .1)))))
 
   -- and one for which none works is answered "cannot", whatever the plan room
-  pub none-cannot : {n m : ℕ} (a : Answer) → ValidQuestion book q make learn n m → 7 ^ n ≤ length ranks
-      → ((p : Plan) → Works (System-of book q make learn n) (Start-of q) p → ⊥) → Finds book q make learn ranks plan a r x → a ≡ Cannot
+  pub none-cannot : {n m : ℕ} (a : Answer) → ValidQuestion book q goal n m → 7 ^ n ≤ length ranks
+      → ((p : Plan) → Works (systemOf n book q goal) (startOf q) p → ⊥) → Finds book q goal ranks plan a r x → a ≡ Cannot
   none-cannot a v l none (inl u) =
-      absurd (first-clear (findRows book (q .team) (q .known) (q .values) make learn ranks) (number (u .why)) (place (u .why)) (u .first) (find-clear v ranks l))
+      first-clear (u .first) (find-clear v ranks l)
   none-cannot {n} (Reach h size) v l none (inr (k, o, d, e, f, g)) =
       let same : k ≡ n = sound-one (d .sound) (v .sound) .0 in
       let p : Plan = g .1 .0 in
-      let works : Works (System-of book q make learn k) (Start-of q) p = written-works (System-of book q make learn k) p (Start-of q) (g .1 .1) in
-      absurd (none p (subst (λ (j : ℕ). Works (System-of book q make learn j) (Start-of q) p) same works))
+      let works : Works (systemOf k book q goal) (startOf q) p = written-works (systemOf k book q goal) p (startOf q) (g .1 .1) in
+      absurd (none p (subst (λ (j : ℕ). Works (systemOf j book q goal) (startOf q) p) same works))
   none-cannot Cannot v l none (inr (k, o, d, e, f, g)) = refl
   none-cannot {n} (Refused y) v l none (inr (k, o, d, e, f, g)) =
       let same : k ≡ n = sound-one (d .sound) (v .sound) .0 in
-      let z = late (System-of book q make learn k) (Start-of q) plan x y g in
-      let p : Plan = z .1 .0 in
-      let works : Works (System-of book q make learn k) (Start-of q) p = written-works (System-of book q make learn k) p (Start-of q) (z .1 .1) in
-      absurd (none p (subst (λ (j : ℕ). Works (System-of book q make learn j) (Start-of q) p) same works))
+      let p : Plan = g .1 .0 in
+      let works : Works (systemOf k book q goal) (startOf q) p = written-works (systemOf k book q goal) p (startOf q) (g .1 .1) in
+      absurd (none p (subst (λ (j : ℕ). Works (systemOf j book q goal) (startOf q) p) same works))
 
   -- "A rank other than 255 is at most 2^(n+1) − 2.", of the bytes that are left in the rank table
-  pub filled-most : {n m : ℕ} (a : Answer) → ValidQuestion book q make learn n m → 7 ^ n ≤ length ranks → Finds book q make learn ranks plan a r x
+  pub filled-most : {n m : ℕ} (a : Answer) → ValidQuestion book q goal n m → 7 ^ n ≤ length ranks → Finds book q goal ranks plan a r x
       → (k : ℕ) → k < 7 ^ n → (getD r k 0 ≡ 255 → ⊥) → getD r k 0 ≤ 2 ^ suc n - 2
   filled-most a v l (inl u) k h ne =
-      absurd (first-clear (findRows book (q .team) (q .known) (q .values) make learn ranks) (number (u .why)) (place (u .why)) (u .first) (find-clear v ranks l))
+      first-clear (u .first) (find-clear v ranks l)
   filled-most {n} a v l (inr (j, o, d, e, f, g)) k h ne =
       let same : j ≡ n = sound-one (d .sound) (v .sound) .0 in
-      let filled = subst (λ (i : ℕ). RanksFilled i (System-of book q make learn i) ranks r) same f in
+      let filled = subst (λ (i : ℕ). RanksFilled i (systemOf i book q goal) ranks r) same f in
       rank-most (lawful v) k (getD r k 0) (filled .ranks k h) ne
 
 -- ---- demand 3: what "cannot" means for a secret
 
 -- with no making the goal is settled where the learn formula is
-module _ (book : List ℕ) (q : Question) (make learn : List ℕ) where
-  pub enough : (n : ℕ) → NoMaking n make → learnCount learn ≡ 1 → (k : ℕ) → T (learnSettled n (digit 7 k) (learnTable learn 0)) → T (System-of book q make learn n .goal k)
+module _ (book : List ℕ) (q : Question) (goal : Goal) where
+  pub enough : (n : ℕ) → NoMaking n goal → learnCount (goal .learn) ≡ 1 → (k : ℕ) → T (learnSettled n (digit 7 k) (learnTable (goal .learn) 0)) → T (systemOf n book q goal .goal k)
   unfolding systemOf goalSettled allSettled all
   enough n one single k h =
-      and-in (known n (digit 7 k) make) (all (learnCount learn) (λ j. learnSettled n (digit 7 k) (learnTable learn j)))
-      (known-intro n (digit 7 k) make (λ v l t. true→T (one v l)))
-      (subst (λ (c : ℕ). T (all c (λ j. learnSettled n (digit 7 k) (learnTable learn j)))) (sym single) (and-in (learnSettled n (digit 7 k) (learnTable learn 0)) true h tt))
+      and-in (known n (digit 7 k) (goal .make)) (all (learnCount (goal .learn)) (λ j. learnSettled n (digit 7 k) (learnTable (goal .learn) j)))
+      (known-intro n (digit 7 k) (goal .make) (λ v l t. true→T (one v l)))
+      (subst (λ (c : ℕ). T (all c (λ j. learnSettled n (digit 7 k) (learnTable (goal .learn) j)))) (sym single) (and-in (learnSettled n (digit 7 k) (learnTable (goal .learn) 0)) true h tt))
 
-module _ (book : List ℕ) (q : Question) (make learn ranks plan : List ℕ) (r x : List ℕ) where
+module _ (book : List ℕ) (q : Question) (goal : Goal) (ranks plan r x : List ℕ) where
   -- for a question with no making and one learn formula that is answered "cannot": for every permitted plan there are two starting valuations below 2^n,
   -- both agreeing with what the team knew, that give the formula different values, and on which the plan does the same acts and sees the same readings
-  pub cannot-secret : Finds book q make learn ranks plan Cannot r x
-      → (n : ℕ) × (m : ℕ) × ValidQuestion book q make learn n m
-      × (NoMaking n make → learnCount learn ≡ 1 → (p : Plan) → Permitted (System-of book q make learn n) (Start-of q) p → Twins n (learnTable learn 0) (Start-of q) p)
+  pub cannot-secret : Finds book q goal ranks plan Cannot r x
+      → (n : ℕ) × (m : ℕ) × ValidQuestion book q goal n m
+      × (NoMaking n goal → learnCount (goal .learn) ≡ 1 → (p : Plan) → Permitted (systemOf n book q goal) (startOf q) p → Twins n (learnTable (goal .learn) 0) (startOf q) p)
   cannot-secret (inl u) = let e : Cannot ≡ Refused (u .why) = u .answered in let z : _≡_ {A = ℕ} 0 1 = cc in absurd (omega arith)
   cannot-secret (inr (n, m, v, l, f, a)) =
-      (n, m, v, λ one single p w. secret n (learnTable learn 0) (lawful v) (enough book q make learn n one single) (Start-of q) (a .0) p w)
+      (n, m, v, λ one single p w. secret n (learnTable (goal .learn) 0) (lawful v) (enough book q goal n one single) (startOf q) (a .0) p w)

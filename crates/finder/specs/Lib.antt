@@ -1,6 +1,4 @@
--- What the tables tell, and the step that the plan written takes. What a plan written is stands in plan/specs/Ranks.
--- What a reader must believe of an answer.
--- What a reader must believe of the finder: what `find` gives. What an answer says is crate answer's.
-pub mod Told
-pub mod Answers
+-- What a reader must believe of the finder: what `find` gives (`Finds`), and what an answer says (`Answers`). `Tables` is for the private functions.
 pub mod Finds
+pub mod Answers
+pub mod Tables

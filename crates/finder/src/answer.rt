@@ -1,16 +1,16 @@
 // What a question is answered, read off the ranks at its start: "reach" with the least height and the
-// plan written, "cannot", or 14. For this repository alone, as the `requires` say: the tables tell some
-// system, and its ranks are filled in.
+// plan written, "cannot", or 14.
 use crate::written::length;
 use crate::written::write;
+use finder_ranks::NONE;
 use finder_sides::SIDES;
 use ground::SETTINGS_MOST;
-use question::Refusal;
+use refusal::Refusal;
 ghost use Prim.Native.Nat.{_^_, _≤_, _<_};
 ghost use lib.ListN.{length as size};
 ghost use Rattle.plan.specs.Plans.{System};
-ghost use Rattle.finder.specs.Told.{Told};
-ghost use Rattle.finder.specs.Answers.{Answers};
+ghost use Rattle.finder.specs.Tables.{TablesTell};
+ghost use Rattle.finder.specs.Answers.{AnswersFrom};
 
 pub enum Answer {
     // A plan of this height, the least, stands in the first `length` bytes of the plan room.
@@ -21,7 +21,8 @@ pub enum Answer {
     Refused(Refusal),
 }
 
-// The answer at the start, by the ranks; a plan is written only where it fits. For this repository alone.
+// The answer at the start, by the ranks; a plan is written only where it fits. For this crate alone: the
+// tables tell some system, and its ranks are filled in.
 pub fn from_start(
     n: u8,
     set: &[[u8; SIDES]; SETTINGS_MOST],
@@ -30,11 +31,11 @@ pub fn from_start(
     start: u32,
     plan: &mut [u8],
 ) -> Answer
-    requires { ⌜ (start < 7 ^ n) × (7 ^ n ≤ size (now ranks)) × ((S : System) × Told n (now set) (now look) (now ranks) S) ⌝ }
-    ensures { λ r. ⌜ ((S : System) → Told n (now (set .entry)) (now (look .entry)) (now (ranks .entry)) S → Answers S start (now (plan .entry)) r (now (plan .exit))) ⌝ }
+    requires { ⌜ (start < 7 ^ n) × (7 ^ n ≤ size (now ranks)) × ((S : System) × TablesTell n (now set) (now look) (now ranks) S) ⌝ }
+    ensures { λ r. ⌜ ((S : System) → TablesTell n (now (set .entry)) (now (look .entry)) (now (ranks .entry)) S → AnswersFrom S start (now (plan .entry)) r (now (plan .exit))) ⌝ }
 {
     let height = ranks[start as usize];
-    if height == 255 {
+    if height == NONE {
         return Answer::Cannot;
     }
     let bytes = length(n, set, look, ranks, start);

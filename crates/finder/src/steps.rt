@@ -15,7 +15,15 @@ ghost use Rattle.knowledge_acts.specs.Acts.{setTo, lookAt};
 ghost use Rattle.knowledge_acts.specs.declared.act.Act.the-variants.{Set, Look};
 ghost use Rattle.plan.specs.Plans.{System};
 ghost use Rattle.finder_sides.specs.Sides.{nowSideNumber};
-ghost use Rattle.finder.specs.Told.{Told, Tries, family, Chooses};
+ghost use Rattle.finder.specs.Tables.{TablesTell, Tries, family, Chooses};
+
+// A kind of act and a setting make a pair, with the number kind × SETTINGS + setting: sets to false come
+// first, then sets to true, from SETTINGS on, then looks, from LOOKS on.
+const SETTINGS: u8 = SETTINGS_MOST as u8;
+
+const LOOKS: u8 = 2 * SETTINGS;
+
+const PAIRS: u8 = 3 * SETTINGS;
 
 pub enum Step {
     Stop,
@@ -67,7 +75,7 @@ fn set_step(
     value: bool,
 ) -> Step
     requires { ⌜ (n ≤ 7) × (k < 7 ^ n) × (7 ^ n ≤ length (now ranks)) × (side ≡ nowSideNumber n k) × (i < n) ⌝ }
-    ensures { λ r. ⌜ ((S : System) → Told n (now (set .entry)) (now (look .entry)) (now (ranks .entry)) S → Tries S (now (ranks .entry)) k (λ q. Set i q value) r) ⌝ }
+    ensures { λ r. ⌜ ((S : System) → TablesTell n (now (set .entry)) (now (look .entry)) (now (ranks .entry)) S → Tries S (now (ranks .entry)) k (λ q. Set i q value) r) ⌝ }
 {
     let posts = set[i as usize][side];
     if posts == 0 {
@@ -95,7 +103,7 @@ fn look_step(
     i: u8,
 ) -> Step
     requires { ⌜ (n ≤ 7) × (k < 7 ^ n) × (7 ^ n ≤ length (now ranks)) × (side ≡ nowSideNumber n k) × (i < n) ⌝ }
-    ensures { λ r. ⌜ ((S : System) → Told n (now (set .entry)) (now (look .entry)) (now (ranks .entry)) S → Tries S (now (ranks .entry)) k (λ q. Look i q) r) ⌝ }
+    ensures { λ r. ⌜ ((S : System) → TablesTell n (now (set .entry)) (now (look .entry)) (now (ranks .entry)) S → Tries S (now (ranks .entry)) k (λ q. Look i q) r) ⌝ }
 {
     if Knowledge::from_number(k).digit(i) != 0 {
         return Step::Stop;
@@ -119,7 +127,7 @@ fn look_step(
     })
 }
 
-// The step with the lowest post of one kind and setting: pair number kind × 7 + setting.
+// The step with the lowest post of one kind and setting.
 fn step_of(
     n: u8,
     set: &[[u8; SIDES]; SETTINGS_MOST],
@@ -130,16 +138,16 @@ fn step_of(
     pair: u8,
 ) -> Step
     requires { ⌜ (n ≤ 7) × (k < 7 ^ n) × (7 ^ n ≤ length (now ranks)) × (side ≡ nowSideNumber n k) × (pair < 21) ⌝ }
-    ensures { λ r. ⌜ ((S : System) → Told n (now (set .entry)) (now (look .entry)) (now (ranks .entry)) S → Tries S (now (ranks .entry)) k (family pair) r) ⌝ }
+    ensures { λ r. ⌜ ((S : System) → TablesTell n (now (set .entry)) (now (look .entry)) (now (ranks .entry)) S → Tries S (now (ranks .entry)) k (family pair) r) ⌝ }
 {
-    let i = pair % 7;
+    let i = pair % SETTINGS;
     if n <= i {
         return Step::Stop;
     }
-    if pair < 7 {
+    if pair < SETTINGS {
         return set_step(n, set, look, ranks, k, side, i, false);
     }
-    if pair < 14 {
+    if pair < LOOKS {
         return set_step(n, set, look, ranks, k, side, i, true);
     }
     look_step(n, set, look, ranks, k, side, i)
@@ -155,11 +163,11 @@ pub fn choose(
     k: u32,
 ) -> Step
     requires { ⌜ (n ≤ 7) × (k < 7 ^ n) × (7 ^ n ≤ length (now ranks)) ⌝ }
-    ensures { λ r. ⌜ ((S : System) → Told n (now (set .entry)) (now (look .entry)) (now (ranks .entry)) S → Chooses S (now (ranks .entry)) k r) ⌝ }
+    ensures { λ r. ⌜ ((S : System) → TablesTell n (now (set .entry)) (now (look .entry)) (now (ranks .entry)) S → Chooses S (now (ranks .entry)) k r) ⌝ }
 {
-    let side = finder_sides::side_of(n as usize, k as usize);
+    let side = finder_ranks::side_of(n, k);
     let mut pair: u8 = 0;
-    while pair < 21 {
+    while pair < PAIRS {
         match step_of(n, set, look, ranks, k, side, pair) {
             Step::Do(act) => {
                 return Step::Do(act);

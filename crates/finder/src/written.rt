@@ -14,9 +14,9 @@ ghost use lib.Seq.{sets};
 ghost use Rattle.plan.specs.Plans.{System, Plan};
 ghost use Rattle.plan.specs.Ranks.{Written};
 ghost use Rattle.plan.specs.Bytes.{encode};
-ghost use Rattle.finder.specs.Told.{Told, Ranked, Room};
+ghost use Rattle.finder.specs.Tables.{TablesTell, Ranked, PlanFits};
 
-// How many bytes the plan written from k has. For this repository alone: k has a rank below 255.
+// How many bytes the plan written from k has. For this crate alone: k has a rank below 255.
 pub fn length(
     n: u8,
     set: &[[u8; SIDES]; SETTINGS_MOST],
@@ -25,7 +25,7 @@ pub fn length(
     k: u32,
 ) -> usize
     requires { ⌜ Ranked n (now set) (now look) (now ranks) k ⌝ }
-    ensures { λ r. ⌜ (r ≤ 32640) × ((S : System) → Told n (now (set .entry)) (now (look .entry)) (now (ranks .entry)) S → (p : Plan) × Written S k p × (r ≡ length (encode p))) ⌝ }
+    ensures { λ r. ⌜ (r ≤ 32640) × ((S : System) → TablesTell n (now (set .entry)) (now (look .entry)) (now (ranks .entry)) S → (p : Plan) × Written S k p × (r ≡ length (encode p))) ⌝ }
 {
     match choose(n, set, look, ranks, k) {
         Step::Stop => 1,
@@ -44,7 +44,7 @@ pub fn length(
     }
 }
 
-// Writes the plan from k into the room at `at`, and gives the place after it. For this repository alone: k has
+// Writes the plan from k into the room at `at`, and gives the place after it. For this crate alone: k has
 // a rank below 255, and the plan fits.
 pub fn write(
     n: u8,
@@ -55,8 +55,8 @@ pub fn write(
     room: &mut [u8],
     at: usize,
 ) -> usize
-    requires { ⌜ Ranked n (now set) (now look) (now ranks) k × Room n (now set) (now look) (now ranks) k at (length (now room)) ⌝ }
-    ensures { λ r. ⌜ ((S : System) → Told n (now (set .entry)) (now (look .entry)) (now (ranks .entry)) S → (p : Plan) × Written S k p × (now (room .exit) ≡ sets (now (room .entry)) at (encode p)) × (r ≡ at + length (encode p))) ⌝ }
+    requires { ⌜ Ranked n (now set) (now look) (now ranks) k × PlanFits n (now set) (now look) (now ranks) k at (length (now room)) ⌝ }
+    ensures { λ r. ⌜ ((S : System) → TablesTell n (now (set .entry)) (now (look .entry)) (now (ranks .entry)) S → (p : Plan) × Written S k p × (now (room .exit) ≡ sets (now (room .entry)) at (encode p)) × (r ≡ at + length (encode p))) ⌝ }
 {
     match choose(n, set, look, ranks, k) {
         Step::Stop => {

@@ -1,14 +1,37 @@
--- `find` meets its contract: refusals 6 to 12, then 13, then the search.
-use mathlib.Core.Path.{refl}
-use mathlib.Core.Logic.{inl, inr}
-use native.Mathlib.Omega.{arith}
-use Rattle.question.specs.Rows.{number, place}
-use Rattle.question.specs.declared.Refusal.the-variants.{Ranks}
-use Rattle.question.proofs.AskLaws.{as-valid, as-not}
-use Rattle.finder.proofs.FindLaws.{early, short-table}
+-- `finder::finding::find` meets its contract: refusals 6 to 12, then 13, then the search.
 use borrow.Author.Needs.{needs}
+use mathlib.Core.Path.{_≡_, refl, ap, _∙_}
+use mathlib.Core.Logic.{inl, inr}
+use Prim.Native.Nat.{_^_}
+use native.Mathlib.Nat.{min-eq-left}
+use native.Mathlib.Omega.{arith}
+use Rattle.refusal.specs.declared.Refusal.the-variants.{RankRoom}
+use Rattle.knowledge.specs.Goal.{Goal, goalOf}
+use Rattle.question.specs.Asks.{ValidQuestion}
+use Rattle.question.proofs.AskLaws.{as-valid, as-not}
+use Rattle.question.proofs.SystemLaws.{few}
+use Rattle.finder.proofs.FindLaws.{early, short-table}
 use Rattle.finder.proofs.finding.find.Statement.{statement}
 use Rattle.finder.proofs.finding.find.Tie as tie
+
+abbrev started : tie.After-ask → tie.Start
+started c = c .before .before .before .before .before .before
+
+abbrev goalHere : tie.Start → Goal
+goalHere s = goalOf (s .args .make .now) (s .args .learn .now)
+
+-- the question is valid over so many settings and posts
+valid : (c : tie.After-settings)
+    → ValidQuestion (started (c .before .before) .args .book .now) (started (c .before .before) .args .question) (goalHere (started (c .before .before)))
+    (c .settings .given .0 .0) (c .settings .given .0 .1 .0)
+valid c =
+    let asked = c .before .before in
+    let start = started asked in
+    as-valid (start .args .book .now) (start .args .question) (goalHere start) (c .settings .given .1) (asked .ask .ensures)
+
+-- all its settings count
+size-is : (c : tie.After-numbers) → c .numbers .result ≡ 7 ^ c .before .before .settings .given .0 .0
+size-is c = c .numbers .ensures ∙ ap (λ k. 7 ^ k) (min-eq-left (few (valid (c .before .before))))
 
 ask-requires : tie.Need-ask-requires
 ask-requires c κs = search needs
@@ -20,16 +43,40 @@ enum-known-settings : tie.Need-enum-known-settings
 enum-known-settings c = search needs
 
 numbers-requires : tie.Need-numbers-requires
-numbers-requires c κs = (as-valid (c .before .before .before .before .before .before .before .before .before .args .book .now) (c .before .before .before .before .before .before .before .before .before .args .question) (c .before .before .before .before .before .before .before .before .before .args .make .now) (c .before .before .before .before .before .before .before .before .before .args .learn .now) (c .before .settings .given .1) (c .before .before .before .ask .ensures)) .sound .settings .most
+numbers-requires c κs = search needs
 
 returns : tie.Need-returns
-returns c = inl record { why = Ranks; answered = refl; first = short-table (c .before .before .before .before .before .before .before .before .before .before .before .args .book .now) (c .before .before .before .before .before .before .before .before .before .before .before .args .question) (c .before .before .before .before .before .before .before .before .before .before .before .args .make .now) (c .before .before .before .before .before .before .before .before .before .before .before .args .learn .now) (c .before .before .before .before .before .before .before .before .before .before .before .args .ranks .now) (as-valid (c .before .before .before .before .before .before .before .before .before .before .before .args .book .now) (c .before .before .before .before .before .before .before .before .before .before .before .args .question) (c .before .before .before .before .before .before .before .before .before .before .before .args .make .now) (c .before .before .before .before .before .before .before .before .before .before .before .args .learn .now) (c .before .before .before .settings .given .1) (c .before .before .before .before .before .ask .ensures)) (omega (arith, c .before .numbers .ensures, c .if1 .taken)); ranks-kept = refl; plan-kept = refl }
+returns c =
+    let counted = c .before in
+    let judged = counted .before .before in
+    inl record {
+      why = RankRoom 0;
+      answered = refl;
+      first = short-table (valid judged) (started (judged .before .before) .args .ranks .now) (omega (arith, size-is counted, c .if1 .taken));
+      ranks-kept = refl;
+      plan-kept = refl;
+    }
 
 search-requires : tie.Need-search-requires
-search-requires c κs = ((as-valid (c .before .before .before .before .before .before .before .before .before .before .before .before .before .args .book .now) (c .before .before .before .before .before .before .before .before .before .before .before .before .before .args .question) (c .before .before .before .before .before .before .before .before .before .before .before .before .before .args .make .now) (c .before .before .before .before .before .before .before .before .before .before .before .before .before .args .learn .now) (c .before .before .before .before .before .settings .given .1) (c .before .before .before .before .before .before .before .ask .ensures)) .sound .settings .least, (as-valid (c .before .before .before .before .before .before .before .before .before .before .before .before .before .args .book .now) (c .before .before .before .before .before .before .before .before .before .before .before .before .before .args .question) (c .before .before .before .before .before .before .before .before .before .before .before .before .before .args .make .now) (c .before .before .before .before .before .before .before .before .before .before .before .before .before .args .learn .now) (c .before .before .before .before .before .settings .given .1) (c .before .before .before .before .before .before .before .ask .ensures)) .sound .settings .most, (as-valid (c .before .before .before .before .before .before .before .before .before .before .before .before .before .args .book .now) (c .before .before .before .before .before .before .before .before .before .before .before .before .before .args .question) (c .before .before .before .before .before .before .before .before .before .before .before .before .before .args .make .now) (c .before .before .before .before .before .before .before .before .before .before .before .before .before .args .learn .now) (c .before .before .before .before .before .settings .given .1) (c .before .before .before .before .before .before .before .ask .ensures)) .known, omega (arith, c .before .before .before .numbers .ensures, c .before .before .if1 .left))
+search-requires c κs =
+    let fits = c .before .before in
+    let judged = fits .before .before .before in
+    ((judged .settings .given .0 .1 .0, valid judged), omega (arith, size-is (fits .before), fits .if1 .left))
 
 returns-2 : tie.Need-returns-2
-returns-2 c = inl record { why = c .before .why .given .0 .0; answered = refl; first = early (c .before .before .before .before .before .before .before .before .before .args .book .now) (c .before .before .before .before .before .before .before .before .before .args .question) (c .before .before .before .before .before .before .before .before .before .args .make .now) (c .before .before .before .before .before .before .before .before .before .args .learn .now) (c .before .before .before .before .before .before .before .before .before .args .ranks .now) (number (c .before .why .given .0 .0)) (place (c .before .why .given .0 .0)) (as-not (c .before .before .before .before .before .before .before .before .before .args .book .now) (c .before .before .before .before .before .before .before .before .before .args .question) (c .before .before .before .before .before .before .before .before .before .args .make .now) (c .before .before .before .before .before .before .before .before .before .args .learn .now) (c .before .why .given .1) (c .before .before .before .ask .ensures)); ranks-kept = refl; plan-kept = refl }
+returns-2 c =
+    let refused = c .before in
+    let asked = refused .before .before in
+    let start = started asked in
+    inl record {
+      why = refused .why .given .0 .0;
+      answered = refl;
+      first =
+          early (start .args .book .now) (start .args .question) (goalHere start) (start .args .ranks .now)
+          (as-not (start .args .book .now) (start .args .question) (goalHere start) (refused .why .given .1) (asked .ask .ensures));
+      ranks-kept = refl;
+      plan-kept = refl;
+    }
 
 same-length : tie.Need-same-length
 same-length c = search needs
@@ -38,7 +85,18 @@ same-length-2 : tie.Need-same-length-2
 same-length-2 c = search needs
 
 returns-3 : tie.Need-returns-3
-returns-3 c = inr ((c .before .before .before .before .before .before .before .before .before .before .settings .given .0 .0), (c .before .before .before .before .before .before .before .before .before .before .settings .given .0 .1 .0), (as-valid (c .before .before .before .before .before .before .before .before .before .before .before .before .before .before .before .before .before .before .args .book .now) (c .before .before .before .before .before .before .before .before .before .before .before .before .before .before .before .before .before .before .args .question) (c .before .before .before .before .before .before .before .before .before .before .before .before .before .before .before .before .before .before .args .make .now) (c .before .before .before .before .before .before .before .before .before .before .before .before .before .before .before .before .before .before .args .learn .now) (c .before .before .before .before .before .before .before .before .before .before .settings .given .1) (c .before .before .before .before .before .before .before .before .before .before .before .before .ask .ensures)), omega (arith, c .before .before .before .before .before .before .before .before .numbers .ensures, c .before .before .before .before .before .before .before .if1 .left), c .before .before .before .before .search .ensures .0, c .before .before .before .before .search .ensures .1)
+returns-3 c =
+    let searched = c .before .before .before .before in
+    let fits = searched .before .before .before in
+    let judged = fits .before .before .before in
+    inr (
+      judged .settings .given .0 .0,
+      judged .settings .given .0 .1 .0,
+      valid judged,
+      omega (arith, size-is (fits .before), fits .if1 .left),
+      searched .search .ensures .0,
+      searched .search .ensures .1,
+    )
 
 pub find-spec : {M : Type 1} → statement M
 find-spec =

@@ -1,24 +1,48 @@
--- `search` meets its contract: the tables tell the question's system, and the ranks are its ranks.
-use mathlib.Core.Path.{sym, subst}
+-- `finder::finding::search` meets its contract: the tables tell the question's system, and the ranks are its ranks.
+use borrow.Author.Needs.{needs}
+use mathlib.Core.Path.{_≡_, sym, subst}
 use Prim.Native.Nat.{ℕ, _^_, _<_}
 use native.Mathlib.Omega.{arith}
-use Rattle.question.specs.Question.{systemOf}
-use Rattle.finder.specs.Answers.{Answers}
-use Rattle.finder.proofs.Tables.{marks-ready, tables-tell}
+use Rattle.knowledge.specs.Goal.{goalOf}
+use Rattle.plan.specs.Plans.{System}
+use Rattle.question.specs.Question.{systemOf, startOf}
 use Rattle.question.proofs.AskLaws.{start-is}
-use Rattle.finder.proofs.FindLaws.{start-below, filled}
-use borrow.Author.Needs.{needs}
+use Rattle.question.proofs.SystemLaws.{valid-start}
+use Rattle.finder.specs.Answers.{AnswersFrom}
+use Rattle.finder.specs.Tables.{TablesTell}
+use Rattle.finder.specs.Finds.{RanksFilled}
+use Rattle.finder.proofs.Tables.{tables-tell, ranks-filled}
 use Rattle.finder.proofs.finding.search.Statement.{statement}
 use Rattle.finder.proofs.finding.search.Tie as tie
 
-made-requires : tie.Need-made-requires
-made-requires c κs = search needs
+-- the question's system
+abbrev systemHere : tie.Start → System
+systemHere s = systemOf (s .args .n) (s .args .book .now) (s .args .question) (goalOf (s .args .make .now) (s .args .learn .now))
 
-learnt-requires : tie.Need-learnt-requires
-learnt-requires c κs = search needs
+-- the places before the ranks are filled
+abbrev started : tie.After-fill-ranks → tie.Start
+started c = c .before .before .before .before .before .before .before .before .before .before .before .before .before .before .before
 
-mark-requires : tie.Need-mark-requires
-mark-requires c κs = search needs
+abbrev looked : tie.After-fill-ranks → tie.After-posts-allowed2
+looked c = c .before .before .before .before .before .before .before .before
+
+-- once the ranks are filled, the tables tell the question's system
+told : (c : tie.After-fill-ranks)
+    → TablesTell (started c .args .n) (looked c .before .posts-allowed .result) (looked c .posts-allowed2 .result) (c .fill-ranks .last .1 .1 .1 .1 .1 .0) (systemHere (started c))
+told c =
+    let halves = c .before .before .before .before .before .before in
+    tables-tell (started c .pre .0 .1) (looked c .before .posts-allowed .ensures) (looked c .posts-allowed2 .ensures)
+    (halves .before .made .ensures) (halves .learnt .ensures) (c .fill-ranks .ensures) (started c .pre .1)
+
+filled : (c : tie.After-fill-ranks) → RanksFilled (started c .args .n) (systemHere (started c)) (started c .args .ranks .now) (c .fill-ranks .last .1 .1 .1 .1 .1 .0)
+filled c =
+    let halves = c .before .before .before .before .before .before in
+    ranks-filled (started c .pre .0 .1) (looked c .before .posts-allowed .ensures) (looked c .posts-allowed2 .ensures)
+    (halves .before .made .ensures) (halves .learnt .ensures) (c .fill-ranks .ensures) (started c .pre .1)
+
+-- the number of the start
+start-here : (c : tie.After-number) → c .number .result ≡ startOf (started (c .before .before .before .before) .args .question)
+start-here c = start-is (started (c .before .before .before .before) .args .question) (c .before .at-start .ensures) (c .number .ensures)
 
 posts-allowed-requires : tie.Need-posts-allowed-requires
 posts-allowed-requires c κs = search needs
@@ -26,8 +50,14 @@ posts-allowed-requires c κs = search needs
 posts-allowed-requires-2 : tie.Need-posts-allowed-requires-2
 posts-allowed-requires-2 c κs = search needs
 
-spread-requires : tie.Need-spread-requires
-spread-requires c κs = record { few = c .before .before .before .before .before .before .before .before .before .before .before .before .before .before .before .before .before .before .pre .1; room = omega (arith, c .before .before .before .before .before .before .before .mark .ensures .long, c .before .before .before .before .before .before .before .before .before .before .before .before .before .before .before .before .before .before .pre .3); marks = marks-ready (c .before .before .before .before .before .before .before .before .before .before .before .before .before .before .before .before .before .before .args .n) (c .before .before .before .before .before .before .before .before .before .before .before .before .before .before .before .before .before .before .args .make .now) (c .before .before .before .before .before .before .before .before .before .before .before .before .before .before .before .before .before .before .args .learn .now) (c .before .before .before .before .before .before .before .before .before .before .before .before .made .ensures) (c .before .before .before .before .before .before .before .before .before .before .before .learnt .ensures) (c .before .before .before .before .before .before .before .mark .ensures) (c .before .before .before .before .before .before .before .before .before .before .before .before .before .before .before .before .before .before .pre .1) }
+made-requires : tie.Need-made-requires
+made-requires c κs = search needs
+
+learnt-requires : tie.Need-learnt-requires
+learnt-requires c κs = search needs
+
+fill-ranks-requires : tie.Need-fill-ranks-requires
+fill-ranks-requires c κs = search needs
 
 at-start-requires : tie.Need-at-start-requires
 at-start-requires c κs = search needs
@@ -36,7 +66,14 @@ number-requires : tie.Need-number-requires
 number-requires c κs = search needs
 
 from-start-requires : tie.Need-from-start-requires
-from-start-requires c κs = (subst (λ (x : ℕ). x < 7 ^ (c .before .before .before .before .before .before .before .before .before .before .before .before .before .before .before .before .before .before .before .before .before .before .before .before .before .before .before .args .n)) (sym (start-is (c .before .before .before .before .before .before .before .before .before .before .before .before .before .before .before .before .before .before .before .before .before .before .before .before .before .before .before .args .known) (c .before .before .before .before .before .before .before .before .before .before .before .before .before .before .before .before .before .before .before .before .before .before .before .before .before .before .before .args .values) (c .before .before .before .before .before .at-start .ensures) (c .before .before .before .before .number .ensures))) (start-below (c .before .before .before .before .before .before .before .before .before .before .before .before .before .before .before .before .before .before .before .before .before .before .before .before .before .before .before .args .n) (c .before .before .before .before .before .before .before .before .before .before .before .before .before .before .before .before .before .before .before .before .before .before .before .before .before .before .before .args .known) (c .before .before .before .before .before .before .before .before .before .before .before .before .before .before .before .before .before .before .before .before .before .before .before .before .before .before .before .args .values) (c .before .before .before .before .before .before .before .before .before .before .before .before .before .before .before .before .before .before .before .before .before .before .before .before .before .before .before .pre .1) (c .before .before .before .before .before .before .before .before .before .before .before .before .before .before .before .before .before .before .before .before .before .before .before .before .before .before .before .pre .2)), omega (arith, c .before .before .before .before .before .before .before .before .spread .ensures .same-length, c .before .before .before .before .before .before .before .before .before .before .before .before .before .before .before .before .mark .ensures .long, c .before .before .before .before .before .before .before .before .before .before .before .before .before .before .before .before .before .before .before .before .before .before .before .before .before .before .before .pre .3), (systemOf (c .before .before .before .before .before .before .before .before .before .before .before .before .before .before .before .before .before .before .before .before .before .before .before .before .before .before .before .args .n) (c .before .before .before .before .before .before .before .before .before .before .before .before .before .before .before .before .before .before .before .before .before .before .before .before .before .before .before .args .book .now) (c .before .before .before .before .before .before .before .before .before .before .before .before .before .before .before .before .before .before .before .before .before .before .before .before .before .before .before .args .team) (c .before .before .before .before .before .before .before .before .before .before .before .before .before .before .before .before .before .before .before .before .before .before .before .before .before .before .before .args .make .now) (c .before .before .before .before .before .before .before .before .before .before .before .before .before .before .before .before .before .before .before .before .before .before .before .before .before .before .before .args .learn .now), tables-tell (c .before .before .before .before .before .before .before .before .before .before .before .before .before .before .before .before .before .before .before .before .before .before .before .before .before .before .before .args .n) (c .before .before .before .before .before .before .before .before .before .before .before .before .before .before .before .before .before .before .before .before .before .before .before .before .before .before .before .args .make .now) (c .before .before .before .before .before .before .before .before .before .before .before .before .before .before .before .before .before .before .before .before .before .before .before .before .before .before .before .args .learn .now) (c .before .before .before .before .before .before .before .before .before .before .before .before .before .before .before .before .before .before .before .before .before .made .ensures) (c .before .before .before .before .before .before .before .before .before .before .before .before .before .before .before .before .before .before .before .before .learnt .ensures) (c .before .before .before .before .before .before .before .before .before .before .before .before .before .before .before .before .mark .ensures) (c .before .before .before .before .before .before .before .before .before .before .before .before .before .before .before .before .before .before .before .before .before .before .before .before .before .before .before .args .team) (c .before .before .before .before .before .before .before .before .before .before .before .before .before .before .before .before .before .before .before .before .before .before .before .before .before .before .before .args .book .now) (c .before .before .before .before .before .before .before .before .before .before .before .before .before .before .before .before .before .before .before .before .before .before .before .before .before .before .before .pre .1) (omega (arith, c .before .before .before .before .before .before .before .before .before .before .before .before .before .before .before .before .before .before .before .before .before .before .before .before .before .before .before .fits .team)) (c .before .before .before .before .before .before .before .before .before .before .before .before .before .posts-allowed .ensures) (c .before .before .before .before .before .before .before .before .before .before .before .before .posts-allowed2 .ensures) (c .before .before .before .before .before .before .before .before .spread .ensures)))
+from-start-requires c κs =
+    let numbered = c .before .before .before .before in
+    let ranked = numbered .before .before .before .before in
+    let start = started ranked in (
+      subst (λ (x : ℕ). x < 7 ^ start .args .n) (sym (start-here numbered)) (valid-start (start .pre .0 .1)),
+      omega (arith, start .pre .1, filled ranked .size),
+      (systemHere start, told ranked),
+    )
 
 same-length : tie.Need-same-length
 same-length c = search needs
@@ -45,18 +82,25 @@ same-length-2 : tie.Need-same-length-2
 same-length-2 c = search needs
 
 returns : tie.Need-returns
-returns c = (let t = tables-tell (c .before .before .before .before .before .before .before .before .before .before .before .before .before .before .before .before .before .before .before .before .before .before .before .before .before .before .before .before .before .before .args .n) (c .before .before .before .before .before .before .before .before .before .before .before .before .before .before .before .before .before .before .before .before .before .before .before .before .before .before .before .before .before .before .args .make .now) (c .before .before .before .before .before .before .before .before .before .before .before .before .before .before .before .before .before .before .before .before .before .before .before .before .before .before .before .before .before .before .args .learn .now) (c .before .before .before .before .before .before .before .before .before .before .before .before .before .before .before .before .before .before .before .before .before .before .before .before .made .ensures) (c .before .before .before .before .before .before .before .before .before .before .before .before .before .before .before .before .before .before .before .before .before .before .before .learnt .ensures) (c .before .before .before .before .before .before .before .before .before .before .before .before .before .before .before .before .before .before .before .mark .ensures) (c .before .before .before .before .before .before .before .before .before .before .before .before .before .before .before .before .before .before .before .before .before .before .before .before .before .before .before .before .before .before .args .team) (c .before .before .before .before .before .before .before .before .before .before .before .before .before .before .before .before .before .before .before .before .before .before .before .before .before .before .before .before .before .before .args .book .now) (c .before .before .before .before .before .before .before .before .before .before .before .before .before .before .before .before .before .before .before .before .before .before .before .before .before .before .before .before .before .before .pre .1) (omega (arith, c .before .before .before .before .before .before .before .before .before .before .before .before .before .before .before .before .before .before .before .before .before .before .before .before .before .before .before .before .before .before .fits .team)) (c .before .before .before .before .before .before .before .before .before .before .before .before .before .before .before .before .posts-allowed .ensures) (c .before .before .before .before .before .before .before .before .before .before .before .before .before .before .before .posts-allowed2 .ensures) (c .before .before .before .before .before .before .before .before .before .before .before .spread .ensures) in (filled (c .before .before .before .before .before .before .before .before .before .before .before .before .before .before .before .before .before .before .before .mark .ensures) (c .before .before .before .before .before .before .before .before .before .before .before .spread .ensures) t, subst (λ (x : ℕ). Answers (systemOf (c .before .before .before .before .before .before .before .before .before .before .before .before .before .before .before .before .before .before .before .before .before .before .before .before .before .before .before .before .before .before .args .n) (c .before .before .before .before .before .before .before .before .before .before .before .before .before .before .before .before .before .before .before .before .before .before .before .before .before .before .before .before .before .before .args .book .now) (c .before .before .before .before .before .before .before .before .before .before .before .before .before .before .before .before .before .before .before .before .before .before .before .before .before .before .before .before .before .before .args .team) (c .before .before .before .before .before .before .before .before .before .before .before .before .before .before .before .before .before .before .before .before .before .before .before .before .before .before .before .before .before .before .args .make .now) (c .before .before .before .before .before .before .before .before .before .before .before .before .before .before .before .before .before .before .before .before .before .before .before .before .before .before .before .before .before .before .args .learn .now)) x (c .before .before .before .before .before .before .before .before .before .before .before .before .before .before .before .before .before .before .before .before .before .before .before .before .before .before .before .before .before .before .args .plan .now) (c .before .before .from-start .result) (c .before .before .from-start .last .1 .1 .1 .1 .1 .0)) (start-is (c .before .before .before .before .before .before .before .before .before .before .before .before .before .before .before .before .before .before .before .before .before .before .before .before .before .before .before .before .before .before .args .known) (c .before .before .before .before .before .before .before .before .before .before .before .before .before .before .before .before .before .before .before .before .before .before .before .before .before .before .before .before .before .before .args .values) (c .before .before .before .before .before .before .before .before .at-start .ensures) (c .before .before .before .before .before .before .before .number .ensures)) (c .before .before .from-start .ensures (systemOf (c .before .before .before .before .before .before .before .before .before .before .before .before .before .before .before .before .before .before .before .before .before .before .before .before .before .before .before .before .before .before .args .n) (c .before .before .before .before .before .before .before .before .before .before .before .before .before .before .before .before .before .before .before .before .before .before .before .before .before .before .before .before .before .before .args .book .now) (c .before .before .before .before .before .before .before .before .before .before .before .before .before .before .before .before .before .before .before .before .before .before .before .before .before .before .before .before .before .before .args .team) (c .before .before .before .before .before .before .before .before .before .before .before .before .before .before .before .before .before .before .before .before .before .before .before .before .before .before .before .before .before .before .args .make .now) (c .before .before .before .before .before .before .before .before .before .before .before .before .before .before .before .before .before .before .before .before .before .before .before .before .before .before .before .before .before .before .args .learn .now)) t)))
+returns c =
+    let answered = c .before .before in
+    let numbered = answered .before .before .before .before .before in
+    let ranked = numbered .before .before .before .before in
+    let start = started ranked in (
+      filled ranked,
+      subst (λ (x : ℕ). AnswersFrom (systemHere start) x (start .args .plan .now) (answered .from-start .result) (answered .from-start .last .1 .1 .1 .1 .1 .0))
+          (start-here numbered) (answered .from-start .ensures (systemHere start) (told ranked)),
+    )
 
 pub search-spec : {M : Type 1} → statement M
 search-spec =
     tie.close
     (tie.spec
-    made-requires
-    learnt-requires
-    mark-requires
     posts-allowed-requires
     posts-allowed-requires-2
-    spread-requires
+    made-requires
+    learnt-requires
+    fill-ranks-requires
     at-start-requires
     number-requires
     from-start-requires

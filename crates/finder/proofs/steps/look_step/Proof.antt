@@ -9,7 +9,7 @@ use native.Mathlib.Omega.{arith}
 use Rattle.ground.specs.Digits.{bit}
 use Rattle.ground.specs.Search.{Least}
 use Rattle.knowledge_acts.proofs.Outcomes.{look-below}
-use Rattle.finder_sides.proofs.ApartLaws.{below-sides}
+use Rattle.finder_sides.proofs.Shown.{below-sides}
 use Rattle.finder.proofs.StepLaws.{number-small, at-side, rank-at, digit-at, look-seen, look-nobody, look-no-lower, look-do}
 use Rattle.finder.proofs.steps.look_step.Statement.{statement}
 use Rattle.finder.proofs.steps.look_step.Tie as tie

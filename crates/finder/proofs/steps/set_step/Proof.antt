@@ -7,7 +7,7 @@ use native.Mathlib.Omega.{arith}
 use Rattle.ground.specs.Digits.{bit}
 use Rattle.ground.specs.Search.{Least}
 use Rattle.knowledge_acts.proofs.Outcomes.{set-below}
-use Rattle.finder_sides.proofs.ApartLaws.{below-sides}
+use Rattle.finder_sides.proofs.Shown.{below-sides}
 use Rattle.finder.proofs.StepLaws.{number-small, at-side, rank-at, set-nobody, set-no-lower, set-do}
 use Rattle.finder.proofs.steps.set_step.Statement.{statement}
 use Rattle.finder.proofs.steps.set_step.Tie as tie

@@ -5,7 +5,7 @@ use native.Mathlib.Omega.{arith}
 use lib.ListN.{getD}
 use Rattle.knowledge_acts.specs.declared.act.Act.the-variants.{Set, Look}
 use Rattle.plan.specs.Plans.{stop}
-use Rattle.finder.specs.Told.{Chooses, Ranked}
+use Rattle.finder.specs.Tables.{Chooses, Ranked}
 use Rattle.finder.specs.declared.steps.Step.the-variants.{Do}
 use Rattle.finder.proofs.StepLaws.{number-small}
 use Rattle.finder.proofs.PlanLaws.{next-set, next-look, step-setting, most, stop-plan, set-plan, look-plan}

@@ -8,7 +8,7 @@ use lib.ListN.{length, getD, length-set}
 use Rattle.knowledge_acts.specs.Acts.{planByte}
 use Rattle.knowledge_acts.specs.declared.act.Act.the-variants.{Set, Look}
 use Rattle.plan.specs.Plans.{stop}
-use Rattle.finder.specs.Told.{Chooses, Ranked, Room}
+use Rattle.finder.specs.Tables.{Chooses, Ranked, PlanFits}
 use Rattle.finder.specs.declared.steps.Step.the-variants.{Do}
 use Rattle.finder.proofs.StepLaws.{number-small}
 use Rattle.finder.proofs.PlanLaws.{next-set, next-look, step-setting, step-byte, stop-plan, room-here, room-set, set-written, room-false, room-true, look-written}
@@ -69,7 +69,7 @@ write-add-write : (t : ℕ) → write-lts.Need-add-write (write-claims t) (write
 write-add-write t c = omega (arith, room-here (c .before .before .before .before .before .before .before .before .before .before .before .before .pre .1 .0) (c .before .before .before .before .before .before .before .before .before .before .before .before .pre .1 .1))
 
 write-write-requires : (t : ℕ) → write-lts.Need-write-requires (write-claims t) (write-at t) write.Post
-write-write-requires t c κs = (let x = next-set (c .before .before .before .before .before .before .before .before .before .before .before .before .pre .1 .0) (c .before .before .before .act2 .given .0 .0) (c .before .before .before .act2 .given .0 .1 .0) (c .before .before .before .act2 .given .0 .1 .1 .0) (subst (Chooses ((c .before .before .before .before .before .before .before .before .before .before .before .before .pre .1 .0) .system) (c .before .before .before .before .before .before .before .before .before .before .before .before .args .ranks .now) (c .before .before .before .before .before .before .before .before .before .before .before .before .args .k)) (c .before .before .before .before .before .before .before .act .given .1 ∙ ap Do (c .before .before .before .act2 .given .1)) (c .before .before .before .before .before .before .before .before .before .choose .ensures ((c .before .before .before .before .before .before .before .before .before .before .before .before .pre .1 .0) .system) ((c .before .before .before .before .before .before .before .before .before .before .before .before .pre .1 .0) .told))) in (subst (λ (y : ℕ). getD (c .before .before .before .before .before .before .before .before .before .before .before .before .args .ranks .now) y 0 < t) (sym (c .before .set-to .ensures)) (omega (arith, x .1, c .before .before .before .before .before .before .before .before .before .before .before .before .pre .0)), (subst (Ranked (c .before .before .before .before .before .before .before .before .before .before .before .before .args .n) (c .before .before .before .before .before .before .before .before .before .before .before .before .args .set .now) (c .before .before .before .before .before .before .before .before .before .before .before .before .args .look .now) (c .before .before .before .before .before .before .before .before .before .before .before .before .args .ranks .now)) (sym (c .before .set-to .ensures)) (x .0), subst (λ (e : ℕ). Room (c .before .before .before .before .before .before .before .before .before .before .before .before .args .n) (c .before .before .before .before .before .before .before .before .before .before .before .before .args .set .now) (c .before .before .before .before .before .before .before .before .before .before .before .before .args .look .now) (c .before .before .before .before .before .before .before .before .before .before .before .before .args .ranks .now) (c .before .set-to .result) ((c .before .before .before .before .before .before .before .before .before .before .before .before .args .at) + 1) e) (sym (length-set (c .before .before .before .before .before .before .before .before .before .before .before .before .args .room .now) (c .before .before .before .before .before .before .before .before .before .before .before .before .args .at) (c .before .before .before .before .before .byte .result))) (room-set (c .before .before .before .before .before .before .before .before .before .before .before .before .pre .1 .0) (λ S u. (subst (Chooses S (c .before .before .before .before .before .before .before .before .before .before .before .before .args .ranks .now) (c .before .before .before .before .before .before .before .before .before .before .before .before .args .k)) (c .before .before .before .before .before .before .before .act .given .1 ∙ ap Do (c .before .before .before .act2 .given .1)) (c .before .before .before .before .before .before .before .before .before .choose .ensures S u))) (c .before .before .before .before .before .before .before .before .before .before .before .before .args .at) (length (c .before .before .before .before .before .before .before .before .before .before .before .before .args .room .now)) (c .before .set-to .ensures) (c .before .before .before .before .before .before .before .before .before .before .before .before .pre .1 .1)))))
+write-write-requires t c κs = (let x = next-set (c .before .before .before .before .before .before .before .before .before .before .before .before .pre .1 .0) (c .before .before .before .act2 .given .0 .0) (c .before .before .before .act2 .given .0 .1 .0) (c .before .before .before .act2 .given .0 .1 .1 .0) (subst (Chooses ((c .before .before .before .before .before .before .before .before .before .before .before .before .pre .1 .0) .system) (c .before .before .before .before .before .before .before .before .before .before .before .before .args .ranks .now) (c .before .before .before .before .before .before .before .before .before .before .before .before .args .k)) (c .before .before .before .before .before .before .before .act .given .1 ∙ ap Do (c .before .before .before .act2 .given .1)) (c .before .before .before .before .before .before .before .before .before .choose .ensures ((c .before .before .before .before .before .before .before .before .before .before .before .before .pre .1 .0) .system) ((c .before .before .before .before .before .before .before .before .before .before .before .before .pre .1 .0) .told))) in (subst (λ (y : ℕ). getD (c .before .before .before .before .before .before .before .before .before .before .before .before .args .ranks .now) y 0 < t) (sym (c .before .set-to .ensures)) (omega (arith, x .1, c .before .before .before .before .before .before .before .before .before .before .before .before .pre .0)), (subst (Ranked (c .before .before .before .before .before .before .before .before .before .before .before .before .args .n) (c .before .before .before .before .before .before .before .before .before .before .before .before .args .set .now) (c .before .before .before .before .before .before .before .before .before .before .before .before .args .look .now) (c .before .before .before .before .before .before .before .before .before .before .before .before .args .ranks .now)) (sym (c .before .set-to .ensures)) (x .0), subst (λ (e : ℕ). PlanFits (c .before .before .before .before .before .before .before .before .before .before .before .before .args .n) (c .before .before .before .before .before .before .before .before .before .before .before .before .args .set .now) (c .before .before .before .before .before .before .before .before .before .before .before .before .args .look .now) (c .before .before .before .before .before .before .before .before .before .before .before .before .args .ranks .now) (c .before .set-to .result) ((c .before .before .before .before .before .before .before .before .before .before .before .before .args .at) + 1) e) (sym (length-set (c .before .before .before .before .before .before .before .before .before .before .before .before .args .room .now) (c .before .before .before .before .before .before .before .before .before .before .before .before .args .at) (c .before .before .before .before .before .byte .result))) (room-set (c .before .before .before .before .before .before .before .before .before .before .before .before .pre .1 .0) (λ S u. (subst (Chooses S (c .before .before .before .before .before .before .before .before .before .before .before .before .args .ranks .now) (c .before .before .before .before .before .before .before .before .before .before .before .before .args .k)) (c .before .before .before .before .before .before .before .act .given .1 ∙ ap Do (c .before .before .before .act2 .given .1)) (c .before .before .before .before .before .before .before .before .before .choose .ensures S u))) (c .before .before .before .before .before .before .before .before .before .before .before .before .args .at) (length (c .before .before .before .before .before .before .before .before .before .before .before .before .args .room .now)) (c .before .set-to .ensures) (c .before .before .before .before .before .before .before .before .before .before .before .before .pre .1 .1)))))
 
 write-enum-known-act-3 : (t : ℕ) → write-lts.Need-enum-known-act-3 (write-claims t) (write-at t) write.Post
 write-enum-known-act-3 t c = c .match2 .keys2
@@ -81,13 +81,13 @@ write-add-write-2 : (t : ℕ) → write-lts.Need-add-write-2 (write-claims t) (w
 write-add-write-2 t c = omega (arith, room-here (c .before .before .before .before .before .before .before .before .before .before .before .before .pre .1 .0) (c .before .before .before .before .before .before .before .before .before .before .before .before .pre .1 .1))
 
 write-write-requires-2 : (t : ℕ) → write-lts.Need-write-requires-2 (write-claims t) (write-at t) write.Post
-write-write-requires-2 t c κs = (let x = next-look (c .before .before .before .before .before .before .before .before .before .before .before .before .pre .1 .0) (c .before .before .before .act3 .given .0 .0) (c .before .before .before .act3 .given .0 .1 .0) false (subst (Chooses ((c .before .before .before .before .before .before .before .before .before .before .before .before .pre .1 .0) .system) (c .before .before .before .before .before .before .before .before .before .before .before .before .args .ranks .now) (c .before .before .before .before .before .before .before .before .before .before .before .before .args .k)) (c .before .before .before .before .before .before .before .act .given .1 ∙ ap Do (c .before .before .before .act3 .given .1)) (c .before .before .before .before .before .before .before .before .before .choose .ensures ((c .before .before .before .before .before .before .before .before .before .before .before .before .pre .1 .0) .system) ((c .before .before .before .before .before .before .before .before .before .before .before .before .pre .1 .0) .told))) in (subst (λ (y : ℕ). getD (c .before .before .before .before .before .before .before .before .before .before .before .before .args .ranks .now) y 0 < t) (sym (c .before .look-at .ensures)) (omega (arith, x .1, c .before .before .before .before .before .before .before .before .before .before .before .before .pre .0)), (subst (Ranked (c .before .before .before .before .before .before .before .before .before .before .before .before .args .n) (c .before .before .before .before .before .before .before .before .before .before .before .before .args .set .now) (c .before .before .before .before .before .before .before .before .before .before .before .before .args .look .now) (c .before .before .before .before .before .before .before .before .before .before .before .before .args .ranks .now)) (sym (c .before .look-at .ensures)) (x .0), subst (λ (e : ℕ). Room (c .before .before .before .before .before .before .before .before .before .before .before .before .args .n) (c .before .before .before .before .before .before .before .before .before .before .before .before .args .set .now) (c .before .before .before .before .before .before .before .before .before .before .before .before .args .look .now) (c .before .before .before .before .before .before .before .before .before .before .before .before .args .ranks .now) (c .before .look-at .result) ((c .before .before .before .before .before .before .before .before .before .before .before .before .args .at) + 1) e) (sym (length-set (c .before .before .before .before .before .before .before .before .before .before .before .before .args .room .now) (c .before .before .before .before .before .before .before .before .before .before .before .before .args .at) (c .before .before .before .before .before .byte .result))) (room-false (c .before .before .before .before .before .before .before .before .before .before .before .before .pre .1 .0) (λ S u. (subst (Chooses S (c .before .before .before .before .before .before .before .before .before .before .before .before .args .ranks .now) (c .before .before .before .before .before .before .before .before .before .before .before .before .args .k)) (c .before .before .before .before .before .before .before .act .given .1 ∙ ap Do (c .before .before .before .act3 .given .1)) (c .before .before .before .before .before .before .before .before .before .choose .ensures S u))) (c .before .before .before .before .before .before .before .before .before .before .before .before .args .at) (length (c .before .before .before .before .before .before .before .before .before .before .before .before .args .room .now)) (c .before .look-at .ensures) (c .before .before .before .before .before .before .before .before .before .before .before .before .pre .1 .1)))))
+write-write-requires-2 t c κs = (let x = next-look (c .before .before .before .before .before .before .before .before .before .before .before .before .pre .1 .0) (c .before .before .before .act3 .given .0 .0) (c .before .before .before .act3 .given .0 .1 .0) false (subst (Chooses ((c .before .before .before .before .before .before .before .before .before .before .before .before .pre .1 .0) .system) (c .before .before .before .before .before .before .before .before .before .before .before .before .args .ranks .now) (c .before .before .before .before .before .before .before .before .before .before .before .before .args .k)) (c .before .before .before .before .before .before .before .act .given .1 ∙ ap Do (c .before .before .before .act3 .given .1)) (c .before .before .before .before .before .before .before .before .before .choose .ensures ((c .before .before .before .before .before .before .before .before .before .before .before .before .pre .1 .0) .system) ((c .before .before .before .before .before .before .before .before .before .before .before .before .pre .1 .0) .told))) in (subst (λ (y : ℕ). getD (c .before .before .before .before .before .before .before .before .before .before .before .before .args .ranks .now) y 0 < t) (sym (c .before .look-at .ensures)) (omega (arith, x .1, c .before .before .before .before .before .before .before .before .before .before .before .before .pre .0)), (subst (Ranked (c .before .before .before .before .before .before .before .before .before .before .before .before .args .n) (c .before .before .before .before .before .before .before .before .before .before .before .before .args .set .now) (c .before .before .before .before .before .before .before .before .before .before .before .before .args .look .now) (c .before .before .before .before .before .before .before .before .before .before .before .before .args .ranks .now)) (sym (c .before .look-at .ensures)) (x .0), subst (λ (e : ℕ). PlanFits (c .before .before .before .before .before .before .before .before .before .before .before .before .args .n) (c .before .before .before .before .before .before .before .before .before .before .before .before .args .set .now) (c .before .before .before .before .before .before .before .before .before .before .before .before .args .look .now) (c .before .before .before .before .before .before .before .before .before .before .before .before .args .ranks .now) (c .before .look-at .result) ((c .before .before .before .before .before .before .before .before .before .before .before .before .args .at) + 1) e) (sym (length-set (c .before .before .before .before .before .before .before .before .before .before .before .before .args .room .now) (c .before .before .before .before .before .before .before .before .before .before .before .before .args .at) (c .before .before .before .before .before .byte .result))) (room-false (c .before .before .before .before .before .before .before .before .before .before .before .before .pre .1 .0) (λ S u. (subst (Chooses S (c .before .before .before .before .before .before .before .before .before .before .before .before .args .ranks .now) (c .before .before .before .before .before .before .before .before .before .before .before .before .args .k)) (c .before .before .before .before .before .before .before .act .given .1 ∙ ap Do (c .before .before .before .act3 .given .1)) (c .before .before .before .before .before .before .before .before .before .choose .ensures S u))) (c .before .before .before .before .before .before .before .before .before .before .before .before .args .at) (length (c .before .before .before .before .before .before .before .before .before .before .before .before .args .room .now)) (c .before .look-at .ensures) (c .before .before .before .before .before .before .before .before .before .before .before .before .pre .1 .1)))))
 
 write-look-at-requires-2 : (t : ℕ) → write-lts.Need-look-at-requires-2 (write-claims t) (write-at t) write.Post
 write-look-at-requires-2 t c κs = (number-small (c .before .before .before .before .before .before .before .before .before .before .before .before .before .before .before .args .n) (c .before .before .before .before .before .before .before .before .before .before .before .before .before .before .before .args .k) ((c .before .before .before .before .before .before .before .before .before .before .before .before .before .before .before .pre .1 .0) .few) ((c .before .before .before .before .before .before .before .before .before .before .before .before .before .before .before .pre .1 .0) .state), step-setting (c .before .before .before .before .before .before .before .before .before .before .before .before .before .before .before .pre .1 .0) (Look (c .before .before .before .before .before .before .act3 .given .0 .0) (c .before .before .before .before .before .before .act3 .given .0 .1 .0)) (subst (Chooses ((c .before .before .before .before .before .before .before .before .before .before .before .before .before .before .before .pre .1 .0) .system) (c .before .before .before .before .before .before .before .before .before .before .before .before .before .before .before .args .ranks .now) (c .before .before .before .before .before .before .before .before .before .before .before .before .before .before .before .args .k)) (c .before .before .before .before .before .before .before .before .before .before .act .given .1 ∙ ap Do (c .before .before .before .before .before .before .act3 .given .1)) (c .before .before .before .before .before .before .before .before .before .before .before .before .choose .ensures ((c .before .before .before .before .before .before .before .before .before .before .before .before .before .before .before .pre .1 .0) .system) ((c .before .before .before .before .before .before .before .before .before .before .before .before .before .before .before .pre .1 .0) .told))))
 
 write-write-requires-3 : (t : ℕ) → write-lts.Need-write-requires-3 (write-claims t) (write-at t) write.Post
-write-write-requires-3 t c κs = (let x = next-look (c .before .before .before .before .before .before .before .before .before .before .before .before .before .before .before .before .before .pre .1 .0) (c .before .before .before .before .before .before .before .before .act3 .given .0 .0) (c .before .before .before .before .before .before .before .before .act3 .given .0 .1 .0) true (subst (Chooses ((c .before .before .before .before .before .before .before .before .before .before .before .before .before .before .before .before .before .pre .1 .0) .system) (c .before .before .before .before .before .before .before .before .before .before .before .before .before .before .before .before .before .args .ranks .now) (c .before .before .before .before .before .before .before .before .before .before .before .before .before .before .before .before .before .args .k)) (c .before .before .before .before .before .before .before .before .before .before .before .before .act .given .1 ∙ ap Do (c .before .before .before .before .before .before .before .before .act3 .given .1)) (c .before .before .before .before .before .before .before .before .before .before .before .before .before .before .choose .ensures ((c .before .before .before .before .before .before .before .before .before .before .before .before .before .before .before .before .before .pre .1 .0) .system) ((c .before .before .before .before .before .before .before .before .before .before .before .before .before .before .before .before .before .pre .1 .0) .told))) in (subst (λ (y : ℕ). getD (c .before .before .before .before .before .before .before .before .before .before .before .before .before .before .before .before .before .args .ranks .now) y 0 < t) (sym (c .before .look-at2 .ensures)) (omega (arith, x .1, c .before .before .before .before .before .before .before .before .before .before .before .before .before .before .before .before .before .pre .0)), (subst (Ranked (c .before .before .before .before .before .before .before .before .before .before .before .before .before .before .before .before .before .args .n) (c .before .before .before .before .before .before .before .before .before .before .before .before .before .before .before .before .before .args .set .now) (c .before .before .before .before .before .before .before .before .before .before .before .before .before .before .before .before .before .args .look .now) (c .before .before .before .before .before .before .before .before .before .before .before .before .before .before .before .before .before .args .ranks .now)) (sym (c .before .look-at2 .ensures)) (x .0), subst (λ (e : ℕ). Room (c .before .before .before .before .before .before .before .before .before .before .before .before .before .before .before .before .before .args .n) (c .before .before .before .before .before .before .before .before .before .before .before .before .before .before .before .before .before .args .set .now) (c .before .before .before .before .before .before .before .before .before .before .before .before .before .before .before .before .before .args .look .now) (c .before .before .before .before .before .before .before .before .before .before .before .before .before .before .before .before .before .args .ranks .now) (c .before .look-at2 .result) (c .before .before .before .before .write2 .result) e) (sym (c .before .before .before .before .write2 .kept .1 .1 .1 .1 .1 .0 ∙ length-set (c .before .before .before .before .before .before .before .before .before .before .before .before .before .before .before .before .before .args .room .now) (c .before .before .before .before .before .before .before .before .before .before .before .before .before .before .before .before .before .args .at) (c .before .before .before .before .before .before .before .before .before .before .byte .result))) (room-true (c .before .before .before .before .before .before .before .before .before .before .before .before .before .before .before .before .before .pre .1 .0) (λ S u. (subst (Chooses S (c .before .before .before .before .before .before .before .before .before .before .before .before .before .before .before .before .before .args .ranks .now) (c .before .before .before .before .before .before .before .before .before .before .before .before .before .before .before .before .before .args .k)) (c .before .before .before .before .before .before .before .before .before .before .before .before .act .given .1 ∙ ap Do (c .before .before .before .before .before .before .before .before .act3 .given .1)) (c .before .before .before .before .before .before .before .before .before .before .before .before .before .before .choose .ensures S u))) (c .before .before .before .before .before .before .before .before .before .before .before .before .before .before .before .before .before .args .at) (length (c .before .before .before .before .before .before .before .before .before .before .before .before .before .before .before .before .before .args .room .now)) (c .before .before .before .before .before .before .before .before .before .before .byte .result) (c .before .before .before .before .before .before .before .before .before .before .before .before .before .before .before .before .before .args .room .now) (c .before .before .before .before .before .before .look-at .ensures) (c .before .look-at2 .ensures) (c .before .before .before .before .write2 .ensures) (c .before .before .before .before .before .before .before .before .before .before .before .before .before .before .before .before .before .pre .1 .1)))))
+write-write-requires-3 t c κs = (let x = next-look (c .before .before .before .before .before .before .before .before .before .before .before .before .before .before .before .before .before .pre .1 .0) (c .before .before .before .before .before .before .before .before .act3 .given .0 .0) (c .before .before .before .before .before .before .before .before .act3 .given .0 .1 .0) true (subst (Chooses ((c .before .before .before .before .before .before .before .before .before .before .before .before .before .before .before .before .before .pre .1 .0) .system) (c .before .before .before .before .before .before .before .before .before .before .before .before .before .before .before .before .before .args .ranks .now) (c .before .before .before .before .before .before .before .before .before .before .before .before .before .before .before .before .before .args .k)) (c .before .before .before .before .before .before .before .before .before .before .before .before .act .given .1 ∙ ap Do (c .before .before .before .before .before .before .before .before .act3 .given .1)) (c .before .before .before .before .before .before .before .before .before .before .before .before .before .before .choose .ensures ((c .before .before .before .before .before .before .before .before .before .before .before .before .before .before .before .before .before .pre .1 .0) .system) ((c .before .before .before .before .before .before .before .before .before .before .before .before .before .before .before .before .before .pre .1 .0) .told))) in (subst (λ (y : ℕ). getD (c .before .before .before .before .before .before .before .before .before .before .before .before .before .before .before .before .before .args .ranks .now) y 0 < t) (sym (c .before .look-at2 .ensures)) (omega (arith, x .1, c .before .before .before .before .before .before .before .before .before .before .before .before .before .before .before .before .before .pre .0)), (subst (Ranked (c .before .before .before .before .before .before .before .before .before .before .before .before .before .before .before .before .before .args .n) (c .before .before .before .before .before .before .before .before .before .before .before .before .before .before .before .before .before .args .set .now) (c .before .before .before .before .before .before .before .before .before .before .before .before .before .before .before .before .before .args .look .now) (c .before .before .before .before .before .before .before .before .before .before .before .before .before .before .before .before .before .args .ranks .now)) (sym (c .before .look-at2 .ensures)) (x .0), subst (λ (e : ℕ). PlanFits (c .before .before .before .before .before .before .before .before .before .before .before .before .before .before .before .before .before .args .n) (c .before .before .before .before .before .before .before .before .before .before .before .before .before .before .before .before .before .args .set .now) (c .before .before .before .before .before .before .before .before .before .before .before .before .before .before .before .before .before .args .look .now) (c .before .before .before .before .before .before .before .before .before .before .before .before .before .before .before .before .before .args .ranks .now) (c .before .look-at2 .result) (c .before .before .before .before .write2 .result) e) (sym (c .before .before .before .before .write2 .kept .1 .1 .1 .1 .1 .0 ∙ length-set (c .before .before .before .before .before .before .before .before .before .before .before .before .before .before .before .before .before .args .room .now) (c .before .before .before .before .before .before .before .before .before .before .before .before .before .before .before .before .before .args .at) (c .before .before .before .before .before .before .before .before .before .before .byte .result))) (room-true (c .before .before .before .before .before .before .before .before .before .before .before .before .before .before .before .before .before .pre .1 .0) (λ S u. (subst (Chooses S (c .before .before .before .before .before .before .before .before .before .before .before .before .before .before .before .before .before .args .ranks .now) (c .before .before .before .before .before .before .before .before .before .before .before .before .before .before .before .before .before .args .k)) (c .before .before .before .before .before .before .before .before .before .before .before .before .act .given .1 ∙ ap Do (c .before .before .before .before .before .before .before .before .act3 .given .1)) (c .before .before .before .before .before .before .before .before .before .before .before .before .before .before .choose .ensures S u))) (c .before .before .before .before .before .before .before .before .before .before .before .before .before .before .before .before .before .args .at) (length (c .before .before .before .before .before .before .before .before .before .before .before .before .before .before .before .before .before .args .room .now)) (c .before .before .before .before .before .before .before .before .before .before .byte .result) (c .before .before .before .before .before .before .before .before .before .before .before .before .before .before .before .before .before .args .room .now) (c .before .before .before .before .before .before .look-at .ensures) (c .before .look-at2 .ensures) (c .before .before .before .before .write2 .ensures) (c .before .before .before .before .before .before .before .before .before .before .before .before .before .before .before .before .before .pre .1 .1)))))
 
 write-same-length : (t : ℕ) → write-lts.Need-same-length (write-claims t) (write-at t) write.Post
 write-same-length t c = simp length-set

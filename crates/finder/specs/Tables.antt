@@ -1,5 +1,5 @@
--- For this repository alone: what the finder's tables tell of a system, and the step that the plan written takes. No contract of a function that an
--- outside caller reaches cites this.
+-- Inside: what the finder's tables tell of a system, and the step that the plan written takes. No contract of a function that an outside caller
+-- reaches cites this.
 use mathlib.Core.Path.{_≡_}
 use mathlib.Core.Bool.{Bool}
 use mathlib.Core.List.{List}
@@ -14,12 +14,12 @@ use Rattle.plan.specs.Bytes.{encode}
 use Rattle.plan.specs.Ranks.{IsRank, Chosen, Written}
 use Rattle.plan.specs.Certificate.{Leads}
 use Rattle.finder_sides.specs.Sides.{nowSideNumber}
-use Rattle.finder_sides.specs.Over.{entry}
+use Rattle.finder_sides.specs.Tables.{entry}
 use Rattle.finder.specs.declared.steps.Step.{Step}
 use Rattle.finder.specs.declared.steps.Step.the-variants.{Stop, Do}
 
 -- bit q of the two tables tells whether post q may act at a state's present side, and the bytes of the rank table are the ranks
-pub record Told (n : ℕ) (set look : List (List ℕ)) (ranks : List ℕ) (S : System) : Type 0 where
+pub record TablesTell (n : ℕ) (set look : List (List ℕ)) (ranks : List ℕ) (S : System) : Type 0 where
   pub few : n ≤ 7
   pub law : Lawful n S
   pub sets : (k i q : ℕ) (b : Bool) → i < n → q < 8 → may S k (Set i q b) ≡ bit (entry set i (nowSideNumber n k)) q
@@ -51,8 +51,8 @@ pub record Ranked (n : ℕ) (set look : List (List ℕ)) (ranks : List ℕ) (k :
   pub size : 7 ^ n ≤ length ranks
   pub finite : getD ranks k 0 < 255
   pub system : System
-  pub told : Told n set look ranks system
+  pub told : TablesTell n set look ranks system
 
 -- the plan written from k fits between `at` and the room's end
-abbrev pub Room : ℕ → List (List ℕ) → List (List ℕ) → List ℕ → ℕ → ℕ → ℕ → Type 0
-Room n set look ranks k at end = (S : System) → Told n set look ranks S → (p : Plan) → Written S k p → at + length (encode p) ≤ end
+abbrev pub PlanFits : ℕ → List (List ℕ) → List (List ℕ) → List ℕ → ℕ → ℕ → ℕ → Type 0
+PlanFits n set look ranks k at end = (S : System) → TablesTell n set look ranks S → (p : Plan) → Written S k p → at + length (encode p) ≤ end
