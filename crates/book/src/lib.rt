@@ -2,8 +2,9 @@
 // block for each setting. It knows how a book becomes rights in memory and how rights become a book.
 //
 // A book or rights that break a rule of the format are refused, with the first refusal in the written order
-// and at the lowest block; so is a room that is too short. A refusal leaves the lent room as it was. A success fills the first 256 bytes a setting of the room for
-// rights, or the first 512 bytes a block of the room for a book, and no other byte.
+// and at the lowest block; so is a room that is too short. A refusal leaves the lent room as it was. A
+// success fills the first 256 bytes a setting of the room for rights, or the first 512 bytes a block of the
+// room for a book, and no other byte.
 mod reading;
 mod writing;
 

@@ -16,7 +16,7 @@ use Rattle.book_sound.specs.Sound.{Sound}
 use Rattle.book_sound.proofs.BookLaws.{whole-length, first-byte, head-settings}
 use Rattle.book_sound.proofs.BlockRows.{least-block}
 
--- every setting of the book has a block as it must be, and the lowest that has not
+-- setting i of the book has a block as it must be
 abbrev pub Settings : List ℕ → ℕ → Type 0
 Settings book i = SettingBlock (settingsOf book) (postsOf book) (block book (1 + i))
 

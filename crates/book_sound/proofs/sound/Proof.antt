@@ -38,14 +38,19 @@ head : (c : tie.Else3) → RightHead (book-3 c)
 head c = told (RightHead (book-3 c)) (c .before .is-head .result) (c .before .is-head .ensures) (c .if3 .left)
 
 -- what the search for a stray bit has found
-strays : (c : tie.After-first-stray) → Lowest (settingsOf (book-3 (c .before .before .before))) (Settings (book-3 (c .before .before .before))) (c .first-stray .result)
+abbrev Strays : tie.After-first-stray → Type 0
+Strays c = let b = book-3 (c .before .before .before) in Lowest (settingsOf b) (Settings b) (c .first-stray .result)
+
+strays : (c : tie.After-first-stray) → Strays c
 strays c = stray-blocks (head (c .before .before .before)) (c .first-stray .ensures)
 
 is-whole-requires : tie.Need-is-whole-requires
 is-whole-requires c κs = search needs
 
 returns : tie.Need-returns
-returns c = let b = now (c .before .before .before .args .book) in refuse-length b (untold (Whole b) (c .before .is-whole .result) (c .before .is-whole .ensures) (c .if1 .taken))
+returns c =
+    let b = now (c .before .before .before .args .book) in
+    refuse-length b (untold (Whole b) (c .before .is-whole .result) (c .before .is-whole .ensures) (c .if1 .taken))
 
 first-wrong-requires : tie.Need-first-wrong-requires
 unfolding blocks

@@ -11,7 +11,12 @@ use Rattle.book.proofs.reading.read.Statement.{statement}
 use Rattle.book.proofs.reading.read.Tie as tie
 
 -- in the arm of a book, the book is sound
-book : (c : tie.After-known-told2) → Sound (now (c .before .before .before .before .before .before .args .book)) (c .before .answer2 .given .0 .0) (c .before .answer2 .given .0 .1 .0)
+abbrev Read : tie.After-known-told2 → Type 0
+Read c =
+    let told = c .before .answer2 .given in
+    Sound (now (c .before .before .before .before .before .before .args .book)) (told .0 .0) (told .0 .1 .0)
+
+book : (c : tie.After-known-told2) → Read c
 book c =
     let told = c .before .answer2 .given in
     let judged = c .before .before .before .sound in

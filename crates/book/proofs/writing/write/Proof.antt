@@ -41,7 +41,9 @@ write-head-requires : tie.Need-write-head-requires
 write-head-requires c κs = let w = may (c .before) in omega (arith, w .1)
 
 write-settings-requires : tie.Need-write-settings-requires
-write-settings-requires c κs = let w = may (c .before .before .before .before .before) in omega (arith, w .0 .settings .most, w .0 .size, w .1, c .before .before .before .write-head .kept .1 .1 .0)
+write-settings-requires c κs =
+    let w = may (c .before .before .before .before .before) in
+    omega (arith, w .0 .settings .most, w .0 .size, w .1, c .before .before .before .write-head .kept .1 .1 .0)
 
 same-length : tie.Need-same-length
 same-length c = search needs

@@ -22,26 +22,24 @@ shl-all c = search needs
 mul-first : tie.Need-mul-first
 mul-first c = search needs
 
+-- below seven settings the shift gives their valuations
+shifted : (c : tie.Else2) → 1 * 2 ^ c .before .before .args .n % 2 ^ 64 ≡ 2 ^ c .before .before .args .n
+shifted c = one-shifted _ (c .if2 .left)
+
 returns-3 : tie.Need-returns-3
-returns-3 c =
-    let e : 1 * 2 ^ c .before .before .before .args .n % 2 ^ 64 ≡ 2 ^ c .before .before .before .args .n = one-shifted _ (c .before .if2 .left) in
-    rw (live-some _ _ _ (c .before .before .if1 .left)) (omega (arith, e))
+returns-3 c = let e = c .before in rw (live-some _ _ _ (e .before .if1 .left)) (omega (arith, shifted e))
 
 sub-if4 : tie.Need-sub-if4
 sub-if4 c = search needs
 
 returns-4 : tie.Need-returns-4
-returns-4 c =
-    let e : 1 * 2 ^ c .before .before .before .before .args .n % 2 ^ 64 ≡ 2 ^ c .before .before .before .before .args .n = one-shifted _ (c .before .before .if2 .left) in
-    rw (live-some _ _ _ (c .before .before .before .if1 .left)) (omega (arith, e))
+returns-4 c = let e = c .before .before in rw (live-some _ _ _ (e .before .if1 .left)) (omega (arith, shifted e))
 
 sub-result : tie.Need-sub-result
 sub-result c = search needs
 
 returns-5 : tie.Need-returns-5
-returns-5 c =
-    let e : 1 * 2 ^ c .before .before .before .before .args .n % 2 ^ 64 ≡ 2 ^ c .before .before .before .before .args .n = one-shifted _ (c .before .before .if2 .left) in
-    rw (live-some _ _ _ (c .before .before .before .if1 .left)) (omega (arith, e))
+returns-5 c = let e = c .before .before in rw (live-some _ _ _ (e .before .if1 .left)) (omega (arith, shifted e))
 
 pub live-bits-spec : {M : Type 1} → statement M
 live-bits-spec =
