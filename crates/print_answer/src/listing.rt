@@ -1,6 +1,6 @@
 // A line for each byte of a plan, into a lent room from a place on: the depth, then the act by its setting's
-// letter and its post's digit. A place past the room is counted and not written. It refuses nothing: `lines`
-// has a `requires`, for this repository alone, and gives the places after the plan's bytes and its lines.
+// letter and its post's digit. A place past the room is counted and not written. `lines` gives the places
+// after the plan's bytes and after its lines.
 use knowledge_acts::Act;
 use knowledge_acts::Named;
 ghost use mathlib.Core.Path.{_≡_};
@@ -77,8 +77,8 @@ fn act_line(depth: u64, act: Act, out: &mut [u8], to: usize) -> usize
     }
 }
 
-// The lines of the plan whose bytes begin at `at`, each depth counted from this one. For this repository
-// alone: such a plan is there, and places stay below 2^64. It is as deep as the plan.
+// The lines of the plan whose bytes begin at `at`, each depth counted from this one: such a plan is there,
+// and places stay below 2^64. It is as deep as the plan.
 pub fn lines(plan: &[u8], at: usize, depth: u64, out: &mut [u8], to: usize) -> Next
     requires { ⌜ Readable (now plan) at depth to ⌝ }
     ensures { λ r. ⌜ Lines (now (plan .entry)) at depth (now (out .entry)) to r (now (out .exit)) ⌝ }

@@ -135,9 +135,9 @@ small-first (line ∷ another ∷ more) =
 
 -- ---- the sheet
 
-pub small-sheetMeaning : (s : List ℕ) → Small 32770 (sheetMeaning s)
+pub small-meaning : (s : List ℕ) → Small 32770 (sheetMeaning s)
 unfolding sheetMeaning
-small-sheetMeaning s = elim (decide (ltb 32768 (length s))) [
+small-meaning s = elim (decide (ltb 32768 (length s))) [
   | inl t ↦ rw (T→true (ltb 32768 (length s)) t) omega arith
   | inr t ↦ rw (T→false (ltb 32768 (length s)) t)
       (small-later (firstLine (split newline s)) (1 + length (split newline s)) 32770 (omega (arith, nltb→le 32768 (length s) t, split-length newline s)) (small-first (split newline s)))

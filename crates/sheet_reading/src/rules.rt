@@ -6,6 +6,7 @@ use crate::desk::at_fault;
 use crate::formulas::Place;
 use crate::formulas::formula_line;
 use book_block::Right;
+use book_block::table_at;
 use ground::TABLE;
 use ground::peek;
 use refusal::Refusal;
@@ -40,15 +41,11 @@ pub fn is_rule(word: &[u8], n: u8, m: u8, line: &[u8]) -> bool
     peek(line, at + 3) == b' '
 }
 
-// The place of a right among all: its table begins at 16 times that.
+// The place of a right among all, counted in tables.
 fn slot_of(right: Right, setting: u8, post: u8) -> usize
     ensures { λ r. ⌜ r ≡ slotOf right setting post ⌝ }
 {
-    let look = TABLES * (setting as usize) + 2 * TABLE * (post as usize);
-    match right {
-        Right::Look => look / TABLE,
-        Right::Set => (look + TABLE) / TABLE,
-    }
+    (TABLES * (setting as usize) + table_at(post, right)) / TABLE
 }
 
 // A line that states a right, as `is_rule` says that it does.
