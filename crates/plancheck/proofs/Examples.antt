@@ -10,6 +10,7 @@ use lib.ListN.{replicate}
 use Rattle.ground.specs.Digits.{digit, put, bit}
 use Rattle.ground.specs.Search.{all}
 use Rattle.ground.specs.Table.{truth}
+use Rattle.refusal.specs.declared.Refusal.the-variants.{NotSettled}
 use Rattle.book_block.specs.Rule.{rule}
 use Rattle.book_block.specs.declared.rule.Right.the-variants.{Set as set-rule}
 use Rattle.knowledge_acts.specs.Seven.{startTold, nowTold, afterSet, firstDigit}
@@ -17,16 +18,15 @@ use Rattle.knowledge_acts.specs.declared.act.Act.the-variants.{Set}
 use Rattle.knowledge_acts.specs.Acts.{actOf, offered, setTo}
 use Rattle.knowledge.specs.Number.{sumOf, firstAt}
 use Rattle.knowledge.specs.Fits.{agrees, fits, always, known, learnSettled}
-use Rattle.knowledge.specs.Allowed.{permitted}
+use Rattle.knowledge.specs.Goal.{Goal, goalOf, learnTable, allSettled, goalSettled}
 use Rattle.plan.specs.Plans.{may}
 use Rattle.plan.proofs.Check.{judge-on, judge-fails, read-act, read-unsettled}
 use Rattle.plan.specs.Check.{not-settled, faulty, check}
-use Rattle.knowledge.specs.Goal.{learnTable, allSettled, goalSettled}
-use Rattle.question.specs.Question.{systemOf, startNumber}
+use Rattle.question.specs.Permitted.{permitted}
+use Rattle.question.specs.Question.{systemOf, startOf}
 use Rattle.question.specs.Asks.{ValidQuestion}
 use Rattle.question.specs.declared.Question.{Question}
 use Rattle.plancheck.specs.Checks.{Checks}
-use Rattle.plancheck.specs.declared.refusal.Refusal.the-variants.{NotSettled}
 use Rattle.plancheck.specs.declared.answer.CheckAnswer.the-variants.{Refused}
 
 -- the tables over one setting of `1`, `~a` and `a`
@@ -43,26 +43,28 @@ is-a = 2 ∷ replicate 15 0
 abbrev pub p9-question : Question
 p9-question = record { team = 1; known = 0; values = 0 }
 
--- "n = 1, look and set rules `1`, make `~a`, learn `a`", "the plan 1, 0": the look rule is not asked for
--- its first byte is a set that may be done
-first-set : (book : List ℕ) → rule book 0 0 set-rule ≡ always-true → T (may (systemOf 1 book 1 not-a is-a) 0 (Set 0 0 false))
+abbrev pub p9-goal : Goal
+p9-goal = goalOf not-a is-a
+
+-- "n = 1, look and set rules `1`, make `~a`, learn `a`", "the plan 1, 0": the look rule is not asked for. Its first byte is a set that may be done
+first-set : (book : List ℕ) → rule book 0 0 set-rule ≡ always-true → T (may (systemOf 1 book p9-question p9-goal) 0 (Set 0 0 false))
 unfolding systemOf offered permitted known always fits agrees nowTold truth all digit bit
 first-set book e = subst (λ (t : List ℕ). T (known 1 (digit 7 0) t)) (sym e) tt
 
 -- after which nothing is known of the start, so that the learn formula is not settled
-then-stop : (book : List ℕ) → T (not (systemOf 1 book 1 not-a is-a .goal (setTo 0 0 false)))
+then-stop : (book : List ℕ) → T (not (systemOf 1 book p9-question p9-goal .goal (setTo 0 0 false)))
 unfolding systemOf goalSettled allSettled learnTable setTo known learnSettled always fits agrees afterSet nowTold startTold truth all digit put bit
 then-stop book = tt
 
 pub p10-judged : (book : List ℕ) → rule book 0 0 set-rule ≡ always-true
-    → check (systemOf 1 book 1 not-a is-a) (startNumber 0 0) (1 ∷ 0 ∷ []) ≡ faulty not-settled 1
-unfolding startNumber sumOf firstAt firstDigit actOf digit bit
+    → check (systemOf 1 book p9-question p9-goal) (startOf p9-question) (1 ∷ 0 ∷ []) ≡ faulty not-settled 1
+unfolding startOf sumOf firstAt firstDigit actOf digit bit
 p10-judged book e =
-    judge-on (systemOf 1 book 1 not-a is-a) 0 [] 0 1 (0 ∷ []) (setTo 0 0 false ∷ [])
-    (read-act (systemOf 1 book 1 not-a is-a) 0 1 (Set 0 0 false) (lit< tt) refl (first-set book e))
-    ∙ judge-fails (systemOf 1 book 1 not-a is-a) (setTo 0 0 false) [] 1 0 [] not-settled
-    (read-unsettled (systemOf 1 book 1 not-a is-a) (setTo 0 0 false) (then-stop book))
+    judge-on (systemOf 1 book p9-question p9-goal) 0 [] 0 1 (0 ∷ []) (setTo 0 0 false ∷ [])
+    (read-act (systemOf 1 book p9-question p9-goal) 0 1 (Set 0 0 false) (lit< tt) refl (first-set book e))
+    ∙ judge-fails (systemOf 1 book p9-question p9-goal) (setTo 0 0 false) [] 1 0 [] not-settled
+    (read-unsettled (systemOf 1 book p9-question p9-goal) (setTo 0 0 false) (then-stop book))
 
-pub p10 : {book : List ℕ} {m : ℕ} → ValidQuestion book p9-question not-a is-a 1 m → rule book 0 0 set-rule ≡ always-true
-    → Checks book p9-question not-a is-a (1 ∷ 0 ∷ []) (Refused (NotSettled 1))
-p10 {book} {m} valid e = inr (not-settled, refl, record { n = 1; m = m; valid = valid; short = lit≤ tt; judged = p10-judged book e })
+pub p10 : {book : List ℕ} {m : ℕ} → ValidQuestion book p9-question p9-goal 1 m → rule book 0 0 set-rule ≡ always-true
+    → Checks book p9-question p9-goal (1 ∷ 0 ∷ []) (Refused (NotSettled 1))
+p10 {book} {m} valid e = inr (not-settled, 1, refl, record { n = 1; m = m; valid = valid; short = lit≤ tt; judged = p10-judged book e })

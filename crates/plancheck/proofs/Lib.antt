@@ -1,11 +1,10 @@
--- Laws of a plan's byte and of the plan check's refusals, one file for each idea.
--- Laws that this crate's proofs cite, one file for each idea; then what is proved of `check`, and a marked example.
+-- The laws of the plan check, in this order: what a byte comes to, a fault's refusal, where a plan ends, where its reading stands, which answer it gets
+-- and that it gets one alone, how large a place is; then what is proved of `check`, and a marked example.
 pub mod ReadingLaws
 pub mod ByteLaws
 pub mod RefusalLaws
-pub mod SystemLaws
 pub mod EndLaws
-pub mod DeskLaws
+pub mod StandingLaws
 pub mod AnswerLaws
 pub mod OneAnswer
 pub mod Small

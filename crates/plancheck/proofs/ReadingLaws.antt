@@ -7,23 +7,24 @@ use native.Mathlib.Omega.{arith}
 use lib.Dec.{leb, ltb, ltb→lt}
 use Rattle.ground.specs.Digits.{digit, bit}
 use Rattle.ground.proofs.Bools.{true→T, and-left}
+use Rattle.refusal.specs.declared.Refusal.the-variants.{NoAct, NotPermitted, NotSettled}
 use Rattle.knowledge_acts.specs.Acts.{settingOf, postOf, actOf, offered, setTo, lookAt}
 use Rattle.knowledge_acts.specs.declared.act.Act.{Act}
 use Rattle.knowledge_acts.specs.declared.act.Act.the-variants.{Set, Look}
 use Rattle.knowledge_acts.specs.declared.act.Named.{Named}
 use Rattle.knowledge_acts.specs.declared.act.Named.the-variants.{One, Nothing}
 use Rattle.knowledge.specs.Number.{digitIn, digitsOf}
-use Rattle.knowledge.specs.Allowed.{permitted}
+use Rattle.knowledge.specs.Goal.{Goal, goalSettled}
 use Rattle.knowledge.proofs.Number.{digits-are}
+use Rattle.knowledge_judging.proofs.GoalLaws.{unguarded}
 use Rattle.plan.specs.Check.{goes-on, outcomes, readAct, readNamed, readByte}
 use Rattle.plan.proofs.Check.{read-named}
-use Rattle.knowledge.specs.Goal.{goalSettled}
+use Rattle.question.specs.Permitted.{permitted}
 use Rattle.question.specs.Question.{systemOf}
+use Rattle.question.specs.declared.Question.{Question}
 use Rattle.plancheck.specs.Reading.{readingOf}
-use Rattle.plancheck.specs.declared.refusal.Refusal.the-variants.{NoAct, NotPermitted, NotSettled}
-use Rattle.plancheck.specs.declared.reading.Reading.{Reading}
-use Rattle.plancheck.specs.declared.reading.Reading.the-variants.{Stops, Goes, Parts, Fails}
-use Rattle.knowledge_judging.proofs.GoalLaws.{unguarded}
+use Rattle.plancheck.specs.declared.reading.ByteReading.{ByteReading}
+use Rattle.plancheck.specs.declared.reading.ByteReading.the-variants.{Stops, Goes, Parts, Fails}
 
 -- the outcomes of an act
 pub set-goes : (k : ℕ) {i q x : ℕ} {b : Bool} {a : Act} → a ≡ Set i q b → x ≡ setTo k i b → Goes x ≡ readingOf 0 (goes-on (outcomes k a))
@@ -55,28 +56,28 @@ module _ (at k : ℕ) (a : Act) where
   any-place (Set i q b) = refl
   any-place (Look i q) = refl
 
-  pub act-done : {o p : Bool} {r : Reading} → o ≡ true → p ≡ true → r ≡ readingOf 0 (goes-on (outcomes k a)) → r ≡ readingOf at (readAct o p (outcomes k a))
+  pub act-done : {o p : Bool} {r : ByteReading} → o ≡ true → p ≡ true → r ≡ readingOf 0 (goes-on (outcomes k a)) → r ≡ readingOf at (readAct o p (outcomes k a))
   act-done e f g = rw (e, f) (g ∙ any-place a)
 
 -- a byte
-module _ (n : ℕ) (book : List ℕ) (team : ℕ) (make learn : List ℕ) (k at byte : ℕ) where
-  pub byte-stops : {g : Bool} → byte ≡ 0 → g ≡ goalSettled n make learn k → g ≡ true → Stops ≡ readingOf at (readByte (systemOf n book team make learn) k byte)
+module _ (n : ℕ) (book : List ℕ) (q : Question) (goal : Goal) (k at byte : ℕ) where
+  pub byte-stops : {g : Bool} → n ≤ 7 → byte ≡ 0 → g ≡ leb n 7 && goalSettled n goal k → g ≡ true → Stops ≡ readingOf at (readByte (systemOf n book q goal) k byte)
   unfolding systemOf
-  byte-stops e f g = rw (e, sym f ∙ g)
+  byte-stops few e f g = rw (e, sym (unguarded n _ few) ∙ sym f ∙ g)
 
-  pub byte-unsettled : {g : Bool} → byte ≡ 0 → g ≡ goalSettled n make learn k → g ≡ false
-      → Fails (NotSettled at) ≡ readingOf at (readByte (systemOf n book team make learn) k byte)
+  pub byte-unsettled : {g : Bool} → n ≤ 7 → byte ≡ 0 → g ≡ leb n 7 && goalSettled n goal k → g ≡ false
+      → Fails (NotSettled at) ≡ readingOf at (readByte (systemOf n book q goal) k byte)
   unfolding systemOf
-  byte-unsettled e f g = rw (e, sym f ∙ g)
+  byte-unsettled few e f g = rw (e, sym (unguarded n _ few) ∙ sym f ∙ g)
 
-  named : (byte ≡ 0 → ⊥) → {x : Named} → x ≡ actOf byte → readByte (systemOf n book team make learn) k byte ≡ readNamed (systemOf n book team make learn) k x
-  named ne e = read-named (systemOf n book team make learn) k byte (omega arith) ∙ ap (readNamed (systemOf n book team make learn) k) (sym e)
+  named : (byte ≡ 0 → ⊥) → {x : Named} → x ≡ actOf byte → readByte (systemOf n book q goal) k byte ≡ readNamed (systemOf n book q goal) k x
+  named ne e = read-named (systemOf n book q goal) k byte (omega arith) ∙ ap (readNamed (systemOf n book q goal) k) (sym e)
 
-  pub byte-nothing : {x : Named} → (byte ≡ 0 → ⊥) → x ≡ actOf byte → x ≡ Nothing → Fails (NoAct at) ≡ readingOf at (readByte (systemOf n book team make learn) k byte)
+  pub byte-nothing : {x : Named} → (byte ≡ 0 → ⊥) → x ≡ actOf byte → x ≡ Nothing → Fails (NoAct at) ≡ readingOf at (readByte (systemOf n book q goal) k byte)
   byte-nothing ne e f = rw (named ne (sym f ∙ e))
 
-  pub byte-act : {x : Named} {a : Act} {r : Reading} → (byte ≡ 0 → ⊥) → x ≡ actOf byte → x ≡ One a
-      → r ≡ readingOf at (readAct (offered n team a) (permitted n book (digit 7 k) a) (outcomes k a))
-      → r ≡ readingOf at (readByte (systemOf n book team make learn) k byte)
+  pub byte-act : {x : Named} {a : Act} {r : ByteReading} → (byte ≡ 0 → ⊥) → x ≡ actOf byte → x ≡ One a
+      → r ≡ readingOf at (readAct (offered n (q .team) a) (permitted n book (digit 7 k) a) (outcomes k a))
+      → r ≡ readingOf at (readByte (systemOf n book q goal) k byte)
   unfolding systemOf
   byte-act ne e f g = g ∙ sym (ap (readingOf at) (named ne (sym f ∙ e)))

@@ -3,11 +3,11 @@ use mathlib.Core.List.{[], _∷_}
 use Prim.Native.Nat.{ℕ}
 use Rattle.plan.specs.Check as C
 use Rattle.plancheck.specs.Refusals.{refusalOf}
-use Rattle.plancheck.specs.declared.reading.Reading.{Reading}
-use Rattle.plancheck.specs.declared.reading.Reading.the-variants.{Stops, Goes, Parts, Fails}
+use Rattle.plancheck.specs.declared.reading.ByteReading.{ByteReading}
+use Rattle.plancheck.specs.declared.reading.ByteReading.the-variants.{Stops, Goes, Parts, Fails}
 
 -- what the byte with index at comes to: no byte leaves more than two states
-abbrev pub readingOf : ℕ → C.Reading → Reading
+abbrev pub readingOf : ℕ → C.Reading → ByteReading
 readingOf at (C.goes-on []) = Stops
 readingOf at (C.goes-on (x ∷ [])) = Goes x
 readingOf at (C.goes-on (x ∷ y ∷ more)) = Parts x y

@@ -1,5 +1,5 @@
 // What the plan check answers.
-use crate::refusal::Refusal;
+use refusal::Refusal;
 
 // Whether the bytes are those of a plan that works.
 pub enum CheckAnswer {

@@ -38,10 +38,33 @@ number-requires-3 : tie.Need-number-requires-3
 number-requires-3 c κs = search needs
 
 returns : tie.Need-returns
-returns c = set-goes (c .before .before .before .before .before .before .args .k) (c .before .before .before .act .given .1) (set-number (c .before .before .before .before .before .before .args .k) (c .before .before .before .act .given .0 .0) (c .before .before .before .act .given .0 .1 .1 .0) (c .before .before .before .before .before .before .pre .0) (subst (λ (a : Act). settingOf a < 7) (c .before .before .before .act .given .1) (c .before .before .before .before .before .before .pre .1)) (c .before .before .before .before .before .from-number .ensures) (c .before .after-set .ensures) (c .number .ensures))
+returns c =
+    let start : tie.Start = search in
+    let state : tie.After-from-number = search in
+    let set : tie.After-act = search in
+    let done : tie.After-after-set = search in
+    let k = start .args .k in
+    let (is-set, is) = set .act .given in
+    let small = subst (λ (a : Act). settingOf a < 7) is (start .pre .1) in
+    set-goes k is
+    (set-number k (is-set .0) (is-set .1 .1 .0) (start .pre .0) small (state .from-number .ensures) (done .after-set .ensures) (c .number .ensures))
 
 returns-2 : tie.Need-returns-2
-returns-2 c = look-parts (c .before .before .before .before .before .before .before .before .args .k) (c .before .before .before .before .before .act2 .given .1) (look-number (c .before .before .before .before .before .before .before .before .args .k) (c .before .before .before .before .before .act2 .given .0 .0) false (c .before .before .before .before .before .before .before .before .pre .0) (subst (λ (a : Act). settingOf a < 7) (c .before .before .before .before .before .act2 .given .1) (c .before .before .before .before .before .before .before .before .pre .1)) (c .before .before .before .before .before .before .before .from-number .ensures) (c .before .before .before .after-look .ensures) (c .before .before .number2 .ensures)) (look-number (c .before .before .before .before .before .before .before .before .args .k) (c .before .before .before .before .before .act2 .given .0 .0) true (c .before .before .before .before .before .before .before .before .pre .0) (subst (λ (a : Act). settingOf a < 7) (c .before .before .before .before .before .act2 .given .1) (c .before .before .before .before .before .before .before .before .pre .1)) (c .before .before .before .before .before .before .before .from-number .ensures) (c .before .after-look2 .ensures) (c .number3 .ensures))
+returns-2 c =
+    let start : tie.Start = search in
+    let state : tie.After-from-number = search in
+    let look : tie.After-act2 = search in
+    let one : tie.After-after-look = search in
+    let one-number : tie.After-number2 = search in
+    let other : tie.After-after-look2 = search in
+    let k = start .args .k in
+    let i = look .act2 .given .0 .0 in
+    let is = look .act2 .given .1 in
+    let small = subst (λ (a : Act). settingOf a < 7) is (start .pre .1) in
+    let from = state .from-number .ensures in
+    look-parts k is
+    (look-number k i false (start .pre .0) small from (one .after-look .ensures) (one-number .number2 .ensures))
+    (look-number k i true (start .pre .0) small from (other .after-look2 .ensures) (c .number3 .ensures))
 
 pub outcomes-of-spec : {M : Type 1} → statement M
 outcomes-of-spec =

@@ -11,7 +11,11 @@ offered-requires : tie.Need-offered-requires
 offered-requires c κs = search needs
 
 returns : tie.Need-returns
-returns c = act-unknown (c .before .before .before .args .at) (c .before .before .before .args .k) (c .before .before .before .args .act) _ (sym (c .before .offered .ensures) ∙ not-true _ (c .if1 .taken))
+returns c =
+    let start : tie.Start = search in
+    let asked : tie.After-offered = search in
+    let a = start .args in
+    act-unknown (a .at) (a .k) (a .act) _ (sym (asked .offered .ensures) ∙ not-true _ (c .if1 .taken))
 
 from-number-requires : tie.Need-from-number-requires
 from-number-requires c κs = search needs
@@ -20,13 +24,39 @@ permits-requires : tie.Need-permits-requires
 permits-requires c κs = search needs
 
 returns-2 : tie.Need-returns-2
-returns-2 c = act-forbidden (c .before .before .before .before .before .before .args .at) (c .before .before .before .before .before .before .args .k) (c .before .before .before .before .before .before .args .act) (sym (c .before .before .before .before .offered .ensures) ∙ not-false _ (c .before .before .before .if1 .left)) (permits-at (c .before .before .before .before .before .before .args .n) (c .before .before .before .before .before .before .args .book .now) (c .before .before .before .before .before .before .args .k) (c .before .before .before .before .before .before .args .act) (c .before .before .before .before .before .before .pre .0) (c .before .before .before .before .before .before .pre .1) (c .before .before .from-number .ensures) (c .before .permits .ensures) ∙ not-true _ (c .if2 .taken))
+returns-2 c =
+    let start : tie.Start = search in
+    let asked : tie.After-offered = search in
+    let ours : tie.Else1 = search in
+    let state : tie.After-from-number = search in
+    let judged : tie.After-permits = search in
+    let a = start .args in
+    act-forbidden (a .at) (a .k) (a .act) (sym (asked .offered .ensures) ∙ not-false _ (ours .if1 .left))
+    (permits-at (a .n) (a .book .now) (a .k) (a .act) (start .pre .0) (start .pre .1) (state .from-number .ensures) (judged .permits .ensures)
+    ∙ not-true _ (c .if2 .taken))
 
 outcomes-of-requires : tie.Need-outcomes-of-requires
-outcomes-of-requires c κs = (c .before .before .before .before .before .before .pre .1, omega (arith, c .before .before .before .before .before .before .pre .0, offered-setting (c .before .before .before .before .before .before .args .n) (c .before .before .before .before .before .before .args .team) (c .before .before .before .before .before .before .args .act) (sym (c .before .before .before .before .offered .ensures) ∙ not-false _ (c .before .before .before .if1 .left))))
+outcomes-of-requires c κs =
+    let start : tie.Start = search in
+    let asked : tie.After-offered = search in
+    let ours : tie.Else1 = search in
+    let a = start .args in
+    let below = offered-setting (a .n) (a .team) (a .act) (sym (asked .offered .ensures) ∙ not-false _ (ours .if1 .left)) in
+    (start .pre .1, omega (arith, start .pre .0, below))
 
 returns-3 : tie.Need-returns-3
-returns-3 c = act-done (c .before .before .before .before .before .before .before .args .at) (c .before .before .before .before .before .before .before .args .k) (c .before .before .before .before .before .before .before .args .act) (sym (c .before .before .before .before .before .offered .ensures) ∙ not-false _ (c .before .before .before .before .if1 .left)) (permits-at (c .before .before .before .before .before .before .before .args .n) (c .before .before .before .before .before .before .before .args .book .now) (c .before .before .before .before .before .before .before .args .k) (c .before .before .before .before .before .before .before .args .act) (c .before .before .before .before .before .before .before .pre .0) (c .before .before .before .before .before .before .before .pre .1) (c .before .before .before .from-number .ensures) (c .before .before .permits .ensures) ∙ not-false _ (c .before .if2 .left)) (c .outcomes-of .ensures)
+returns-3 c =
+    let start : tie.Start = search in
+    let asked : tie.After-offered = search in
+    let ours : tie.Else1 = search in
+    let state : tie.After-from-number = search in
+    let judged : tie.After-permits = search in
+    let permitted : tie.Else2 = search in
+    let a = start .args in
+    act-done (a .at) (a .k) (a .act) (sym (asked .offered .ensures) ∙ not-false _ (ours .if1 .left))
+    (permits-at (a .n) (a .book .now) (a .k) (a .act) (start .pre .0) (start .pre .1) (state .from-number .ensures) (judged .permits .ensures)
+    ∙ not-false _ (permitted .if2 .left))
+    (c .outcomes-of .ensures)
 
 pub read-act-spec : {M : Type 1} → statement M
 read-act-spec =

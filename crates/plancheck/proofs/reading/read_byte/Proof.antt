@@ -1,4 +1,5 @@
 -- `read_byte` meets its contract: a stop, an act, or nothing.
+use Rattle.knowledge.specs.Goal.{goalOf}
 use Rattle.plancheck.proofs.ReadingLaws.{byte-stops, byte-unsettled, byte-nothing, byte-act}
 use borrow.Author.Needs.{needs}
 use Rattle.plancheck.proofs.reading.read_byte.Statement.{statement}
@@ -8,10 +9,22 @@ is-settled-requires : tie.Need-is-settled-requires
 is-settled-requires c κs = search needs
 
 returns : tie.Need-returns
-returns c = byte-stops (c .before .before .before .before .before .before .args .n) (c .before .before .before .before .before .before .args .book .now) (c .before .before .before .before .before .before .args .team) (c .before .before .before .before .before .before .args .make .now) (c .before .before .before .before .before .before .args .learn .now) (c .before .before .before .before .before .before .args .k) (c .before .before .before .before .before .before .args .at) (c .before .before .before .before .before .before .args .byte) (c .before .before .if1 .taken) (c .before .is-settled .ensures) (c .if2 .taken)
+returns c =
+    let start : tie.Start = search in
+    let stop : tie.Then1 = search in
+    let judged : tie.After-is-settled = search in
+    let a = start .args in
+    byte-stops (a .n) (a .book .now) (a .question) (goalOf (a .make .now) (a .learn .now)) (a .k) (a .at) (a .byte) (start .pre .0) (stop .if1 .taken)
+    (judged .is-settled .ensures) (c .if2 .taken)
 
 returns-2 : tie.Need-returns-2
-returns-2 c = byte-unsettled (c .before .before .before .before .before .before .args .n) (c .before .before .before .before .before .before .args .book .now) (c .before .before .before .before .before .before .args .team) (c .before .before .before .before .before .before .args .make .now) (c .before .before .before .before .before .before .args .learn .now) (c .before .before .before .before .before .before .args .k) (c .before .before .before .before .before .before .args .at) (c .before .before .before .before .before .before .args .byte) (c .before .before .if1 .taken) (c .before .is-settled .ensures) (c .if2 .left)
+returns-2 c =
+    let start : tie.Start = search in
+    let stop : tie.Then1 = search in
+    let judged : tie.After-is-settled = search in
+    let a = start .args in
+    byte-unsettled (a .n) (a .book .now) (a .question) (goalOf (a .make .now) (a .learn .now)) (a .k) (a .at) (a .byte) (start .pre .0) (stop .if1 .taken)
+    (judged .is-settled .ensures) (c .if2 .left)
 
 of-byte-requires : tie.Need-of-byte-requires
 of-byte-requires c κs = search needs
@@ -26,10 +39,23 @@ read-act-requires : tie.Need-read-act-requires
 read-act-requires c κs = search needs
 
 returns-3 : tie.Need-returns-3
-returns-3 c = byte-nothing (c .before .before .before .before .before .before .before .args .n) (c .before .before .before .before .before .before .before .args .book .now) (c .before .before .before .before .before .before .before .args .team) (c .before .before .before .before .before .before .before .args .make .now) (c .before .before .before .before .before .before .before .args .learn .now) (c .before .before .before .before .before .before .before .args .k) (c .before .before .before .before .before .before .before .args .at) (c .before .before .before .before .before .before .before .args .byte) (c .before .before .before .if1 .left) (c .before .before .of-byte .ensures) (c .enum-told .given .1)
+returns-3 c =
+    let start : tie.Start = search in
+    let other : tie.Else1 = search in
+    let named : tie.After-of-byte = search in
+    let a = start .args in
+    byte-nothing (a .n) (a .book .now) (a .question) (goalOf (a .make .now) (a .learn .now)) (a .k) (a .at) (a .byte) (other .if1 .left) (named .of-byte .ensures)
+    (c .enum-told .given .1)
 
 returns-4 : tie.Need-returns-4
-returns-4 c = byte-act (c .before .before .before .before .before .before .before .before .before .args .n) (c .before .before .before .before .before .before .before .before .before .args .book .now) (c .before .before .before .before .before .before .before .before .before .args .team) (c .before .before .before .before .before .before .before .before .before .args .make .now) (c .before .before .before .before .before .before .before .before .before .args .learn .now) (c .before .before .before .before .before .before .before .before .before .args .k) (c .before .before .before .before .before .before .before .before .before .args .at) (c .before .before .before .before .before .before .before .before .before .args .byte) (c .before .before .before .before .before .if1 .left) (c .before .before .before .before .of-byte .ensures) (c .before .before .act .given .1) (c .read-act .ensures)
+returns-4 c =
+    let start : tie.Start = search in
+    let other : tie.Else1 = search in
+    let named : tie.After-of-byte = search in
+    let one : tie.After-act = search in
+    let a = start .args in
+    byte-act (a .n) (a .book .now) (a .question) (goalOf (a .make .now) (a .learn .now)) (a .k) (a .at) (a .byte) (other .if1 .left) (named .of-byte .ensures)
+    (one .act .given .1) (c .read-act .ensures)
 
 pub read-byte-spec : {M : Type 1} → statement M
 read-byte-spec =

@@ -1,7 +1,7 @@
--- `ended` meets its contract: by how the desk stands.
+-- `ended` meets its contract: by how the reading stands.
 use borrow.Author.Needs.{needs}
-use Rattle.plancheck.proofs.desk.Desk.ended.Statement.{statement}
-use Rattle.plancheck.proofs.desk.Desk.ended.Tie as tie
+use Rattle.plancheck.proofs.standing.Standing.ended.Statement.{statement}
+use Rattle.plancheck.proofs.standing.Standing.ended.Tie as tie
 
 enum-told : tie.Need-enum-told
 enum-told c = search needs

@@ -1,15 +1,15 @@
 // Where the reading of a plan stands.
 use crate::answer::CheckAnswer;
-use crate::reading::Reading;
-use crate::refusal::Refusal;
+use crate::reading::ByteReading;
 use knowledge::Knowledge;
+use refusal::Refusal;
 ghost use mathlib.Core.Path.{_≡_};
 ghost use Prim.Native.Nat.{_≤_, _<_};
 ghost use lib.ListN.{length};
-ghost use Rattle.plancheck.specs.Inner.{firstDesk, stoppedDesk, movedDesk, partedDesk, standingDesk, afterDesk, HasRoom, endedAt};
+ghost use Rattle.plancheck.specs.Inner.{firstStanding, stoppedStanding, movedStanding, partedStanding, standsAs, afterByte, HasRoom, endedAt};
 
 pub enum Stands {
-    // The next byte is read at the desk's number.
+    // The next byte is read at the standing's number.
     Open,
     // The plan is whole.
     Whole,
@@ -19,7 +19,7 @@ pub enum Stands {
 
 // At most n numbers wait: each is the true outcome of a look that is open, and a look makes one more
 // of the n settings known.
-pub struct Desk {
+pub struct Standing {
     // The knowledge number at which the next byte is read.
     pub here: u32,
     // The numbers that wait, the one that is read at next as the last.
@@ -29,12 +29,12 @@ pub struct Desk {
     pub stands: Stands,
 }
 
-impl Desk {
+impl Standing {
     // A plan that is yet to be read, from this number.
-    pub fn first(here: u32) -> Self
-        ensures { λ r. ⌜ r ≡ firstDesk here ⌝ }
+    pub(crate) fn first(here: u32) -> Self
+        ensures { λ r. ⌜ r ≡ firstStanding here ⌝ }
     {
-        Desk {
+        Standing {
             here,
             waiting: [0; Knowledge::MOST],
             count: 0,
@@ -45,15 +45,15 @@ impl Desk {
     // After a stop: the latest that waits is next, and with none the plan is whole.
     fn stopped(self) -> Self
         requires { ⌜ (length (self .waiting) ≡ 7) × (self .count ≤ 7) ⌝ }
-        ensures { λ r. ⌜ r ≡ stoppedDesk (self .here) (self .waiting) (self .count) ⌝ }
+        ensures { λ r. ⌜ r ≡ stoppedStanding (self .here) (self .waiting) (self .count) ⌝ }
     {
         let waiting = self.waiting;
         let count = self.count;
         if count == 0 {
-            return self.standing(Stands::Whole);
+            return self.stands_as(Stands::Whole);
         }
         let last = count - 1;
-        Desk {
+        Standing {
             here: waiting[last],
             waiting,
             count: last,
@@ -63,10 +63,10 @@ impl Desk {
 
     // After a set.
     fn moved(self, next: u32) -> Self
-        ensures { λ r. ⌜ r ≡ movedDesk self next ⌝ }
+        ensures { λ r. ⌜ r ≡ movedStanding self next ⌝ }
     {
         let waiting = self.waiting;
-        Desk {
+        Standing {
             here: next,
             waiting,
             count: self.count,
@@ -77,12 +77,12 @@ impl Desk {
     // After a look: the true outcome waits until the false one's plan is whole.
     fn parted(self, no: u32, yes: u32) -> Self
         requires { ⌜ (length (self .waiting) ≡ 7) × (self .count < 7) ⌝ }
-        ensures { λ r. ⌜ r ≡ partedDesk self no yes ⌝ }
+        ensures { λ r. ⌜ r ≡ partedStanding self no yes ⌝ }
     {
         let mut waiting = self.waiting;
         let count = self.count;
         waiting[count] = yes;
-        Desk {
+        Standing {
             here: no,
             waiting,
             count: count + 1,
@@ -91,11 +91,11 @@ impl Desk {
     }
 
     // The same numbers, where the plan stands otherwise.
-    pub fn standing(self, stands: Stands) -> Self
-        ensures { λ r. ⌜ r ≡ standingDesk self stands ⌝ }
+    pub(crate) fn stands_as(self, stands: Stands) -> Self
+        ensures { λ r. ⌜ r ≡ standsAs self stands ⌝ }
     {
         let waiting = self.waiting;
-        Desk {
+        Standing {
             here: self.here,
             waiting,
             count: self.count,
@@ -103,21 +103,21 @@ impl Desk {
         }
     }
 
-    // After a byte that came to this. For this crate alone: there is room for what waits.
-    pub fn after(self, reading: Reading) -> Self
+    // After a byte that came to this: a look needs room for the outcome that waits.
+    pub(crate) fn after(self, reading: ByteReading) -> Self
         requires { ⌜ (length (self .waiting) ≡ 7) × (self .count ≤ 7) × HasRoom (self .count) reading ⌝ }
-        ensures { λ r. ⌜ r ≡ afterDesk self reading ⌝ }
+        ensures { λ r. ⌜ r ≡ afterByte self reading ⌝ }
     {
         match reading {
-            Reading::Stops => self.stopped(),
-            Reading::Goes(next) => self.moved(next),
-            Reading::Parts(no, yes) => self.parted(no, yes),
-            Reading::Fails(why) => self.standing(Stands::Fails(why)),
+            ByteReading::Stops => self.stopped(),
+            ByteReading::Goes(next) => self.moved(next),
+            ByteReading::Parts(no, yes) => self.parted(no, yes),
+            ByteReading::Fails(why) => self.stands_as(Stands::Fails(why)),
         }
     }
 
     // The answer where the plan ends with so many bytes.
-    pub fn ended(self, length: usize) -> CheckAnswer
+    pub(crate) fn ended(self, length: usize) -> CheckAnswer
         ensures { λ r. ⌜ r ≡ endedAt (self .stands) length ⌝ }
     {
         let stands = self.stands;

@@ -1,8 +1,8 @@
 -- `parted` meets its contract: one more number waits.
 use native.Mathlib.Numerals.{add-one}
 use borrow.Author.Needs.{needs}
-use Rattle.plancheck.proofs.desk.Desk.parted.Statement.{statement}
-use Rattle.plancheck.proofs.desk.Desk.parted.Tie as tie
+use Rattle.plancheck.proofs.standing.Standing.parted.Statement.{statement}
+use Rattle.plancheck.proofs.standing.Standing.parted.Tie as tie
 
 mul-waiting : tie.Need-mul-waiting
 mul-waiting c = search needs
