@@ -6,6 +6,7 @@ use Prim.Native.Nat.{ℕ}
 use Rattle.formula.specs.declared.Answer.{Answer}
 use Rattle.formula.proofs.Unique.{read-unique}
 use Rattle.book.proofs.Theorems.{reads-one, writes-one}
+use Rattle.knowledge.specs.Goal.{Goal}
 use Rattle.question.specs.declared.Question.{Question}
 use Rattle.finder.proofs.Unique.{find-unique}
 use Rattle.plancheck.proofs.OneAnswer.{checks-one}
@@ -32,12 +33,12 @@ book-write-unique {n} {m} {rights} {old} {new = new} {other = other} a b =
     let e = writes-one n m rights old (a .answer) (b .answer) new other (a .writes) (b .writes) in
     (a .result-is ∙ ap writeReturned (e .0) ∙ sym (b .result-is), e .1)
 
-pub find-one : {book : List ℕ} {q : Question} {make learn ranks plan : List ℕ} {r s : ℕ} {x y u v : List ℕ} → PlanFound book q make learn ranks plan r x u
-    → PlanFound book q make learn ranks plan s y v → (r ≡ s) × (x ≡ y) × (u ≡ v)
-find-one {book} {q} {make} {learn} {ranks} {plan} {x = x} {y = y} {u = u} {v = v} a b =
-    let e = find-unique book q make learn ranks plan (a .answer) (b .answer) x y u v (a .finds) (b .finds) in
+pub find-one : {book : List ℕ} {q : Question} {goal : Goal} {ranks plan : List ℕ} {r s : ℕ} {x y u v : List ℕ} → PlanFound book q goal ranks plan r x u
+    → PlanFound book q goal ranks plan s y v → (r ≡ s) × (x ≡ y) × (u ≡ v)
+find-one {book} {q} {goal} {ranks} {plan} {x = x} {y = y} {u = u} {v = v} a b =
+    let e = find-unique book q goal ranks plan (a .answer) (b .answer) x y u v (a .finds) (b .finds) in
     (a .result-is ∙ ap findReturned (e .0) ∙ sym (b .result-is), e .1, e .2)
 
-pub plan-check-one : {book : List ℕ} {q : Question} {make learn plan : List ℕ} {r s : ℕ} → PlanChecked book q make learn plan r → PlanChecked book q make learn plan s → r ≡ s
-plan-check-one {book} {q} {make} {learn} {plan} a b =
-    a .result-is ∙ ap checkReturned (checks-one book q make learn plan (a .answer) (b .answer) (a .checks) (b .checks)) ∙ sym (b .result-is)
+pub plan-check-one : {book : List ℕ} {q : Question} {goal : Goal} {plan : List ℕ} {r s : ℕ} → PlanChecked book q goal plan r → PlanChecked book q goal plan s → r ≡ s
+plan-check-one {book} {q} {goal} {plan} a b =
+    a .result-is ∙ ap checkReturned (checks-one book q goal plan (a .answer) (b .answer) (a .checks) (b .checks)) ∙ sym (b .result-is)

@@ -2,7 +2,7 @@
 use mathlib.Core.Path.{_≡_}
 use mathlib.Core.List.{List}
 use Prim.Native.Nat.{ℕ}
-use Rattle.book.specs.Promise.{Reads, Writes}
+use Rattle.book.specs.Promise.{ReadsBook, WritesBook}
 use Rattle.book_sound.specs.declared.ReadAnswer.{ReadAnswer}
 use Rattle.book.specs.declared.writing.WriteAnswer.{WriteAnswer}
 use Rattle.exports.specs.Returned.{readReturned, writeReturned}
@@ -10,11 +10,11 @@ use Rattle.exports.specs.Returned.{readReturned, writeReturned}
 -- the result and the room after the call, from the room before it
 pub record BookRead (book old : List ℕ) (result : ℕ) (new : List ℕ) : Type 0 where
   pub answer : ReadAnswer
-  pub reads : Reads book old answer new
+  pub reads : ReadsBook book old answer new
   pub result-is : result ≡ readReturned answer
 
 -- the result and the room after the call, from the room before it
 pub record BookWritten (n m : ℕ) (rights old : List ℕ) (result : ℕ) (new : List ℕ) : Type 0 where
   pub answer : WriteAnswer
-  pub writes : Writes n m rights old answer new
+  pub writes : WritesBook n m rights old answer new
   pub result-is : result ≡ writeReturned answer

@@ -2,6 +2,7 @@
 use mathlib.Core.Path.{_≡_}
 use mathlib.Core.List.{List}
 use Prim.Native.Nat.{ℕ}
+use Rattle.knowledge.specs.Goal.{Goal}
 use Rattle.finder.specs.Finds.{Finds}
 use Rattle.finder.specs.declared.answer.Answer.{Answer}
 use Rattle.question.specs.declared.Question.{Question}
@@ -12,7 +13,7 @@ abbrev pub asked : ℕ → ℕ → ℕ → Question
 asked team known values = record { team = team; known = known; values = values }
 
 -- the result and the rooms after the call, from the rooms before it
-pub record PlanFound (book : List ℕ) (q : Question) (make learn ranks plan : List ℕ) (result : ℕ) (ranks′ plan′ : List ℕ) : Type 0 where
+pub record PlanFound (book : List ℕ) (q : Question) (goal : Goal) (ranks plan : List ℕ) (result : ℕ) (ranks′ plan′ : List ℕ) : Type 0 where
   pub answer : Answer
-  pub finds : Finds book q make learn ranks plan answer ranks′ plan′
+  pub finds : Finds book q goal ranks plan answer ranks′ plan′
   pub result-is : result ≡ findReturned answer

@@ -2,7 +2,7 @@
 use mathlib.Core.Path.{_≡_}
 use mathlib.Core.List.{List}
 use Prim.Native.Nat.{ℕ}
-use Rattle.formula.specs.Read.{Reads}
+use Rattle.formula.specs.Read.{ReadsFormula}
 use Rattle.formula.specs.declared.Answer.{Answer}
 use Rattle.formula.specs.declared.Answer.the-variants.{Accepted, Refused}
 use Rattle.exports.specs.Returned.{formulaReturned}
@@ -16,6 +16,6 @@ onReturn (Refused r) old found = old
 pub record FormulaRead (n : ℕ) (s old : List ℕ) (result : ℕ) (new : List ℕ) : Type 0 where
   pub answer : Answer
   pub found : List ℕ
-  pub reads : Reads n s answer found
+  pub reads : ReadsFormula n s answer found
   pub result-is : result ≡ formulaReturned answer
   pub new-is : new ≡ onReturn answer old found

@@ -1,8 +1,6 @@
--- An answer as one number. `Fits` is inside: no public contract of `exports` cites it.
--- What the C functions return and leave in lent memory.
+-- What the C functions return and leave in lent memory: a refusal as one number, what each function returns, and then what each leaves.
 pub mod Packed
 pub mod Returned
-pub mod Fits
 pub mod Formula
 pub mod Book
 pub mod Find

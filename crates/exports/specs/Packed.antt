@@ -1,12 +1,22 @@
--- A result as one number, and what a host reads off it. A refusal is its number times 2^32 plus its place; a success has 0 in its upper half.
+-- A refusal as one number, and what a host reads off a result. A success has 0 in its upper half.
 use Prim.Native.Nat.{ℕ, _+_, _*_, _/_, _%_, _^_}
+use Rattle.refusal.specs.declared.Refusal.{Refusal}
+use Rattle.refusal.specs.Refusals.{number, place, second}
 
-unfoldable pub packed : ℕ → ℕ → ℕ
-packed number place = number * 2 ^ 32 + place
+-- the second number (one more than it is, 0 where there is none) from bit 40 on, the number from bit 32 on, and the place below; no place that is given
+-- has more than 32 bits (proofs/Apart)
+unfoldable pub packed : Refusal → ℕ
+packed r = second r * 2 ^ 40 + number r * 2 ^ 32 + place r % 2 ^ 32
 
--- the upper half and the lower
+-- the lower half of a result, and of its upper half the low byte and what is above it
+abbrev pub lower : ℕ → ℕ
+lower result = result % 2 ^ 32
+
 abbrev pub upper : ℕ → ℕ
 upper result = result / 2 ^ 32
 
-abbrev pub lower : ℕ → ℕ
-lower result = result % 2 ^ 32
+abbrev pub numberIn : ℕ → ℕ
+numberIn result = upper result % 256
+
+abbrev pub secondIn : ℕ → ℕ
+secondIn result = upper result / 256

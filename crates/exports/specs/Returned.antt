@@ -1,17 +1,13 @@
 -- What each C function returns for the answer of the crate behind it.
-use Prim.Native.Nat.{ℕ, _+_, _*_, _^_}
-use Rattle.formula.specs.Read as F
+use Prim.Native.Nat.{ℕ, _+_, _*_, _%_, _^_}
 use Rattle.formula.specs.declared.Answer.{Answer as FormulaAnswer}
 use Rattle.formula.specs.declared.Answer.the-variants.{Accepted, Refused as NoFormula}
-use Rattle.book_sound.specs.Refusals as B
 use Rattle.book_sound.specs.declared.ReadAnswer.{ReadAnswer}
 use Rattle.book_sound.specs.declared.ReadAnswer.the-variants.{Book, Refused as NoBook}
 use Rattle.book.specs.declared.writing.WriteAnswer.{WriteAnswer}
 use Rattle.book.specs.declared.writing.WriteAnswer.the-variants.{Written, Refused as NotWritten}
-use Rattle.question.specs.Rows as Q
 use Rattle.finder.specs.declared.answer.Answer.{Answer}
 use Rattle.finder.specs.declared.answer.Answer.the-variants.{Reach, Cannot, Refused}
-use Rattle.plancheck.specs.Refusals as C
 use Rattle.plancheck.specs.declared.answer.CheckAnswer.{CheckAnswer}
 use Rattle.plancheck.specs.declared.answer.CheckAnswer.the-variants.{Yes, Refused as NotAccepted}
 use Rattle.exports.specs.Packed.{packed}
@@ -19,25 +15,25 @@ use Rattle.exports.specs.Packed.{packed}
 -- `pj_formula_read`: 0, or the refusal as one number
 abbrev pub formulaReturned : FormulaAnswer → ℕ
 formulaReturned Accepted = 0
-formulaReturned (NoFormula r) = packed (F.number r) (F.place r)
+formulaReturned (NoFormula r) = packed r
 
 -- `pj_book_read`: n times 256 plus m, or the refusal as one number
 abbrev pub readReturned : ReadAnswer → ℕ
 readReturned (Book n m) = n * 256 + m
-readReturned (NoBook r) = packed (B.number r) (B.place r)
+readReturned (NoBook r) = packed r
 
 -- `pj_book_write`: 0, or the refusal as one number
 abbrev pub writeReturned : WriteAnswer → ℕ
 writeReturned Written = 0
-writeReturned (NotWritten r) = packed (B.number r) (B.place r)
+writeReturned (NotWritten r) = packed r
 
--- `pj_find`: reach: the height times 2^16 plus the plan's length; cannot: 0; or the refusal as one number
+-- `pj_find`: reach: the height times 2^16 plus the plan's length, which has no more than 16 bits (proofs/Apart); cannot: 0; or the refusal as one number
 abbrev pub findReturned : Answer → ℕ
-findReturned (Reach height size) = height * 2 ^ 16 + size
+findReturned (Reach height size) = height * 2 ^ 16 + size % 2 ^ 16
 findReturned Cannot = 0
-findReturned (Refused r) = packed (Q.number r) (Q.place r)
+findReturned (Refused r) = packed r
 
 -- `pj_plan_check`: yes: 0, or the refusal as one number
 abbrev pub checkReturned : CheckAnswer → ℕ
 checkReturned Yes = 0
-checkReturned (NotAccepted r) = packed (C.number r) (C.place r)
+checkReturned (NotAccepted r) = packed r

@@ -1,14 +1,20 @@
-// The C interface, and nothing else: each function hands its arguments to the crate that knows, and
-// `packing` makes one number of the answer. A refusal is its number times 2^32 plus its place; a
-// success has 0 in the upper half. A slice is a pointer and a length; a table is a pointer to 16 bytes.
+// The C interface, and nothing else: each function hands its arguments to the crate that knows, and gives
+// the answer as one number. A refusal is its number times 2^32 plus its place; a success has 0 in the
+// upper half. A slice is a pointer and a length; a table is a pointer to 16 bytes.
 mod packing;
 
+ghost use Rattle.knowledge.specs.Goal.{goalOf};
 ghost use Rattle.exports.specs.Formula.{FormulaRead};
 ghost use Rattle.exports.specs.Find.{asked, PlanFound};
 ghost use Rattle.exports.specs.Check.{PlanChecked};
 ghost use Rattle.exports.specs.Book.{BookRead, BookWritten};
-ghost use Rattle.sheet.specs.Answer.{Answers};
+ghost use Rattle.sheet.specs.Answer.{AnswersSheet};
+use book::WriteAnswer;
+use book_sound::ReadAnswer;
+use finder::Answer as Found;
 use formula::Answer;
+use packing::packed;
+use plancheck::CheckAnswer;
 use question::Question;
 
 // The table of a formula. 0, or a refusal, which leaves the 16 bytes as they were.
@@ -22,10 +28,10 @@ pub extern "C" fn pj_formula_read(n: u64, text: &[u8], table: &mut [u8; 16]) -> 
     match answer {
         Answer::Accepted => {
             *table = found;
+            0
         }
-        Answer::Refused(_) => {}
+        Answer::Refused(why) => packed(why),
     }
-    packing::of_formula(answer)
 }
 
 // A book's rights, n × 256 bytes, at the start of the lent room. n * 256 + m, or a refusal, which
@@ -34,7 +40,10 @@ pub extern "C" fn pj_formula_read(n: u64, text: &[u8], table: &mut [u8; 16]) -> 
 pub extern "C" fn pj_book_read(book: &[u8], rights: &mut [u8]) -> u64
     ensures { λ r. ⌜ BookRead (now (book .entry)) (now (rights .entry)) r (now (rights .exit)) ⌝ }
 {
-    packing::of_read(book::read(book, rights))
+    match book::read(book, rights) {
+        ReadAnswer::Book { settings, posts } => (settings as u64) * 256 + posts as u64,
+        ReadAnswer::Refused(why) => packed(why),
+    }
 }
 
 // The book of n settings and m posts with these rights, at the start of the lent room. 0, or a
@@ -43,7 +52,10 @@ pub extern "C" fn pj_book_read(book: &[u8], rights: &mut [u8]) -> u64
 pub extern "C" fn pj_book_write(n: u64, m: u64, rights: &[u8], book: &mut [u8]) -> u64
     ensures { λ r. ⌜ BookWritten n m (now (rights .entry)) (now (book .entry)) r (now (book .exit)) ⌝ }
 {
-    packing::of_write(book::write(n as usize, m as usize, rights, book))
+    match book::write(n as usize, m as usize, rights, book) {
+        WriteAnswer::Written => 0,
+        WriteAnswer::Refused(why) => packed(why),
+    }
 }
 
 // "Reach" with the least height, its plan in the plan room, and the ranks of all knowledge numbers in
@@ -59,14 +71,18 @@ pub extern "C" fn pj_find(
     ranks: &mut [u8],
     plan: &mut [u8],
 ) -> u64
-    ensures { λ r. ⌜ PlanFound (now (book .entry)) (asked team known values) (now (make .entry)) (now (learn .entry)) (now (ranks .entry)) (now (plan .entry)) r (now (ranks .exit)) (now (plan .exit)) ⌝ }
+    ensures { λ r. ⌜ PlanFound (now (book .entry)) (asked team known values) (goalOf (now (make .entry)) (now (learn .entry))) (now (ranks .entry)) (now (plan .entry)) r (now (ranks .exit)) (now (plan .exit)) ⌝ }
 {
     let question = Question {
         team,
         known,
         values,
     };
-    packing::of_find(finder::find(book, question, make, learn, ranks, plan))
+    match finder::find(book, question, make, learn, ranks, plan) {
+        Found::Reach { height, length } => (height as u64) * 65536 + (length as u64) % 65536,
+        Found::Cannot => 0,
+        Found::Refused(why) => packed(why),
+    }
 }
 
 // Whether the bytes are those of a plan that works: 0, or a refusal. Nothing is written.
@@ -80,21 +96,24 @@ pub extern "C" fn pj_plan_check(
     learn: &[u8],
     plan: &[u8],
 ) -> u64
-    ensures { λ r. ⌜ PlanChecked (now (book .entry)) (asked team known values) (now (make .entry)) (now (learn .entry)) (now (plan .entry)) r ⌝ }
+    ensures { λ r. ⌜ PlanChecked (now (book .entry)) (asked team known values) (goalOf (now (make .entry)) (now (learn .entry))) (now (plan .entry)) r ⌝ }
 {
     let question = Question {
         team,
         known,
         values,
     };
-    packing::of_check(plancheck::check(book, question, make, learn, plan))
+    match plancheck::check(book, question, make, learn, plan) {
+        CheckAnswer::Yes => 0,
+        CheckAnswer::Refused(why) => packed(why),
+    }
 }
 
 // What is printed for a sheet, in the lent room as far as it fits: the length of all of it, which is at
 // most `sheet::ANSWER_MOST`. Nothing is refused, and the rest of the room keeps what it held.
 #[no_mangle]
 pub extern "C" fn pj_sheet(sheet: &[u8], out: &mut [u8]) -> u64
-    ensures { λ r. ⌜ Answers (now (sheet .entry)) (now (out .entry)) r (now (out .exit)) ⌝ }
+    ensures { λ r. ⌜ AnswersSheet (now (sheet .entry)) (now (out .entry)) r (now (out .exit)) ⌝ }
 {
     sheet::answer(sheet, out) as u64
 }

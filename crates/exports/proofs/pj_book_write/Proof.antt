@@ -1,5 +1,6 @@
 -- `pj_book_write` meets its contract: the answer and the room are the writer's.
-use Rattle.exports.proofs.Fitting.{write-fits}
+use mathlib.Core.Path.{refl, sym, ap, _∙_}
+use Rattle.exports.specs.Returned.{writeReturned}
 use borrow.Author.Needs.{needs}
 use Rattle.exports.proofs.pj_book_write.Statement.{statement}
 use Rattle.exports.proofs.pj_book_write.Tie as tie
@@ -7,20 +8,41 @@ use Rattle.exports.proofs.pj_book_write.Tie as tie
 write-requires : tie.Need-write-requires
 write-requires c κs = search needs
 
-of-write-requires : tie.Need-of-write-requires
-of-write-requires c κs = write-fits _ _ _ _ _ (c .before .before .write .result) (c .before .before .write .ensures)
+enum-told : tie.Need-enum-told
+enum-told c = search needs
+
+enum-known-why : tie.Need-enum-known-why
+enum-known-why c = search needs
+
+packed-requires : tie.Need-packed-requires
+packed-requires c κs = search needs
 
 same-length : tie.Need-same-length
 same-length c = search needs
 
 returns : tie.Need-returns
-returns c = record { answer = c .before .before .before .write .result; writes = c .before .before .before .write .ensures; result-is = c .of-write .ensures }
+returns c =
+    let write : tie.After-write = search in
+    record { answer = write .write .result; writes = write .write .ensures; result-is = sym (ap writeReturned (c .enum-told .given .1)) }
+
+same-length-2 : tie.Need-same-length-2
+same-length-2 c = search needs
+
+returns-2 : tie.Need-returns-2
+returns-2 c =
+    let write : tie.After-write = search in
+    let why : tie.After-why = search in
+    record { answer = write .write .result; writes = write .write .ensures; result-is = c .packed .ensures ∙ sym (ap writeReturned (why .why .given .1)) }
 
 pub pj-book-write-spec : {M : Type 1} → statement M
 pj-book-write-spec =
     tie.close
     (tie.spec
     write-requires
-    of-write-requires
+    enum-told
+    enum-known-why
+    packed-requires
     same-length
-    returns)
+    returns
+    same-length-2
+    returns-2)
