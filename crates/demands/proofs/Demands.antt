@@ -1,23 +1,24 @@
 -- The three demands, each said of what the public functions' contracts allow. The functions have no `requires`: they take every input there is,
--- and the gate proves that each returns and meets its contract. The contracts are `Formula` (of `formula::read`), `ReadsBook` and `WritesBook` (of
--- `book::read` and `write`), `Finds` (of `finder::find`), `Checks` (of `plancheck::check`) and `Answers` (of `sheet::answer`).
+-- and the gate proves that each returns and meets its contract. The contracts are `ReadsFormula` (of `formula::read`), `ReadsBook` and
+-- `WritesBook` (of `book::read` and `write`), `Finds` (of `finder::find`), `Checks` (of `plancheck::check`) and `AnswersSheet` (of `sheet::answer`).
 use denote.Ref.{now}
 use mathlib.Core.Path.{_≡_, subst}
 use mathlib.Core.Logic.{_⊎_, _↔_}
 use mathlib.Core.List.{List, [], _∷_, _++_}
 use Prim.Native.Nat.{ℕ, _+_, _*_, _^_, _≤_, _<_}
 use lib.ListN.{length, getD, take, drop, replicate}
-use Rattle.formula.specs.Read.{Accepts, Refuses, Reads as Formula, number as formula-number, place as formula-place}
-use Rattle.formula.specs.Numbered.{formulaNumber, numberIn}
-use Rattle.formula.proofs.Numbered.{read-number}
+use Rattle.refusal.specs.declared.Refusal.{Refusal}
+use Rattle.refusal.specs.declared.Refusal.the-variants.{PlanRoom, Malformed}
+use Rattle.refusal.specs.Refusals.{number}
+use Rattle.refusal.specs.Order.{First}
+use Rattle.formula.specs.Read.{Accepts, formulaRows, ReadsFormula}
+use Rattle.formula.specs.Computed.{formulaAnswer}
 use Rattle.formula.specs.declared.Answer.{Answer as FormulaAnswer}
 use Rattle.formula.specs.declared.Answer.the-variants.{Refused as NoFormula}
-use Rattle.formula.specs.declared.Refusal.{Refusal as FormulaRefusal}
+use Rattle.formula.proofs.Computed.{read-computed}
 use Rattle.formula.proofs.Unique.{read-unique}
-use Rattle.ground.specs.Order.{First}
-use Rattle.book_sound.specs.Refusals.{readRows, writeRows, number as book-number, place as book-place}
-use Rattle.book.specs.Promise.{Reads as ReadsBook, Writes as WritesBook}
-use Rattle.book_sound.specs.declared.refusal.Refusal.{Refusal as BookRefusal}
+use Rattle.book.specs.Rows.{readRows, writeRows}
+use Rattle.book.specs.Promise.{ReadsBook, WritesBook}
 use Rattle.book_sound.specs.declared.ReadAnswer.{ReadAnswer}
 use Rattle.book_sound.specs.declared.ReadAnswer.the-variants.{Book, Refused as NoBook}
 use Rattle.book.specs.declared.writing.WriteAnswer.{WriteAnswer}
@@ -27,33 +28,27 @@ use Rattle.plan.specs.Plans.{Plan, Permitted, Works, height}
 use Rattle.plan.specs.Ranks.{Written as WrittenFrom}
 use Rattle.plan.specs.Bytes.{encode}
 use Rattle.plan.specs.Secret.{Twins}
-use Rattle.knowledge.specs.Goal.{learnCount, learnTable}
-use Rattle.question.specs.Rows.{number, place}
-use Rattle.question.specs.Question.{startNumber, NoMaking}
+use Rattle.knowledge.specs.Goal.{Goal, learnCount, learnTable}
+use Rattle.question.specs.Question.{systemOf, startOf, NoMaking}
 use Rattle.question.specs.Asks.{ValidQuestion}
-use Rattle.finder.specs.Finds.{RanksFilled, Finds, findRows}
-use Rattle.question.specs.declared.Refusal.the-variants.{PlanRoom}
 use Rattle.question.specs.declared.Question.{Question}
-use Rattle.question.specs.declared.Refusal.{Refusal}
+use Rattle.finder.specs.Finds.{RanksFilled, Finds, findRows}
 use Rattle.finder.specs.declared.answer.Answer.{Answer}
 use Rattle.finder.specs.declared.answer.Answer.the-variants.{Reach, Cannot, Refused}
 use Rattle.finder.proofs.Unique.{find-unique, find-refused, find-ranks}
-use Rattle.finder.proofs.Theorems.{System-of, Start-of, reach-works, cannot-none, works-reach, none-cannot, cannot-secret}
-use Rattle.plancheck.specs.Checks.{Checks, Refuses as CheckRefuses}
-use Rattle.plancheck.specs.Refusals.{number as check-number, place as check-place}
-use Rattle.plancheck.specs.declared.refusal.Refusal.{Refusal as CheckRefusal}
+use Rattle.finder.proofs.Theorems.{reach-works, cannot-none, works-reach, none-cannot, cannot-secret}
+use Rattle.plancheck.specs.Checks.{Checks, RefusesPlan}
 use Rattle.plancheck.specs.declared.answer.CheckAnswer.{CheckAnswer}
 use Rattle.plancheck.specs.declared.answer.CheckAnswer.the-variants.{Yes, Refused as NotAccepted}
 use Rattle.plancheck.proofs.OneAnswer.{checks-one}
 use Rattle.plancheck.proofs.Theorems.{yes-exact}
 use Rattle.print_answer.specs.Printed.{refusedText, cannotText, reachText, Prints}
 use Rattle.sheet_reading.specs.Sheet.{Sheet}
-use Rattle.sheet_reading.specs.Reading.{Meaning, meaning, refused, stated}
+use Rattle.sheet_reading.specs.Reading.{Meaning, sheetMeaning, refused, stated}
 use Rattle.sheet_reading.specs.Place.{MalformedAt}
-use Rattle.sheet.specs.Answer.{Prints-outcome, Answers}
 use Rattle.sheet_reading.proofs.Place.{malformed-line, malformed-refused}
-use Rattle.sheet.specs.Answer as Sheet
-use Rattle.sheet.proofs.Theorems.{System-for, answer-unique, answer-most, reach-printed, cannot-printed}
+use Rattle.sheet.specs.Answer.{PrintsOutcome, AnswersSheet, SheetAsks}
+use Rattle.sheet.proofs.Theorems.{answer-unique, answer-most, reach-printed, cannot-printed}
 use Rattle.sheet.proofs.Theorems as Printed
 use Rattle.formula.proofs.read.Reads as read-contract
 use Rattle.book.proofs.read.Reads as book-read-contract
@@ -66,7 +61,7 @@ use Rattle.sheet.proofs.answer.Reads as answer-contract
 -- caller need check nothing first, and what each refusal leaves in lent tables is stated."
 
 -- each contract allows one result alone, the lent rooms included
-pub one-formula : (n : ℕ) (s : List ℕ) (a b : FormulaAnswer) (t u : List ℕ) → Formula n s a t → Formula n s b u → (a ≡ b) × (t ≡ u)
+pub one-formula : (n : ℕ) (s : List ℕ) (a b : FormulaAnswer) (t u : List ℕ) → ReadsFormula n s a t → ReadsFormula n s b u → (a ≡ b) × (t ≡ u)
 one-formula = read-unique
 
 pub one-book-read : (book room : List ℕ) (a b : ReadAnswer) (x y : List ℕ) → ReadsBook book room a x → ReadsBook book room b y → (a ≡ b) × (x ≡ y)
@@ -75,62 +70,61 @@ one-book-read = reads-one
 pub one-book-written : (n m : ℕ) (rights room : List ℕ) (a b : WriteAnswer) (x y : List ℕ) → WritesBook n m rights room a x → WritesBook n m rights room b y → (a ≡ b) × (x ≡ y)
 one-book-written = writes-one
 
-pub one-answer : (book : List ℕ) (q : Question) (make learn ranks plan : List ℕ) (a b : Answer) (r s x y : List ℕ)
-    → Finds book q make learn ranks plan a r x → Finds book q make learn ranks plan b s y → (a ≡ b) × (r ≡ s) × (x ≡ y)
+pub one-answer : (book : List ℕ) (q : Question) (goal : Goal) (ranks plan : List ℕ) (a b : Answer) (r s x y : List ℕ)
+    → Finds book q goal ranks plan a r x → Finds book q goal ranks plan b s y → (a ≡ b) × (r ≡ s) × (x ≡ y)
 one-answer = find-unique
 
-pub one-verdict : (book : List ℕ) (q : Question) (make learn plan : List ℕ) (a b : CheckAnswer) → Checks book q make learn plan a → Checks book q make learn plan b → a ≡ b
+pub one-verdict : (book : List ℕ) (q : Question) (goal : Goal) (plan : List ℕ) (a b : CheckAnswer) → Checks book q goal plan a → Checks book q goal plan b → a ≡ b
 one-verdict = checks-one
 
-pub one-sheet-answer : (s old : List ℕ) (r r′ : ℕ) (new new′ : List ℕ) → Answers s old r new → Answers s old r′ new′ → (r ≡ r′) × (new ≡ new′)
+pub one-sheet-answer : (s old : List ℕ) (r r′ : ℕ) (new new′ : List ℕ) → AnswersSheet s old r new → AnswersSheet s old r′ new′ → (r ≡ r′) × (new ≡ new′)
 one-sheet-answer = answer-unique
 
--- "in the written order", with number and place, and what it leaves: a formula's refusal is `Refuses`, whose cases deny those before them, with zeros
--- beside it; a book's, rights' and a question's is the `First` of its rows, and leaves the rooms as they were; 14 is given to a
--- valid question whose plan does not fit, and fills the ranks
-pub refused-formula : (n : ℕ) (s : List ℕ) (r : FormulaRefusal) (t : List ℕ) → Formula n s (NoFormula r) t → Refuses n s (formula-number r) (formula-place r) × (t ≡ replicate 16 0)
+-- "in the written order", with number and place, and what it leaves: it is the `First` of its order's rows. A formula's has zeros beside it; a
+-- book's, rights' and a question's leaves the rooms as they were; 14 is given to a valid question whose plan does not fit, and fills the ranks
+pub refused-formula : (n : ℕ) (s : List ℕ) (r : Refusal) (t : List ℕ) → ReadsFormula n s (NoFormula r) t → First (formulaRows n s) r × (t ≡ replicate 16 0)
 refused-formula n s r t x = x
 
-pub refused-book : (book room : List ℕ) (r : BookRefusal) (after : List ℕ) → ReadsBook book room (NoBook r) after
-    → First (readRows book room) (book-number r) (book-place r) × (after ≡ room)
+pub refused-book : (book room : List ℕ) (r : Refusal) (after : List ℕ) → ReadsBook book room (NoBook r) after
+    → First (readRows book room) r × (after ≡ room)
 refused-book book room r after x = x
 
-pub refused-rights : (n m : ℕ) (rights room : List ℕ) (r : BookRefusal) (after : List ℕ) → WritesBook n m rights room (NotWritten r) after
-    → First (writeRows n m rights room) (book-number r) (book-place r) × (after ≡ room)
+pub refused-rights : (n m : ℕ) (rights room : List ℕ) (r : Refusal) (after : List ℕ) → WritesBook n m rights room (NotWritten r) after
+    → First (writeRows n m rights room) r × (after ≡ room)
 refused-rights n m rights room r after x = x
 
-pub refused-question : (book : List ℕ) (q : Question) (make learn ranks plan : List ℕ) (w : Refusal) (r x : List ℕ) → Finds book q make learn ranks plan (Refused w) r x
-    → (x ≡ plan) × ((First (findRows book (q .team) (q .known) (q .values) make learn ranks) (number w) (place w) × (r ≡ ranks))
-    ⊎ ((w ≡ PlanRoom) × ((n : ℕ) × (m : ℕ) × ValidQuestion book q make learn n m × (7 ^ n ≤ length ranks) × RanksFilled n (System-of book q make learn n) ranks r
-    × ((p : Plan) × WrittenFrom (System-of book q make learn n) (Start-of q) p × (length plan < length (encode p))))))
+pub refused-question : (book : List ℕ) (q : Question) (goal : Goal) (ranks plan : List ℕ) (w : Refusal) (r x : List ℕ) → Finds book q goal ranks plan (Refused w) r x
+    → (x ≡ plan) × ((First (findRows book q goal ranks) w × (r ≡ ranks))
+    ⊎ ((w ≡ PlanRoom) × ((n : ℕ) × (m : ℕ) × ValidQuestion book q goal n m × (7 ^ n ≤ length ranks) × RanksFilled n (systemOf n book q goal) ranks r
+    × ((p : Plan) × WrittenFrom (systemOf n book q goal) (startOf q) p × (length plan < length (encode p))))))
 refused-question = find-refused
 
-pub refused-plan : (book : List ℕ) (q : Question) (make learn plan : List ℕ) (r : CheckRefusal) → Checks book q make learn plan (NotAccepted r)
-    → CheckRefuses book q make learn plan (check-number r) (check-place r)
-refused-plan book q make learn plan r x = x
+pub refused-plan : (book : List ℕ) (q : Question) (goal : Goal) (plan : List ℕ) (r : Refusal) → Checks book q goal plan (NotAccepted r)
+    → RefusesPlan book q goal plan r
+refused-plan book q goal plan r x = x
 
 -- a sheet's is printed; 22 and its line are told by the grammar alone, unless an earlier line is refused for something else; and the formula's number is the one that `formula::read` answers
-pub refused-sheet : (s old : List ℕ) (r : ℕ) (new : List ℕ) (x L : ℕ) → meaning s ≡ refused x L → Answers s old r new → Prints old (refusedText x L) r new
-refused-sheet s old r new x L m a = subst (λ (o : Meaning). Prints-outcome o old r new) m a
+pub refused-sheet : (s old : List ℕ) (r : ℕ) (new : List ℕ) (w : Refusal) (L : ℕ) → sheetMeaning s ≡ refused w L → AnswersSheet s old r new → Prints old (refusedText (number w) L) r new
+refused-sheet s old r new w L m a = subst (λ (o : Meaning). PrintsOutcome o old r new) m a
 
-pub malformed : (s : List ℕ) (L : ℕ) → meaning s ≡ refused 22 L → MalformedAt s L
+pub malformed : (s : List ℕ) (L : ℕ) → sheetMeaning s ≡ refused (Malformed L) L → MalformedAt s L
 malformed = malformed-line
 
 pub malformed-where : (s : List ℕ) (L : ℕ) → MalformedAt s L
     → (meaning s ≡ refused 22 L) ⊎ ((x : ℕ) × (p : ℕ) × (meaning s ≡ refused x p) × (x ≡ 22 → ⊥) × (p < L))
 malformed-where = malformed-refused
 
-pub sheet-formula : (n : ℕ) (F : List ℕ) (a : FormulaAnswer) (t : List ℕ) → Formula n F a t → formulaNumber n F ≡ numberIn a
-sheet-formula = read-number
+pub sheet-formula : (n : ℕ) (F : List ℕ) (a : FormulaAnswer) (t : List ℕ) → ReadsFormula n F a t → formulaAnswer n F ≡ a
+sheet-formula = read-computed
 
 -- "After success, "cannot" or 14 the first 7^n bytes of the rank table hold all ranks"; what "cannot" and 14 leave in the plan room is in `cannot` and
 -- `refused-question`
-pub ranks-filled : (book : List ℕ) (q : Question) (make learn ranks plan : List ℕ) {n m : ℕ} (a : Answer) (r x : List ℕ) → ValidQuestion book q make learn n m → 7 ^ n ≤ length ranks
-    → Finds book q make learn ranks plan a r x → RanksFilled n (System-of book q make learn n) ranks r
+pub ranks-filled : (book : List ℕ) (q : Question) (goal : Goal) (ranks plan : List ℕ) {n m : ℕ} (a : Answer) (r x : List ℕ) → ValidQuestion book q goal n m → 7 ^ n ≤ length ranks
+    → Finds book q goal ranks plan a r x → RanksFilled n (systemOf n book q goal) ranks r
 ranks-filled = find-ranks
 
 -- and a room of 28,234 bytes holds every answer to a sheet
-pub sheet-room : (s old : List ℕ) (r : ℕ) (new : List ℕ) → Answers s old r new → r ≤ 28234
+pub sheet-room : (s old : List ℕ) (r : ℕ) (new : List ℕ) → AnswersSheet s old r new → r ≤ 28234
 sheet-room = answer-most
 
 -- ---- Demand 2. ""reach" exactly when a finite permitted plan, under every outcome of its looks, ends in knowledge that settles the goal; the height
@@ -138,29 +132,29 @@ sheet-room = answer-most
 
 -- a plan that works from what the team knows at the start
 abbrev WorksFor : List ℕ → Question → List ℕ → List ℕ → ℕ → Plan → Type 0
-WorksFor book q make learn n p = Works (System-of book q make learn n) (Start-of q) p
+WorksFor book q goal n p = Works (systemOf n book q goal) (startOf q) p
 
-module _ (book : List ℕ) (q : Question) (make learn ranks plan : List ℕ) (r x : List ℕ) where
-  pub reach : (h size : ℕ) → Finds book q make learn ranks plan (Reach h size) r x
-      → (n : ℕ) × (m : ℕ) × ValidQuestion book q make learn n m
-      × ((p : Plan) × WorksFor book q make learn n p × (height p ≡ h) × ((s : Plan) → WorksFor book q make learn n s → h ≤ height s)
+module _ (book : List ℕ) (q : Question) (goal : Goal) (ranks plan : List ℕ) (r x : List ℕ) where
+  pub reach : (h size : ℕ) → Finds book q goal ranks plan (Reach h size) r x
+      → (n : ℕ) × (m : ℕ) × ValidQuestion book q goal n m
+      × ((p : Plan) × WorksFor book q goal n p × (height p ≡ h) × ((s : Plan) → WorksFor book q goal n s → h ≤ height s)
       × (size ≡ length (encode p)) × (x ≡ encode p ++ drop size plan))
-  reach = reach-works book q make learn ranks plan r x
+  reach = reach-works book q goal ranks plan r x
 
-  pub reach-where : {n m : ℕ} (a : Answer) → ValidQuestion book q make learn n m → 7 ^ n ≤ length ranks → 32640 ≤ length plan
-      → (p : Plan) → WorksFor book q make learn n p → Finds book q make learn ranks plan a r x → (h : ℕ) × (size : ℕ) × (a ≡ Reach h size)
-  reach-where = works-reach book q make learn ranks plan r x
+  pub reach-where : {n m : ℕ} (a : Answer) → ValidQuestion book q goal n m → 7 ^ n ≤ length ranks → 32640 ≤ length plan
+      → (p : Plan) → WorksFor book q goal n p → Finds book q goal ranks plan a r x → (h : ℕ) × (size : ℕ) × (a ≡ Reach h size)
+  reach-where = works-reach book q goal ranks plan r x
 
-  pub cannot : Finds book q make learn ranks plan Cannot r x → (n : ℕ) × (m : ℕ) × ValidQuestion book q make learn n m × ((p : Plan) → WorksFor book q make learn n p → ⊥) × (x ≡ plan)
-  cannot = cannot-none book q make learn ranks plan r x
+  pub cannot : Finds book q goal ranks plan Cannot r x → (n : ℕ) × (m : ℕ) × ValidQuestion book q goal n m × ((p : Plan) → WorksFor book q goal n p → ⊥) × (x ≡ plan)
+  cannot = cannot-none book q goal ranks plan r x
 
-  pub cannot-where : {n m : ℕ} (a : Answer) → ValidQuestion book q make learn n m → 7 ^ n ≤ length ranks
-      → ((p : Plan) → WorksFor book q make learn n p → ⊥) → Finds book q make learn ranks plan a r x → a ≡ Cannot
-  cannot-where = none-cannot book q make learn ranks plan r x
+  pub cannot-where : {n m : ℕ} (a : Answer) → ValidQuestion book q goal n m → 7 ^ n ≤ length ranks
+      → ((p : Plan) → WorksFor book q goal n p → ⊥) → Finds book q goal ranks plan a r x → a ≡ Cannot
+  cannot-where = none-cannot book q goal ranks plan r x
 
-pub check : (book : List ℕ) (q : Question) (make learn plan : List ℕ) {n m : ℕ} → ValidQuestion book q make learn n m → (a : CheckAnswer) → Checks book q make learn plan a
-    → (a ≡ Yes) ↔ ((length plan ≤ 32640) × ((p : Plan) × WorksFor book q make learn n p × (plan ≡ encode p)))
-check book q make learn plan v a c = yes-exact v plan a c
+pub check : (book : List ℕ) (q : Question) (goal : Goal) (plan : List ℕ) {n m : ℕ} → ValidQuestion book q goal n m → (a : CheckAnswer) → Checks book q goal plan a
+    → (a ≡ Yes) ↔ ((length plan ≤ 32640) × ((p : Plan) × WorksFor book q goal n p × (plan ≡ encode p)))
+check book q goal plan v a c = yes-exact v plan a c
 
 -- "A book read and written back is the same bytes; rights written and read back are the same rights."
 -- (`getD book j 0 < 256`: a list of numbers stands for bytes)
@@ -177,15 +171,15 @@ rights-again = write-then-read
 -- ---- Demand 3. "For a valid question whose only goal is to learn one formula over the start settings, answered "cannot", with nobody outside the team
 -- setting anything: for every finite permitted plan of the team there are two starting states, both agreeing with what the team knew, that give the
 -- formula different values, and in both the plan does the same acts and sees the same readings to its end."
-pub secret : (book : List ℕ) (q : Question) (make learn ranks plan : List ℕ) (r x : List ℕ) → Finds book q make learn ranks plan Cannot r x
-    → (n : ℕ) × (m : ℕ) × ValidQuestion book q make learn n m
-    × (NoMaking n make → learnCount learn ≡ 1 → (p : Plan) → Permitted (System-of book q make learn n) (Start-of q) p → Twins n (learnTable learn 0) (Start-of q) p)
+pub secret : (book : List ℕ) (q : Question) (goal : Goal) (ranks plan : List ℕ) (r x : List ℕ) → Finds book q goal ranks plan Cannot r x
+    → (n : ℕ) × (m : ℕ) × ValidQuestion book q goal n m
+    × (NoMaking n goal → learnCount (goal .learn) ≡ 1 → (p : Plan) → Permitted (systemOf n book q goal) (startOf q) p → Twins n (learnTable (goal .learn) 0) (startOf q) p)
 secret = cannot-secret
 
 -- ---- Demands 2 and 3 of a sheet: it asks one question, and what is printed is the answer to that
 
 module _ (s old : List ℕ) (r : ℕ) (new : List ℕ) {sheet : Sheet} {rights make learn : List ℕ} {team known values : ℕ}
-    (m : meaning s ≡ stated sheet) (q : Sheet.Question sheet rights make learn team known values) (a : Answers s old r new) where
+    (m : meaning s ≡ stated sheet) (q : Sheet.Question sheet rights make learn team known values) (a : AnswersSheet s old r new) where
   pub sheet-reach : (p : Plan) → Works (System-for sheet rights make learn team) (startNumber known values) p
       → (h : ℕ) × (t : Plan) × Works (System-for sheet rights make learn team) (startNumber known values) t × (height t ≡ h)
       × ((u : Plan) → Works (System-for sheet rights make learn team) (startNumber known values) u → h ≤ height u) × Prints old (reachText h t) r new
@@ -221,10 +215,10 @@ tied-book-write κs a x y s t p q = writes-one _ _ _ _ x y _ _ p q
 
 pub tied-find : (κs : _) (a : _) (x y : _) (s t : _) → find-contract.Post κs a x s → find-contract.Post κs a y t
     → (x ≡ y) × (now (s .1 .1 .1 .1 .0) ≡ now (t .1 .1 .1 .1 .0)) × (now (s .1 .1 .1 .1 .1 .0) ≡ now (t .1 .1 .1 .1 .1 .0))
-tied-find κs a x y s t p q = find-unique _ _ _ _ _ _ x y _ _ _ _ p q
+tied-find κs a x y s t p q = find-unique _ _ _ _ _ x y _ _ _ _ p q
 
 pub tied-check : (κs : _) (a : _) (x y : _) (s t : _) → check-contract.Post κs a x s → check-contract.Post κs a y t → x ≡ y
-tied-check κs a x y s t p q = checks-one _ _ _ _ _ x y p q
+tied-check κs a x y s t p q = checks-one _ _ _ _ x y p q
 
 pub tied-answer : (κs : _) (a : _) (x y : _) (s t : _) → answer-contract.Post κs a x s → answer-contract.Post κs a y t
     → (x ≡ y) × (now (s .1 .0) ≡ now (t .1 .0))

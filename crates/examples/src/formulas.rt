@@ -15,7 +15,7 @@ fn show(name: &[u8], n: usize, text: &[u8]) {
             say(b" byte 0 is ");
             say_number(table[0] as u64);
         }
-        Answer::Refused(why) => say_refused(why.number(), why.place()),
+        Answer::Refused(why) => say_refused(why),
     }
     say(b"\n");
 }

@@ -68,7 +68,7 @@ fn show(name: &[u8], answer: Answer, plan: &[u8]) {
             }
         }
         Answer::Cannot => say(b" cannot"),
-        Answer::Refused(why) => say_refused(why.number(), why.place()),
+        Answer::Refused(why) => say_refused(why),
     }
     say(b"\n");
 }

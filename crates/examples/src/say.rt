@@ -1,4 +1,6 @@
 // What the examples print, to standard output.
+use refusal::Refusal;
+
 pub(crate) fn say(text: &[u8]) {
     io::write_all(1, text);
 }
@@ -8,9 +10,10 @@ pub(crate) fn say_number(x: u64) {
 }
 
 // A refusal: its number and its place.
-pub(crate) fn say_refused(number: u64, place: usize) {
+pub(crate) fn say_refused(why: Refusal) {
+    let told = why.numbers();
     say(b" refused ");
-    say_number(number);
+    say_number(told.number);
     say(b" at ");
-    say_number(place as u64);
+    say_number(told.place as u64);
 }

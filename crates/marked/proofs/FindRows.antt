@@ -11,11 +11,11 @@ use Rattle.book_block.specs.Sealed.{sealed, bytes16}
 use Rattle.book_block.specs.Sealed.{headBlock, settingBlock}
 use Rattle.knowledge_acts.specs.Acts.{byteOf}
 use Rattle.plan.specs.Plans.{stop, set-then, look-then}
-use Rattle.plancheck.specs.declared.refusal.Refusal.the-variants.{NotSettled}
+use Rattle.refusal.specs.declared.Refusal.the-variants.{NotSettled}
 use Rattle.plancheck.specs.declared.answer.CheckAnswer.the-variants.{Refused as No}
-use Rattle.plancheck.proofs.Examples.{not-a, is-a, p10}
+use Rattle.plancheck.proofs.Examples.{p10}
 use Rattle.plancheck.proofs.OneAnswer.{checks-one}
-use Rattle.marked.specs.Row.{bookFor, Holds, reaches, cannot, faults}
+use Rattle.marked.specs.Row.{bookFor, goalFor, RowHolds, reaches, cannot, faults}
 use Rattle.marked.specs.Table.{p6, p7, p8a, p8c, p9, p11, p12}
 use Rattle.marked.proofs.Valid.{valid, tested, well}
 use Rattle.marked.proofs.ByTests.{Certificate, shows, catches, row-reaches, row-cannot}
@@ -32,7 +32,7 @@ pub p6-shown : T (shows p6 4 by-look)
 unfolding shows
 p6-shown = tt
 
-pub p6-row : Holds (reaches p6 4 (130 ∷ 58 ∷ 65 ∷ 0 ∷ 18 ∷ 58 ∷ 65 ∷ 0 ∷ []))
+pub p6-row : RowHolds (reaches p6 4 (130 ∷ 58 ∷ 65 ∷ 0 ∷ 18 ∷ 58 ∷ 65 ∷ 0 ∷ []))
 unfolding byteOf
 p6-row = row-reaches p6 4 by-look p6-shown
 
@@ -44,7 +44,7 @@ pub p7-caught : T (catches p7 stuck)
 unfolding catches
 p7-caught = tt
 
-pub p7-row : Holds (cannot p7)
+pub p7-row : RowHolds (cannot p7)
 p7-row = row-cannot p7 stuck p7-caught
 
 -- the start, and where c is seen to be false: a has to be set there, and nobody may look at it
@@ -55,14 +55,14 @@ pub p8a-caught : T (catches p8a unseen)
 unfolding catches
 p8a-caught = tt
 
-pub p8a-row : Holds (cannot p8a)
+pub p8a-row : RowHolds (cannot p8a)
 p8a-row = row-cannot p8a unseen p8a-caught
 
 pub p8c-shown : T (shows p8c 4 by-look)
 unfolding shows
 p8c-shown = tt
 
-pub p8c-row : Holds (reaches p8c 4 (130 ∷ 58 ∷ 65 ∷ 0 ∷ 18 ∷ 58 ∷ 65 ∷ 0 ∷ []))
+pub p8c-row : RowHolds (reaches p8c 4 (130 ∷ 58 ∷ 65 ∷ 0 ∷ 18 ∷ 58 ∷ 65 ∷ 0 ∷ []))
 unfolding byteOf
 p8c-row = row-reaches p8c 4 by-look p8c-shown
 
@@ -73,7 +73,7 @@ p9-certificate = record {
   plan = look-then 0 0 stop (set-then 0 0 false stop);
 }
 
-pub p9-row : Holds (reaches p9 2 (113 ∷ 0 ∷ 1 ∷ 0 ∷ []))
+pub p9-row : RowHolds (reaches p9 2 (113 ∷ 0 ∷ 1 ∷ 0 ∷ []))
 unfolding shows byteOf
 p9-row = row-reaches p9 2 p9-certificate tt
 
@@ -81,7 +81,7 @@ p9-well : T (well p9)
 unfolding well
 p9-well = tt
 
-pub p10-row : Holds (faults p9 (1 ∷ 0 ∷ []) 19 1)
+pub p10-row : RowHolds (faults p9 (1 ∷ 0 ∷ []) 19 1)
 unfolding rule rulePlace tablePlace bookOf headBlock settingBlocks settingBlock sealed bytes16 inOrder tablesOf
 p10-row =
     let yes = p10 {book = bookFor p9} {m = 1} (valid p9 (tested p9 p9-well)) refl in (
@@ -89,13 +89,13 @@ p10-row =
       refl,
       refl,
       yes,
-      λ answer h. checks-one (bookFor p9) (p9 .asked) not-a is-a (1 ∷ 0 ∷ []) answer (No (NotSettled 1)) h yes,
+      λ answer h. checks-one (bookFor p9) (p9 .asked) (goalFor p9) (1 ∷ 0 ∷ []) answer (No (NotSettled 1)) h yes,
     )
 
-pub p11-row : Holds (reaches p11 1 (57 ∷ 0 ∷ []))
+pub p11-row : RowHolds (reaches p11 1 (57 ∷ 0 ∷ []))
 unfolding shows byteOf
 p11-row = row-reaches p11 1 (record { states = 0 ∷ 1 ∷ 2 ∷ []; ranks = 1 ∷ 1 ∷ 0 ∷ []; plan = set-then 0 0 true stop }) tt
 
-pub p12-row : Holds (reaches p12 0 (0 ∷ []))
+pub p12-row : RowHolds (reaches p12 0 (0 ∷ []))
 unfolding shows byteOf
 p12-row = row-reaches p12 0 (record { states = 3 ∷ []; ranks = 0 ∷ []; plan = stop }) tt

@@ -11,8 +11,8 @@ use lib.Seq.{getD-set-same, getD-set-other}
 use Rattle.ground.specs.Search.{Least}
 use Rattle.ground.proofs.Bools.{lt-or-ge}
 use Rattle.ground.proofs.Search.{least-unique}
-use Rattle.ground.specs.Order.{Clear}
-use Rattle.ground.proofs.OrderLaws.{first-clear, clear-append, none-only}
+use Rattle.refusal.specs.Order.{Clear}
+use Rattle.refusal.proofs.OrderLaws.{first-clear, clear-append, clear-when, clear-none}
 use Rattle.book_sound.proofs.SoundLaws.{sound-settings}
 use Rattle.book_sound.proofs.Theorems.{sound-one}
 use Rattle.plan.specs.Plans.{System, Lawful, Plan}
@@ -20,74 +20,58 @@ use Rattle.plan.specs.Ranks.{Reach as ReachIn, Cannot as CannotFrom, IsRank, Wr
 use Rattle.plan.specs.Bytes.{encode}
 use Rattle.plan.proofs.Ranks.{has-rank}
 use Rattle.plan.proofs.Written.{written-works, written-unique}
-use Rattle.plan.proofs.Team.{team-lawful}
-use Rattle.knowledge.specs.Goal.{goalSettled}
-use Rattle.question.specs.Question.{systemOf, startNumber}
-use Rattle.question.specs.Rows.{number, place, questionRows}
+use Rattle.question.proofs.SystemLaws.{team-lawful}
+use Rattle.question.specs.Question.{systemOf, startOf}
+use Rattle.question.specs.Rows.{questionRows}
 use Rattle.finder.specs.Finds.{RanksFilled, Finds, findRows}
-use Rattle.finder.specs.Answers.{Answers}
-use Rattle.question.specs.declared.Refusal.the-variants.{Book, Team, Known, Goal, Ranks, PlanRoom}
+use Rattle.finder.specs.Answers.{AnswersFrom}
 use Rattle.finder.specs.declared.answer.Answer.{Answer}
 use Rattle.finder.specs.declared.answer.Answer.the-variants.{Reach, Cannot, Refused}
 use Rattle.question.proofs.RowLaws.{question-clear}
-use Rattle.marked.specs.Row.{Case, bookFor, first, tables}
+use Rattle.marked.specs.Row.{Case, bookFor, goalFor}
 use Rattle.marked.proofs.Valid.{Well, Valid}
 
-abbrev pub systemFor : Case → System
-systemFor c = systemOf (c .n) (bookFor c) (c .asked .team) (first (c .make)) (tables (c .learn))
+abbrev pub systemIn : Case → System
+systemIn c = systemOf (c .n) (bookFor c) (c .asked) (goalFor c)
 
-abbrev pub startFor : Case → ℕ
-startFor c = startNumber (c .asked .known) (c .asked .values)
+abbrev pub startIn : Case → ℕ
+startIn c = startOf (c .asked)
 
-pub law : (c : Case) → Well c → Lawful (c .n) (systemFor c)
-unfolding systemOf
-law c w =
-    team-lawful (c .n) (bookFor c) (c .asked .team) (goalSettled (c .n) (first (c .make)) (tables (c .learn)))
-    (omega (arith, w .team, pow-mono {i = c .m} {j = 8} (w .few-posts)))
+pub law : (c : Case) → Well c → Lawful (c .n) (systemIn c)
+law c w = team-lawful (c .n) (bookFor c) (c .asked) (goalFor c) (omega (arith, w .team, pow-mono {i = c .m} {j = 8} (w .few-posts)))
 
 clear : (c : Case) → Valid c → (ranks : List ℕ) → 7 ^ (c .n) ≤ length ranks
-    → Clear (findRows (bookFor c) (c .asked .team) (c .asked .known) (c .asked .values) (first (c .make)) (tables (c .learn)) ranks)
+    → Clear (findRows (bookFor c) (c .asked) (goalFor c) ranks)
 unfolding findRows
 clear c v ranks h =
-    clear-append (questionRows (bookFor c) (c .asked .team) (c .asked .known) (c .asked .values) (first (c .make)) (tables (c .learn))) _
-    (question-clear (bookFor c) (c .asked .team) (c .asked .known) (c .asked .values) (first (c .make)) (tables (c .learn)) (v .sound) (v .team) (v .known) (v .goal))
-    (none-only (λ l. omega (arith, subst (λ (x : ℕ). length ranks < 7 ^ x) (sound-settings (v .sound)) l)), tt)
+    clear-append (question-clear v)
+    (clear-when (λ l. omega (arith, subst (λ (x : ℕ). length ranks < 7 ^ x) (sound-settings (v .sound)) l)) clear-none)
 
 -- every result allowed answers the question
 pub answers : (c : Case) → Valid c → (ranks room : List ℕ) → 7 ^ (c .n) ≤ length ranks → (a : Answer) (ranks′ room′ : List ℕ)
-    → Finds (bookFor c) (c .asked) (first (c .make)) (tables (c .learn)) ranks room a ranks′ room′ → Answers (systemFor c) (startFor c) room a room′
+    → Finds (bookFor c) (c .asked) (goalFor c) ranks room a ranks′ room′ → AnswersFrom (systemIn c) (startIn c) room a room′
 answers c v ranks room l a ranks′ room′ (inl u) =
-    absurd (first-clear (findRows (bookFor c) (c .asked .team) (c .asked .known) (c .asked .values) (first (c .make)) (tables (c .learn)) ranks) (number (u .why)) (place (u .why)) (u .first) (clear c v ranks l))
+    first-clear (u .first) (clear c v ranks l)
 answers c v ranks room l a ranks′ room′ (inr (k, o, d, e, f, g)) =
     let same : k ≡ c .n = sound-one (d .sound) (v .sound) .0 in
-    subst (λ (j : ℕ). Answers (systemOf j (bookFor c) (c .asked .team) (first (c .make)) (tables (c .learn))) (startFor c) room a room′) same g
+    subst (λ (j : ℕ). AnswersFrom (systemOf j (bookFor c) (c .asked) (goalFor c)) (startIn c) room a room′) same g
 
 module _ {n : ℕ} {S : System} (law : Lawful n S) (few : n ≤ 7) (k : ℕ) (room room′ : List ℕ) where
   pub one-reach : (h : ℕ) (p : Plan) → Least (ReachIn S k) h → Written S k p → length (encode p) ≤ length room
-      → (a : Answer) → Answers S k room a room′ → (a ≡ Reach h (length (encode p))) × (room′ ≡ encode p ++ drop (length (encode p)) room)
+      → (a : Answer) → AnswersFrom S k room a room′ → (a ≡ Reach h (length (encode p))) × (room′ ≡ encode p ++ drop (length (encode p)) room)
   one-reach h p least w big (Reach j size) (m, (s, t, e, f, g)) =
       let z : s ≡ p = written-unique law few s p k t w in
       let y : size ≡ length (encode p) = e ∙ ap (λ (x : Plan). length (encode x)) z in
       (ap₂ Reach (least-unique m least) y, g ∙ ap₂ (λ (x : Plan) (i : ℕ). encode x ++ drop i room) z y)
   one-reach h p least w big Cannot (m, s) = absurd (m p (written-works S p k w))
-  one-reach h p least w big (Refused (Book r)) m = absurd m
-  one-reach h p least w big (Refused Team) m = absurd m
-  one-reach h p least w big (Refused Known) m = absurd m
-  one-reach h p least w big (Refused Goal) m = absurd m
-  one-reach h p least w big (Refused Ranks) m = absurd m
-  one-reach h p least w big (Refused PlanRoom) (m, s) =
+  one-reach h p least w big (Refused r) (e, m, s) =
       let z : m .0 ≡ p = written-unique law few (m .0) p k (m .1) w in
       absurd (omega (arith, m .2, ap (λ (x : Plan). length (encode x)) z))
 
-  pub one-cannot : CannotFrom S k → (a : Answer) → Answers S k room a room′ → (a ≡ Cannot) × (room′ ≡ room)
+  pub one-cannot : CannotFrom S k → (a : Answer) → AnswersFrom S k room a room′ → (a ≡ Cannot) × (room′ ≡ room)
   one-cannot none (Reach j size) (m, (s, t, e, f, g)) = absurd (none s (written-works S s k t))
   one-cannot none Cannot m = (refl, m .1)
-  one-cannot none (Refused (Book r)) m = absurd m
-  one-cannot none (Refused Team) m = absurd m
-  one-cannot none (Refused Known) m = absurd m
-  one-cannot none (Refused Goal) m = absurd m
-  one-cannot none (Refused Ranks) m = absurd m
-  one-cannot none (Refused PlanRoom) (m, s) = absurd (none (m .0) (written-works S (m .0) k (m .1)))
+  one-cannot none (Refused r) (e, m, s) = absurd (none (m .0) (written-works S (m .0) k (m .1)))
 
 -- a rank table with all ranks in it
 unfoldable fill : (ℕ → ℕ) → ℕ → List ℕ → List ℕ

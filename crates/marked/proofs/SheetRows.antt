@@ -38,26 +38,26 @@ use Rattle.sheet.specs.Answer.{Question, PrintsFound, Prints-outcome}
 use Rattle.sheet_reading.proofs.HoldLaws.{nought-accepts}
 use Rattle.sheet_reading.proofs.Examples.{sheets-computed}
 use Rattle.sheet.proofs.Theorems.{answer-unique}
-use Rattle.marked.specs.Row.{Case, first, tables, Holds, prints}
+use Rattle.marked.specs.Row.{Case, first, tables, RowHolds, prints}
 use Rattle.marked.specs.Table.{sixth, p6, p7, p8a, p8c, p6-sheet, p6-printed, p7-sheet, p8a-sheet, p8c-sheet}
 use Rattle.marked.proofs.Valid.{Well, nobody-zeros}
-use Rattle.marked.proofs.OneAnswer.{systemFor, startFor}
+use Rattle.marked.proofs.OneAnswer.{systemIn, startIn}
 use Rattle.marked.proofs.ByTests.{Certificate, shows, shown-well, shown-written, shown-least, catches, caught-well, caught-none}
 use Rattle.marked.proofs.FindRows.{by-look, p6-shown, stuck, p7-caught, unseen, p8a-caught, p8c-shown}
 
 -- ---- a row, from the meaning of its sheet
 
-row-prints : (s t : String) (o : Meaning) → meaning (bytes s) ≡ o → ((old : List ℕ) → Prints-outcome o old (length (bytes t)) (fitted old (bytes t))) → Holds (prints s t)
+row-prints : (s t : String) (o : Meaning) → meaning (bytes s) ≡ o → ((old : List ℕ) → Prints-outcome o old (length (bytes t)) (fitted old (bytes t))) → RowHolds (prints s t)
 row-prints s t o m f old =
     let yes = subst (λ (x : Meaning). Prints-outcome x old (length (bytes t)) (fitted old (bytes t))) (sym m) (f old) in
     (yes, λ r new a. answer-unique (bytes s) old r (length (bytes t)) new (fitted old (bytes t)) a yes)
 
 -- what a question's row says, as it is printed
 tells-reach : (c : Case) (h : ℕ) (k : Certificate) → T (shows c h k) → (t : List ℕ) → t ≡ reachText h (k .plan) → (old : List ℕ)
-    → PrintsFound (systemFor c) (startFor c) old (length t) (fitted old t)
+    → PrintsFound (systemIn c) (startIn c) old (length t) (fitted old t)
 tells-reach c h k x t e old = inl (h, k .plan, shown-least c h k x, shown-written c h k x, record { count = ap length e; room = ap (fitted old) e })
 
-tells-cannot : (c : Case) (states : List ℕ) → T (catches c states) → (old : List ℕ) → PrintsFound (systemFor c) (startFor c) old (length cannotText) (fitted old cannotText)
+tells-cannot : (c : Case) (states : List ℕ) → T (catches c states) → (old : List ℕ) → PrintsFound (systemIn c) (startIn c) old (length cannotText) (fitted old cannotText)
 tells-cannot c states x old = inr (caught-none c states x, record { count = refl; room = refl })
 
 -- ---- the question of P6 to P8
@@ -119,7 +119,7 @@ module _ (team : ℕ) (posts learn : List ℕ) (asks : List (List ℕ)) (w : Wel
   }
 
   sixth-prints : (s t : String) → meaning (bytes s) ≡ stated (sheet posts asks)
-      → ((old : List ℕ) → PrintsFound (systemFor (sixth team learn)) (startFor (sixth team learn)) old (length (bytes t)) (fitted old (bytes t))) → Holds (prints s t)
+      → ((old : List ℕ) → PrintsFound (systemIn (sixth team learn)) (startIn (sixth team learn)) old (length (bytes t)) (fitted old (bytes t))) → RowHolds (prints s t)
   sixth-prints s t m f = row-prints s t (stated (sheet posts asks)) m (λ old. (tables (p6 .rules), first 204, tables learn, team, 0, 0, asked, f old))
 
 -- `team 1 2`, `team 1`
@@ -144,30 +144,30 @@ meanings : (meaning (bytes p7-sheet) ≡ stated (sheet (0 ∷ []) []))
 unfolding isLetter isSign isStray isPast isAtom step verdict sentenceNumber foreignNumber formulaNumber sameRight concerns isStated knownSettings onto split begins among isSetting isPost isSize digitAt isRule ruleOf isFalse bare isName allNames indexOf indexes postWords isTeam teamOf settingWords isKnown knownBy knownOf twice unlessRefused sized withRule withTeam withKnown withMake withAsk sizeStep ruleStep teamStep knownStep makeStep askStep rightsStep lines firstLine meaning
 meanings = (refl, refl, refl)
 
-pub p6-prints : Holds (prints p6-sheet p6-printed)
+pub p6-prints : RowHolds (prints p6-sheet p6-printed)
 unfolding decimal
 p6-prints =
     sixth-prints 3 (0 ∷ 1 ∷ []) [] [] (shown-well p6 4 by-look p6-shown) both-posts refl p6-sheet p6-printed (sheets-computed .0)
     (tells-reach p6 4 by-look p6-shown (bytes p6-printed) refl)
 
-pub p7-prints : Holds (prints p7-sheet "cannot\n")
+pub p7-prints : RowHolds (prints p7-sheet "cannot\n")
 p7-prints = sixth-prints 1 (0 ∷ []) [] [] (caught-well p7 stuck p7-caught) one-post refl p7-sheet "cannot\n" (meanings .0) (tells-cannot p7 stuck p7-caught)
 
-pub p8a-prints : Holds (prints p8a-sheet "cannot\n")
+pub p8a-prints : RowHolds (prints p8a-sheet "cannot\n")
 p8a-prints =
     sixth-prints 3 (0 ∷ 1 ∷ []) (170 ∷ []) (bytes "a" ∷ []) (caught-well p8a unseen p8a-caught) both-posts (first 170, [], formulas .1, refl, refl) p8a-sheet "cannot\n" (meanings .1)
     (tells-cannot p8a unseen p8a-caught)
 
-pub p8c-prints : Holds (prints p8c-sheet p6-printed)
+pub p8c-prints : RowHolds (prints p8c-sheet p6-printed)
 unfolding decimal
 p8c-prints =
     sixth-prints 3 (0 ∷ 1 ∷ []) (240 ∷ []) (bytes "c" ∷ []) (shown-well p8c 4 by-look p8c-shown) both-posts (first 240, [], formulas .3, refl, refl) p8c-sheet p6-printed (meanings .2)
     (tells-reach p8c 4 by-look p8c-shown (bytes p6-printed) refl)
 
-pub nothing-prints : Holds (prints "" "refused 22 1\n")
+pub nothing-prints : RowHolds (prints "" "refused 22 1\n")
 unfolding decimal
 nothing-prints = row-prints "" "refused 22 1\n" (refused 22 1) (sheets-computed .1) (λ old. record { count = refl; room = refl })
 
-pub six-prints : Holds (prints "size 6 2\n" "refused 25 1\n")
+pub six-prints : RowHolds (prints "size 6 2\n" "refused 25 1\n")
 unfolding decimal
 six-prints = row-prints "size 6 2\n" "refused 25 1\n" (refused 25 1) (sheets-computed .3) (λ old. record { count = refl; room = refl })

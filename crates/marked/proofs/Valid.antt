@@ -25,7 +25,7 @@ use Rattle.book.proofs.RoundTrip.{written-sound}
 use Rattle.knowledge.specs.Goal.{learnTable}
 use Rattle.question.specs.Asks.{ValidQuestion}
 use Rattle.question.proofs.QuestionLaws.{bits-low}
-use Rattle.marked.specs.Row.{Case, bookFor, first, tables}
+use Rattle.marked.specs.Row.{Case, bookFor, goalFor, first, tables}
 
 -- no bit past 2^n
 pub within : ℕ → List ℕ → Bool
@@ -144,7 +144,7 @@ tested c h = record {
 }
 
 abbrev pub Valid : Case → Type 0
-Valid c = ValidQuestion (bookFor c) (c .asked) (first (c .make)) (tables (c .learn)) (c .n) (c .m)
+Valid c = ValidQuestion (bookFor c) (c .asked) (goalFor c) (c .n) (c .m)
 
 good-tables : (c : Case) → Well c → (i : ℕ) → i < c .n → Tables (c .n) (c .m) (tablesOf (tables (c .rules)) i)
 unfolding rights-fit
