@@ -3,19 +3,11 @@
 ghost use mathlib.Core.Path.{_≡_};
 ghost use Rattle.knowledge_acts.specs.Seven.{startTold, nowTold, afterSet, afterLook, firstDigit};
 
-// How many knowledge digits there are, 0 to 6; that there are as many settings is chance.
-const DIGITS: u8 = 7;
+// How many knowledge digits there are, 0 to 6. That there are as many settings is chance.
+const DIGITS: usize = 7;
 
 // The digit after a set: a row for each digit, a column for each value, false and true.
-const AFTER_SET: [[u8; 2]; DIGITS as usize] = [
-    [1, 2], // 0
-    [1, 2], // 1
-    [1, 2], // 2
-    [3, 4], // 3
-    [3, 4], // 4
-    [5, 6], // 5
-    [5, 6], // 6
-];
+const AFTER_SET: [[u8; 2]; DIGITS] = [[1, 2], [1, 2], [1, 2], [3, 4], [3, 4], [5, 6], [5, 6]];
 
 // What the digit tells of the value now.
 pub fn now_side(digit: u8) -> u8
@@ -24,7 +16,7 @@ pub fn now_side(digit: u8) -> u8
     if digit == 0 {
         return 0;
     }
-    if DIGITS <= digit {
+    if DIGITS <= digit as usize {
         return 0;
     }
     if digit % 2 == 1 {
@@ -43,7 +35,7 @@ pub fn start_side(digit: u8) -> u8
     if digit < 5 {
         return 1;
     }
-    if digit < DIGITS {
+    if (digit as usize) < DIGITS {
         return 2;
     }
     0
@@ -53,7 +45,7 @@ pub fn start_side(digit: u8) -> u8
 pub fn after_set(digit: u8, value: bool) -> u8
     ensures { λ r. ⌜ r ≡ afterSet digit value ⌝ }
 {
-    if DIGITS <= digit {
+    if DIGITS <= digit as usize {
         return 0;
     }
     let at = digit as usize;

@@ -1,4 +1,4 @@
--- "Acts, by a post of the team": which of them the team may do, by what it knows and the rules of a book. d i is the digit of setting i
+-- "Acts, by a post of the team": which of them the rules of a book permit, by what the team knows. d i is the digit of setting i
 -- (knowledge/specs/Fits).
 use mathlib.Core.Bool.{Bool, _&&_}
 use mathlib.Core.List.{List}
@@ -6,7 +6,6 @@ use Prim.Native.Nat.{ℕ}
 use lib.Dec.{eqb}
 use Rattle.book_block.specs.Rule.{rule}
 use Rattle.book_block.specs.declared.rule.Right.the-variants.{Look as look-rule, Set as set-rule}
-use Rattle.knowledge_acts.specs.Acts.{offered}
 use Rattle.knowledge_acts.specs.declared.act.Act.{Act}
 use Rattle.knowledge_acts.specs.declared.act.Act.the-variants.{Set, Look}
 use Rattle.knowledge.specs.Fits.{known}
@@ -16,7 +15,3 @@ use Rattle.knowledge.specs.Fits.{known}
 unfoldable pub permitted : ℕ → List ℕ → (ℕ → ℕ) → Act → Bool
 permitted n book d (Set i q b) = known n d (rule book i q set-rule)
 permitted n book d (Look i q) = known n d (rule book i q look-rule) && eqb (d i) 0
-
--- an act that the team may do where it knows the digits d
-unfoldable pub allowed : ℕ → List ℕ → ℕ → (ℕ → ℕ) → Act → Bool
-allowed n book team d a = offered n team a && permitted n book d a
