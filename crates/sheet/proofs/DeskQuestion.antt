@@ -9,15 +9,16 @@ use native.Mathlib.Omega.{arith}
 use lib.Dec.{lit<}
 use lib.ListN.{length, take, drop, length-append}
 use lib.Seq.{take-at}
+use Rattle.refusal.specs.declared.Refusal.{Refusal}
+use Rattle.refusal.proofs.OrderLaws.{first-clear}
 use Rattle.book.specs.Written.{bookOf, Writable}
-use Rattle.book.specs.Promise.{Writes}
+use Rattle.book.specs.Promise.{WritesBook}
 use Rattle.book.specs.declared.writing.WriteAnswer.{WriteAnswer}
 use Rattle.book.specs.declared.writing.WriteAnswer.the-variants.{Written as BookWritten}
-use Rattle.ground.proofs.OrderLaws.{first-clear}
 use Rattle.book.proofs.WriteLaws.{length-book}
 use Rattle.book_sound.proofs.Theorems.{sound-one}
 use Rattle.book.proofs.Theorems.{writes-one}
-use Rattle.plan.specs.Plans.{Lawful, Plan}
+use Rattle.plan.specs.Plans.{System, Lawful, Plan}
 use Rattle.plan.specs.Ranks.{Written}
 use Rattle.plan.specs.Bytes.{encode}
 use Rattle.plan.proofs.Size.{works-permitted}
@@ -25,104 +26,95 @@ use Rattle.plan.proofs.Written.{written-works}
 use Rattle.print_answer.specs.Listed.{Lettered}
 use Rattle.print_answer.proofs.Theorems.{permitted-lettered}
 use Rattle.print_answer.specs.Printed.{cannotText, reachText, Prints}
-use Rattle.question.specs.Question.{systemOf, startNumber}
-use Rattle.question.specs.Rows.{number, place}
+use Rattle.question.specs.Question.{systemOf, startOf}
 use Rattle.question.specs.Asks.{ValidQuestion}
-use Rattle.finder.specs.Finds.{Finds, findRows}
-use Rattle.finder.specs.Answers.{Answers}
-use Rattle.question.specs.declared.Question.{Question as Asking}
-use Rattle.question.specs.declared.Refusal.{Refusal}
-use Rattle.question.specs.declared.Refusal.the-variants.{Book, Team, Known, Goal, Ranks, PlanRoom}
+use Rattle.question.proofs.SystemLaws.{lawful}
+use Rattle.finder.specs.Finds.{Finds}
+use Rattle.finder.specs.Answers.{AnswersFrom}
 use Rattle.finder.specs.declared.answer.Answer.{Answer}
 use Rattle.finder.specs.declared.answer.Answer.the-variants.{Reach, Cannot, Refused}
-use Rattle.question.proofs.Unique.{lawful}
-use Rattle.finder.proofs.Unique.{find-clear}
+use Rattle.finder.proofs.FindLaws.{find-clear}
 use Rattle.sheet_reading.specs.declared.desk.Desk.{Desk}
-use Rattle.sheet.specs.Answer.{Question, PrintsFound}
-use Rattle.sheet.specs.Inner.{Whole, rightsIn, learnIn, bookIn, systemIn, startIn}
+use Rattle.sheet.specs.Answer.{SheetAsks, PrintsFound}
+use Rattle.sheet.specs.Inner.{Whole, rightsIn, bookIn, questionIn, goalIn}
 use Rattle.sheet.proofs.SheetQuestion.{asked-writable, asked-valid, asked-most}
 use Rattle.sheet.proofs.DeskRights.{rights-length, desk-question}
 
--- the masks on the desk
-abbrev pub asking : Desk → Asking
-asking d = record { team = d .team; known = d .known; values = d .values }
+-- the system of the question on the desk, and its start
+abbrev system : Desk → System
+system d = systemOf (d .rules .settings) (bookIn d) (questionIn d) (goalIn d)
+
+abbrev start : Desk → ℕ
+start d = startOf (questionIn d)
 
 module _ {d : Desk} (x : Whole d) where
   -- what holds of the sheet's question holds of the desk's
-  on-desk : (P : ℕ → ℕ → Type 0) → P (x .sheet .settings) (x .sheet .posts) → P (d .settings) (d .posts)
-  on-desk P h = subst₂ P (sym (x .holds .settings)) (sym (x .holds .posts)) h
+  on-desk : (P : ℕ → ℕ → Type 0) → P (x .sheet .size .settings) (x .sheet .size .posts) → P (d .rules .settings) (d .rules .posts)
+  on-desk P h = subst₂ P (sym (x .holds .rules .settings)) (sym (x .holds .rules .posts)) h
 
-  question : Question (x .sheet) (rightsIn d) (d .make) (learnIn d) (d .team) (d .known) (d .values)
+  question : SheetAsks (x .sheet) (rightsIn d) (questionIn d) (goalIn d)
   question = desk-question (x .holds) (x .well-formed)
 
-  desk-writable : Writable (d .settings) (d .posts) (rightsIn d)
+  desk-writable : Writable (d .rules .settings) (d .rules .posts) (rightsIn d)
   desk-writable = on-desk (λ n m. Writable n m (rightsIn d)) (asked-writable (x .well-formed) question)
 
-  desk-valid : ValidQuestion (bookIn d) (asking d) (d .make) (learnIn d) (d .settings) (d .posts)
+  desk-valid : ValidQuestion (bookIn d) (questionIn d) (goalIn d) (d .rules .settings) (d .rules .posts)
   unfolding bookIn
-  desk-valid = on-desk (λ n m. ValidQuestion (bookOf n m (rightsIn d)) (asking d) (d .make) (learnIn d) n m) (asked-valid (x .well-formed) question)
+  desk-valid = on-desk (λ n m. ValidQuestion (bookOf n m (rightsIn d)) (questionIn d) (goalIn d) n m) (asked-valid (x .well-formed) question)
 
-  desk-lawful : Lawful (d .settings) (systemIn d)
-  unfolding systemIn
+  desk-lawful : Lawful (d .rules .settings) (system d)
   desk-lawful = lawful desk-valid
 
-  few : d .settings ≤ 7
-  few = omega (arith, x .holds .settings-most)
+  few : d .rules .settings ≤ 7
+  few = omega (arith, x .holds .rules .settings-most)
 
-  plan-most : (p : Plan) → Written (systemIn d) (startIn d) p → length (encode p) ≤ 2016
-  unfolding systemIn bookIn
-  plan-most p t =
-      on-desk (λ n m. Written (systemOf n (bookOf n m (rightsIn d)) (d .team) (d .make) (learnIn d)) (startIn d) p → length (encode p) ≤ 2016)
-      (λ u. asked-most (x .well-formed) question (omega (arith, x .holds .settings, x .holds .settings-most)) (startIn d) p u .1) t
-
-  pub book-length : length (bookIn d) ≡ 512 * (1 + d .settings)
+  plan-most : (p : Plan) → Written (system d) (start d) p → length (encode p) ≤ 2016
   unfolding bookIn
-  book-length = length-book (d .settings) (d .posts) (rightsIn d) (rights-length (x .holds))
+  plan-most p t =
+      on-desk (λ n m. Written (systemOf n (bookOf n m (rightsIn d)) (questionIn d) (goalIn d)) (start d) p → length (encode p) ≤ 2016)
+      (λ u. asked-most (x .well-formed) question (omega (arith, x .holds .rules .settings, x .holds .rules .settings-most)) (start d) p u .1) t
+
+  pub book-length : length (bookIn d) ≡ 512 * (1 + d .rules .settings)
+  unfolding bookIn
+  book-length = length-book (d .rules .settings) (d .rules .posts) (rightsIn d) (rights-length (x .holds))
 
   -- the book is written, whatever the room held
-  pub desk-written : (room after : List ℕ) (a : WriteAnswer) → length room ≡ 3072 → Writes (d .settings) (d .posts) (rightsIn d) room a after
-      → take (512 * (1 + d .settings)) after ≡ bookIn d
+  pub desk-written : (room after : List ℕ) (a : WriteAnswer) → length room ≡ 3072 → WritesBook (d .rules .settings) (d .rules .posts) (rightsIn d) room a after
+      → take (512 * (1 + d .rules .settings)) after ≡ bookIn d
   unfolding bookIn
   desk-written room after a size wrote =
-      let book = bookOf (d .settings) (d .posts) (rightsIn d) in
-      let same = writes-one (d .settings) (d .posts) (rightsIn d) room a BookWritten after (book ++ drop (512 * (1 + d .settings)) room) wrote (desk-writable, omega (arith, x .holds .settings-most), refl) in
-      ap (take (512 * (1 + d .settings))) (same .1)
-      ∙ take-at book (drop (512 * (1 + d .settings)) room) (512 * (1 + d .settings)) book-length
+      let book = bookOf (d .rules .settings) (d .rules .posts) (rightsIn d) in
+      let same = writes-one (d .rules .settings) (d .rules .posts) (rightsIn d) room a BookWritten after (book ++ drop (512 * (1 + d .rules .settings)) room) wrote (desk-writable, omega (arith, x .holds .rules .settings-most), refl) in
+      ap (take (512 * (1 + d .rules .settings))) (same .1)
+      ∙ take-at book (drop (512 * (1 + d .rules .settings)) room) (512 * (1 + d .rules .settings)) book-length
 
   -- the finder answers
   pub desk-found : {book : List ℕ} (ranks plan : List ℕ) (a : Answer) (ranks′ plan′ : List ℕ) → book ≡ bookIn d → length ranks ≡ 16807
-      → Finds book (asking d) (d .make) (learnIn d) ranks plan a ranks′ plan′ → Answers (systemIn d) (startIn d) plan a plan′
-  unfolding systemIn startIn
-  desk-found {book} ranks plan a ranks′ plan′ e size f = by-case (subst (λ (b : List ℕ). Finds b (asking d) (d .make) (learnIn d) ranks plan a ranks′ plan′) e f)
+      → Finds book (questionIn d) (goalIn d) ranks plan a ranks′ plan′ → AnswersFrom (system d) (start d) plan a plan′
+  desk-found {book} ranks plan a ranks′ plan′ e size f = by-case (subst (λ (b : List ℕ). Finds b (questionIn d) (goalIn d) ranks plan a ranks′ plan′) e f)
     where
-      enough : 7 ^ d .settings ≤ length ranks
-      enough = omega (arith, pow-le-pow-right {n = 7} (lit< tt) {i = d .settings} {j = 5} (x .holds .settings-most))
+      enough : 7 ^ d .rules .settings ≤ length ranks
+      enough = omega (arith, pow-le-pow-right {n = 7} (lit< tt) {i = d .rules .settings} {j = 5} (x .holds .rules .settings-most))
 
-      by-case : Finds (bookIn d) (asking d) (d .make) (learnIn d) ranks plan a ranks′ plan′
-          → Answers (systemOf (d .settings) (bookIn d) (d .team) (d .make) (learnIn d)) (startNumber (d .known) (d .values)) plan a plan′
-      by-case (inl u) =
-          absurd (first-clear (findRows (bookIn d) (d .team) (d .known) (d .values) (d .make) (learnIn d) ranks) (number (u .why)) (place (u .why)) (u .first) (find-clear desk-valid ranks enough))
+      by-case : Finds (bookIn d) (questionIn d) (goalIn d) ranks plan a ranks′ plan′
+          → AnswersFrom (systemOf (d .rules .settings) (bookIn d) (questionIn d) (goalIn d)) (startOf (questionIn d)) plan a plan′
+      by-case (inl u) = first-clear (u .first) (find-clear desk-valid ranks enough)
       by-case (inr (n, m, v, l, r, s)) =
-          subst (λ (k : ℕ). Answers (systemOf k (bookIn d) (d .team) (d .make) (learnIn d)) (startNumber (d .known) (d .values)) plan a plan′)
+          subst (λ (k : ℕ). AnswersFrom (systemOf k (bookIn d) (questionIn d) (goalIn d)) (startOf (questionIn d)) plan a plan′)
           (sound-one (v .sound) (desk-valid .sound) .0) s
 
   -- what the finder answered, once its case is known
-  module _ (plan plan′ : List ℕ) (r : Answer) (answered : Answers (systemIn d) (startIn d) plan r plan′) where
-    refused-none : (why : Refusal) → length plan ≡ 2016 → Answers (systemIn d) (startIn d) plan (Refused why) plan′ → ⊥
-    refused-none (Book y) size a = a
-    refused-none Team size a = a
-    refused-none Known size a = a
-    refused-none Goal size a = a
-    refused-none Ranks size a = a
-    refused-none PlanRoom size a = omega (arith, a .0 .2, plan-most (a .0 .0) (a .0 .1))
+  module _ (plan plan′ : List ℕ) (r : Answer) (answered : AnswersFrom (system d) (start d) plan r plan′) where
+    refused-none : (why : Refusal) → length plan ≡ 2016 → AnswersFrom (system d) (start d) plan (Refused why) plan′ → ⊥
+    refused-none why size a = omega (arith, a .1 .2, plan-most (a .1 .0) (a .1 .1))
 
     -- nothing is refused
     pub never-refused : (why : Refusal) → r ≡ Refused why → length plan ≡ 2016 → ⊥
-    never-refused why e size = refused-none why size (subst (λ (x : Answer). Answers (systemIn d) (startIn d) plan x plan′) e answered)
+    never-refused why e size = refused-none why size (subst (λ (x : Answer). AnswersFrom (system d) (start d) plan x plan′) e answered)
 
     module _ {height size : ℕ} (e : r ≡ Reach height size) where
-      reached : Answers (systemIn d) (startIn d) plan (Reach height size) plan′
-      reached = subst (λ (x : Answer). Answers (systemIn d) (startIn d) plan x plan′) e answered
+      reached : AnswersFrom (system d) (start d) plan (Reach height size) plan′
+      reached = subst (λ (x : Answer). AnswersFrom (system d) (start d) plan x plan′) e answered
 
       tree : Plan
       tree = reached .1 .0
@@ -134,7 +126,7 @@ module _ {d : Desk} (x : Whole d) where
       lettered : Lettered tree
       unfolding tree
       lettered =
-          permitted-lettered desk-lawful few tree (startIn d) (works-permitted (systemIn d) tree (startIn d) (written-works (systemIn d) tree (startIn d) (reached .1 .1)))
+          permitted-lettered desk-lawful few tree (start d) (works-permitted (system d) tree (start d) (written-works (system d) tree (start d) (reached .1 .1)))
 
       pub plan-fits : size ≤ length plan′
       plan-fits = omega (arith, ap length (reached .1 .4), length-append (encode (reached .1 .0)) (drop size plan), reached .1 .2)
@@ -145,9 +137,9 @@ module _ {d : Desk} (x : Whole d) where
       plan-readable = ((tree, plan-bytes, lettered), omega (arith, ap length plan-bytes, plan-most tree (reached .1 .1)))
 
       pub plan-told : (old : List ℕ) (x : ℕ) (new : List ℕ) → ((p : Plan) → take size plan′ ≡ encode p → Lettered p → Prints old (reachText height p) x new)
-          → PrintsFound (systemIn d) (startIn d) old x new
+          → PrintsFound (system d) (start d) old x new
       unfolding tree
       plan-told old x new f = inl (height, tree, reached .0, reached .1 .1, f tree plan-bytes lettered)
 
-    pub cannot-told : (old : List ℕ) (x : ℕ) (new : List ℕ) → r ≡ Cannot → Prints old cannotText x new → PrintsFound (systemIn d) (startIn d) old x new
-    cannot-told old x new e f = inr (subst (λ (y : Answer). Answers (systemIn d) (startIn d) plan y plan′) e answered .0, f)
+    pub cannot-told : (old : List ℕ) (x : ℕ) (new : List ℕ) → r ≡ Cannot → Prints old cannotText x new → PrintsFound (system d) (start d) old x new
+    cannot-told old x new e f = inr (subst (λ (y : Answer). AnswersFrom (system d) (start d) plan y plan′) e answered .0, f)

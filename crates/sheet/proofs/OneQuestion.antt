@@ -1,6 +1,6 @@
 -- A sheet asks one question: its tables are those of its formulas, its masks have the bits that it names, and nothing is left open. Byte by byte and
 -- bit by bit. So one thing alone is printed for it.
-use mathlib.Core.Path.{_≡_, sym, ap, ap₂, _∙_, subst₂}
+use mathlib.Core.Path.{_≡_, sym, ap, _∙_, subst₂}
 use mathlib.Core.Logic.{inl, inr}
 use mathlib.Core.List.{List}
 use Prim.Native.Nat.{ℕ, _+_, _-_, _*_, _/_, _%_, _≤_, _<_}
@@ -11,7 +11,6 @@ use Rattle.ground.proofs.Bools.{lt-or-ge}
 use Rattle.ground.proofs.Search.{least-unique}
 use Rattle.book_block.specs.Rule.{tablePlace, table}
 use Rattle.book_sound.specs.Sound.{tablesOf}
-use Rattle.book.specs.Written.{bookOf}
 use Rattle.book_block.specs.declared.rule.Right.{Right}
 use Rattle.book_block.specs.declared.rule.Right.the-variants.{Look, Set}
 use Rattle.ground.proofs.Lists.{getD-part}
@@ -20,11 +19,13 @@ use Rattle.plan.specs.Plans.{System, Lawful, Plan}
 use Rattle.plan.proofs.Written.{written-works, written-unique}
 use Rattle.print_answer.specs.Printed.{reachText, Prints}
 use Rattle.print_answer.proofs.Theorems.{prints-unique}
-use Rattle.question.specs.Question.{systemOf, startNumber}
+use Rattle.knowledge.specs.Goal.{Goal, goalOf}
+use Rattle.question.specs.Question.{systemOf, startOf}
+use Rattle.question.specs.declared.Question.{Question}
 use Rattle.sheet_words.proofs.Unique.{mask-one}
 use Rattle.sheet_reading.specs.Sheet.{Sheet}
 use Rattle.sheet_reading.proofs.Unique.{table-one, tables-one}
-use Rattle.sheet.specs.Answer.{Question, PrintsFound}
+use Rattle.sheet.specs.Answer.{SheetAsks, sheetBook, PrintsFound}
 
 -- ---- rights
 
@@ -59,25 +60,40 @@ module _ (rights others : List ℕ) (n : ℕ) (size : length rights ≡ 256 * n)
 
 -- ---- the question
 
-module _ {sheet : Sheet} {R R′ make make′ learn learn′ : List ℕ} {team team′ known known′ values values′ : ℕ}
-    (a : Question sheet R make learn team known values) (b : Question sheet R′ make′ learn′ team′ known′ values′) where
-  same-table : (right : Right) (i q : ℕ) → i < sheet .settings → q < 8 → table (tablesOf R i) q right ≡ table (tablesOf R′ i) q right
-  same-table right i q hi hq = elim (lt-or-ge q (sheet .posts)) [
-    | inl l ↦ table-one (a .rules right i q hi l) (b .rules right i q hi l)
-    | inr l ↦ a .nobody right i q hi l hq ∙ sym (b .nobody right i q hi l hq)
+module _ {sheet : Sheet} {R R′ : List ℕ} {q q′ : Question} {goal goal′ : Goal} (a : SheetAsks sheet R q goal) (b : SheetAsks sheet R′ q′ goal′) where
+  same-table : (right : Right) (i p : ℕ) → i < sheet .size .settings → p < 8 → table (tablesOf R i) p right ≡ table (tablesOf R′ i) p right
+  same-table right i p hi hp = elim (lt-or-ge p (sheet .size .posts)) [
+    | inl l ↦ table-one (a .rules right i p hi l) (b .rules right i p hi l)
+    | inr l ↦ a .nobody right i p hi l hp ∙ sym (b .nobody right i p hi l hp)
   ]
 
-  pub same-system : systemOf (sheet .settings) (bookOf (sheet .settings) (sheet .posts) R) team make learn ≡ systemOf (sheet .settings) (bookOf (sheet .settings) (sheet .posts) R′) team′ make′ learn′
+  same-rights : R ≡ R′
+  same-rights = rights-one R R′ (sheet .size .settings) (a .size) (b .size) same-table
+
+  same-goal : goal ≡ goal′
+  same-goal =
+      let m : goal .make ≡ goal′ .make = table-one (a .made) (b .made) in
+      let l : goal .learn ≡ goal′ .learn = tables-one (sheet .size .settings) (sheet .asked .asks) (goal .learn) (goal′ .learn) (a .learnt) (b .learnt) in
+      let e : goalOf (goal .make) (goal .learn) ≡ goalOf (goal′ .make) (goal′ .learn) = cc in
+      e
+
+  same-question : q ≡ q′
+  same-question =
+      let t : q .team ≡ q′ .team = mask-one (q .team) (q′ .team) (λ p. a .posts p ∙ sym (b .posts p)) in
+      let k : q .known ≡ q′ .known = mask-one (q .known) (q′ .known) (λ i. a .settings-known i ∙ sym (b .settings-known i)) in
+      let v : q .values ≡ q′ .values = mask-one (q .values) (q′ .values) (λ i. a .settings-true i ∙ sym (b .settings-true i)) in
+      let e : _≡_ {A = Question} (record { team = q .team; known = q .known; values = q .values }) (record { team = q′ .team; known = q′ .known; values = q′ .values }) = cc in
+      e
+
+  pub same-system : systemOf (sheet .size .settings) (sheetBook sheet R) q goal ≡ systemOf (sheet .size .settings) (sheetBook sheet R′) q′ goal′
   same-system =
-      let r : R ≡ R′ = rights-one R R′ (sheet .settings) (a .size) (b .size) same-table in
-      let m : make ≡ make′ = table-one (a .made) (b .made) in
-      let l : learn ≡ learn′ = tables-one (sheet .settings) (sheet .asks) learn learn′ (a .learnt) (b .learnt) in
-      let t : team ≡ team′ = mask-one team team′ (λ q. a .posts q ∙ sym (b .posts q)) in
+      let r : R ≡ R′ = same-rights in
+      let p : q ≡ q′ = same-question in
+      let g : goal ≡ goal′ = same-goal in
       cc
 
-  pub same-start : startNumber known values ≡ startNumber known′ values′
-  same-start =
-      ap₂ startNumber (mask-one known known′ (λ i. a .settings-known i ∙ sym (b .settings-known i))) (mask-one values values′ (λ i. a .settings-true i ∙ sym (b .settings-true i)))
+  pub same-start : startOf q ≡ startOf q′
+  same-start = ap startOf same-question
 
 -- ---- its answer
 

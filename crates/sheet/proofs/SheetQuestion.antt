@@ -18,7 +18,7 @@ use Rattle.ground.proofs.Bits.{bit-of-zero}
 use Rattle.book_block.specs.Kinds.{Zeros}
 use Rattle.book_block.specs.Rule.{table}
 use Rattle.book_sound.specs.Sound.{tablesOf}
-use Rattle.book.specs.Written.{bookOf, Writable}
+use Rattle.book.specs.Written.{Writable}
 use Rattle.book_block.specs.declared.rule.Right.{Right}
 use Rattle.book.proofs.RoundTrip.{written-sound}
 use Rattle.plan.specs.Plans.{System, Lawful, Plan, height}
@@ -29,17 +29,18 @@ use Rattle.plan.proofs.Unknowns.{unknowns-le}
 use Rattle.plan.proofs.Ranks.{has-rank, rank-reach, rank-most}
 use Rattle.plan.proofs.Written.{written-works, written-height}
 use Rattle.plan.proofs.Accepted.{written-size}
-use Rattle.knowledge.specs.Goal.{learnTable}
+use Rattle.knowledge.specs.Goal.{Goal, learnTable}
 use Rattle.question.specs.Question.{systemOf}
 use Rattle.question.specs.Rows.{TeamFits, KnownFits, GoalFits}
 use Rattle.question.specs.Asks.{ValidQuestion}
-use Rattle.question.proofs.Unique.{lawful}
+use Rattle.question.specs.declared.Question.{Question}
+use Rattle.question.proofs.SystemLaws.{lawful}
 use Rattle.sheet_words.specs.Words.{member}
 use Rattle.sheet_reading.specs.Sheet.{Known, Sheet, knownSettings, knownTrue}
 use Rattle.sheet_reading.specs.Desk.{TablesOf}
 use Rattle.sheet_reading.proofs.HoldLaws.{zero-at, zero-truth}
 use Rattle.sheet_reading.specs.Grammar.{PostsFit, KnownFit, WellFormed}
-use Rattle.sheet.specs.Answer.{Question}
+use Rattle.sheet.specs.Answer.{SheetAsks, sheetBook}
 
 -- ---- what is named
 
@@ -97,67 +98,69 @@ tables-within n (F ∷ Fs) t (suc j) (a, b, x, y, e) l =
 
 -- ---- the question
 
-module _ {sheet : Sheet} {rights make learn : List ℕ} {team known values : ℕ} (w : WellFormed sheet) (q : Question sheet rights make learn team known values) where
-  asked-team : TeamFits (sheet .posts) team
+module _ {sheet : Sheet} {rights : List ℕ} {q : Question} {goal : Goal} (w : WellFormed sheet) (a : SheetAsks sheet rights q goal) where
+  asked-team : TeamFits (sheet .size .posts) (q .team)
   asked-team = record {
     someone = λ e.
-        let x = someone-named (sheet .team) (w .someone) in
-        both (bit team (x .0)) (subst T (sym (q .posts (x .0))) (x .1)) (false→T (ap (λ (t : ℕ). bit t (x .0)) e ∙ bit-of-zero (x .0)));
-    posts = λ p t. post-below (sheet .posts) (sheet .team) p (w .team) (subst T (q .posts p) t);
+        let x = someone-named (sheet .asked .team) (w .well-asked .someone) in
+        both (bit (q .team) (x .0)) (subst T (sym (a .posts (x .0))) (x .1)) (false→T (ap (λ (t : ℕ). bit t (x .0)) e ∙ bit-of-zero (x .0)));
+    posts = λ p t. post-below (sheet .size .posts) (sheet .asked .team) p (w .well-asked .team) (subst T (a .posts p) t);
   }
 
-  asked-known : KnownFits (sheet .settings) known values
+  asked-known : KnownFits (sheet .size .settings) (q .known) (q .values)
   asked-known = record {
-    settings = λ i t. setting-below (sheet .settings) (sheet .known) i (w .known) (subst T (q .settings-known i) t);
-    valued = λ i t. subst T (sym (q .settings-known i)) (true-known (sheet .known) i (subst T (q .settings-true i) t));
+    settings = λ i t. setting-below (sheet .size .settings) (sheet .asked .known) i (w .well-asked .known) (subst T (a .settings-known i) t);
+    valued = λ i t. subst T (sym (a .settings-known i)) (true-known (sheet .asked .known) i (subst T (a .settings-true i) t));
   }
 
-  asked-goal : GoalFits (sheet .settings) make learn
+  asked-goal : GoalFits (sheet .size .settings) goal
   asked-goal =
-      let size : length learn ≡ 16 * length (sheet .asks) = tables-length (sheet .settings) (sheet .asks) learn (q .learnt) in
+      let Fs = sheet .asked .asks in
+      let size : length (goal .learn) ≡ 16 * length Fs = tables-length (sheet .size .settings) Fs (goal .learn) (a .learnt) in
       record {
-        make-bytes = q .made .table .sixteen;
-        learn-bytes = omega arith;
-        learn-most = omega (arith, w .asks-most);
-        make-within = q .made .table .within;
-        learn-within = λ j l. tables-within (sheet .settings) (sheet .asks) learn j (q .learnt) (omega arith);
+        make-bytes = a .made .table .sixteen;
+        learn-bytes = omega (arith, size);
+        learn-most = omega (arith, size, w .well-asked .asks-most);
+        make-within = a .made .table .within;
+        learn-within = λ j l. tables-within (sheet .size .settings) Fs (goal .learn) j (a .learnt) (omega (arith, size, l));
       }
 
-  asked-within : (right : Right) (i p : ℕ) → i < sheet .settings → p < 8 → Within (sheet .settings) (table (tablesOf rights i) p right)
+  asked-within : (right : Right) (i p : ℕ) → i < sheet .size .settings → p < 8 → Within (sheet .size .settings) (table (tablesOf rights i) p right)
   unfolding Within
-  asked-within right i p hi hp = elim (lt-or-ge p (sheet .posts)) [
-    | inl l ↦ q .rules right i p hi l .table .within
-    | inr l ↦ (λ v m h. ap (λ (t : List ℕ). truth t v) (q .nobody right i p hi l hp) ∙ zero-truth v)
+  asked-within right i p hi hp = elim (lt-or-ge p (sheet .size .posts)) [
+    | inl l ↦ a .rules right i p hi l .table .within
+    | inr l ↦ (λ v m h. ap (λ (t : List ℕ). truth t v) (a .nobody right i p hi l hp) ∙ zero-truth v)
   ]
 
-  pub asked-writable : Writable (sheet .settings) (sheet .posts) rights
+  pub asked-writable : Writable (sheet .size .settings) (sheet .size .posts) rights
   unfolding Zeros
   asked-writable = record {
-    settings = record { least = w .settings-least; most = w .settings-most };
-    posts = record { least = w .posts-least; most = w .posts-most };
-    size = q .size;
+    settings = record { least = w .ruled .settings-least; most = w .ruled .settings-most };
+    posts = record { least = w .ruled .posts-least; most = w .ruled .posts-most };
+    size = a .size;
     tables = λ i hi. record {
-      nobody = λ p right l hp j from to. ap (λ (t : List ℕ). getD t j 0) (q .nobody right i p hi l hp) ∙ zero-at 16 j;
+      nobody = λ p right l hp j from to. ap (λ (t : List ℕ). getD t j 0) (a .nobody right i p hi l hp) ∙ zero-at 16 j;
       within = λ p right hp. asked-within right i p hi hp;
     };
   }
 
-  pub asked-valid : ValidQuestion (bookOf (sheet .settings) (sheet .posts) rights) (record { team = team; known = known; values = values }) make learn (sheet .settings) (sheet .posts)
+  pub asked-valid : ValidQuestion (sheetBook sheet rights) q goal (sheet .size .settings) (sheet .size .posts)
   asked-valid = record { sound = written-sound asked-writable; team = asked-team; known = asked-known; goal = asked-goal }
 
-  pub asked-lawful : Lawful (sheet .settings) (systemOf (sheet .settings) (bookOf (sheet .settings) (sheet .posts) rights) team make learn)
+  pub asked-lawful : Lawful (sheet .size .settings) (systemOf (sheet .size .settings) (sheetBook sheet rights) q goal)
   asked-lawful = lawful asked-valid
 
   -- of up to 5 settings: at most 62 acts on a branch, 2^5 branches of those and a stop
-  pub asked-most : sheet .settings ≤ 5 → (k : ℕ) (p : Plan) → Written (systemOf (sheet .settings) (bookOf (sheet .settings) (sheet .posts) rights) team make learn) k p
+  pub asked-most : sheet .size .settings ≤ 5 → (k : ℕ) (p : Plan) → Written (systemOf (sheet .size .settings) (sheetBook sheet rights) q goal) k p
       → (height p ≤ 62) × (length (encode p) ≤ 2016)
   asked-most five k p x =
-      let n : ℕ = sheet .settings in
-      let S : System = systemOf (sheet .settings) (bookOf (sheet .settings) (sheet .posts) rights) team make learn in
+      let n : ℕ = sheet .size .settings in
+      let S : System = systemOf n (sheetBook sheet rights) q goal in
+      let few = w .ruled .settings-most in
       let r = has-rank asked-lawful k in
-      let low : r .0 < 255 = rank-reach asked-lawful k (r .0) (w .settings-most) (r .1) .1 (p, written-works S p k x) in
+      let low : r .0 < 255 = rank-reach asked-lawful k (r .0) few (r .1) .1 (p, written-works S p k x) in
       let most : r .0 ≤ 62 = omega (arith, rank-most asked-lawful k (r .0) (r .1) (λ e. omega arith), pow-mono {i = suc n} {j = 6} (omega arith)) in (
         omega (arith, written-height S p k (r .0) x (r .1)),
-        le-trans (written-size asked-lawful (w .settings-most) k p (r .0) x (r .1))
+        le-trans (written-size asked-lawful few k p (r .0) x (r .1))
             (mul-le-mul {n₁ = 2 ^ unknowns n k} {m₁ = suc (r .0)} {n₂ = 32} {m₂ = 63} (pow-mono {i = unknowns n k} {j = 5} (omega (arith, unknowns-le n k))) (omega arith)),
       )

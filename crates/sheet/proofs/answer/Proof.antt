@@ -1,4 +1,6 @@
 -- `answer` meets its contract: a refusal is printed as it was read, and a whole sheet is asked.
+use mathlib.Core.Path.{ap}
+use Rattle.refusal.specs.declared.Numbers.{Numbers}
 use Rattle.sheet.proofs.AnswerLaws.{stated-whole, stated-answers, refused-answers}
 use borrow.Author.Needs.{needs}
 use Rattle.sheet.proofs.answer.Statement.{statement}
@@ -10,8 +12,8 @@ read-requires c κs = search needs
 enum-known-told : tie.Need-enum-known-told
 enum-known-told c = search needs
 
-number-requires : tie.Need-number-requires
-number-requires c κs = search needs
+numbers-requires : tie.Need-numbers-requires
+numbers-requires c κs = search needs
 
 refused-requires : tie.Need-refused-requires
 refused-requires c κs = search needs
@@ -20,19 +22,38 @@ enum-told : tie.Need-enum-told
 enum-told c = search needs
 
 ask-requires : tie.Need-ask-requires
-ask-requires c κs = stated-whole (c .before .before .before .before .before .before .before .args .sheet .now) (c .before .before .before .before .read .result .desk) (c .before .before .before .before .read .ensures) (c .before .enum-told .given .1)
+ask-requires c κs =
+    let read-point : tie.After-read = search in
+    let start : tie.Start = search in
+    let enum-told-point : tie.After-enum-told = search in
+    let read = read-point .read in
+    stated-whole (start .args .sheet .now) (read .result .desk) (read .ensures) (enum-told-point .enum-told .given .1)
 
 same-length : tie.Need-same-length
 same-length c = search needs
 
 returns : tie.Need-returns
-returns c = refused-answers (c .before .before .before .before .before .before .before .before .before .before .before .before .args .sheet .now) (c .before .before .before .before .before .before .before .before .before .read .result .desk) (c .before .before .before .before .before .before .before .before .before .read .ensures) _ _ _ _ _ _ (c .before .before .before .before .before .before .told .given .1) (c .before .before .before .before .number .ensures) (c .before .before .refused .ensures)
+returns c =
+    let read-point : tie.After-read = search in
+    let start : tie.Start = search in
+    let told-point : tie.After-told = search in
+    let numbers-point : tie.After-numbers = search in
+    let refused-point : tie.After-refused = search in
+    let read = read-point .read in
+    refused-answers (start .args .sheet .now) (read .result .desk) (read .ensures) _ _ _ _ _ _ (told-point .told .given .1)
+    (ap (λ (n : Numbers). n .number) (numbers-point .numbers .ensures)) (refused-point .refused .ensures)
 
 same-length-2 : tie.Need-same-length-2
 same-length-2 c = search needs
 
 returns-2 : tie.Need-returns-2
-returns-2 c = stated-answers (c .before .before .before .before .before .before .before .before .before .before .args .sheet .now) (c .before .before .before .before .before .before .before .read .result .desk) (c .before .before .before .before .before .before .before .read .ensures) _ _ _ (c .before .before .before .before .enum-told .given .1) (c .before .before .ask .ensures)
+returns-2 c =
+    let read-point : tie.After-read = search in
+    let start : tie.Start = search in
+    let enum-told-point : tie.After-enum-told = search in
+    let ask-point : tie.After-ask = search in
+    let read = read-point .read in
+    stated-answers (start .args .sheet .now) (read .result .desk) (read .ensures) _ _ _ (enum-told-point .enum-told .given .1) (ask-point .ask .ensures)
 
 pub answer-spec : {M : Type 1} → statement M
 answer-spec =
@@ -40,7 +61,7 @@ answer-spec =
     (tie.spec
     read-requires
     enum-known-told
-    number-requires
+    numbers-requires
     refused-requires
     enum-told
     ask-requires

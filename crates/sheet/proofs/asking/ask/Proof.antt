@@ -18,13 +18,25 @@ enum-known-height : tie.Need-enum-known-height
 enum-known-height c = search needs
 
 array-share-prefix-plan : tie.Need-array-share-prefix-plan
-array-share-prefix-plan c = plan-fits (c .before .before .before .before .before .before .before .pre) _ _ _ (c .before .before .before .before .find .ensures) (c .before .height .given .1)
+array-share-prefix-plan c =
+    let start : tie.Start = search in
+    let find-point : tie.After-find = search in
+    let height-point : tie.After-height = search in
+    plan-fits (start .pre) _ _ _ (find-point .find .ensures) (height-point .height .given .1)
 
 slice-aggregate-reach : tie.Need-slice-aggregate-reach
-slice-aggregate-reach c = sym (length-take-le _ _ (plan-fits (c .before .before .before .before .before .before .before .before .pre) _ _ _ (c .before .before .before .before .before .find .ensures) (c .before .before .height .given .1)))
+slice-aggregate-reach c =
+    let start : tie.Start = search in
+    let find-point : tie.After-find = search in
+    let height-point : tie.After-height = search in
+    sym (length-take-le _ _ (plan-fits (start .pre) _ _ _ (find-point .find .ensures) (height-point .height .given .1)))
 
 reach-requires : tie.Need-reach-requires
-reach-requires c κs = plan-readable (c .before .before .before .before .before .before .before .before .before .pre) _ _ _ (c .before .before .before .before .before .before .find .ensures) (c .before .before .before .height .given .1)
+reach-requires c κs =
+    let start : tie.Start = search in
+    let find-point : tie.After-find = search in
+    let height-point : tie.After-height = search in
+    plan-readable (start .pre) _ _ _ (find-point .find .ensures) (height-point .height .given .1)
 
 enum-told : tie.Need-enum-told
 enum-told c = search needs
@@ -39,16 +51,30 @@ same-length : tie.Need-same-length
 same-length c = search needs
 
 returns : tie.Need-returns
-returns c = plan-told (c .before .before .before .before .before .before .before .before .before .before .before .before .pre) _ _ _ (c .before .before .before .before .before .before .before .before .before .find .ensures) (c .before .before .before .before .before .before .height .given .1) _ _ _ (c .before .before .reach .ensures)
+returns c =
+    let start : tie.Start = search in
+    let find-point : tie.After-find = search in
+    let height-point : tie.After-height = search in
+    let reach-point : tie.After-reach = search in
+    plan-told (start .pre) _ _ _ (find-point .find .ensures) (height-point .height .given .1) _ _ _ (reach-point .reach .ensures)
 
 same-length-2 : tie.Need-same-length-2
 same-length-2 c = search needs
 
 returns-2 : tie.Need-returns-2
-returns-2 c = cannot-told (c .before .before .before .before .before .before .before .before .before .before .pre) _ _ _ (c .before .before .before .before .before .before .before .find .ensures) _ _ _ (c .before .before .before .before .enum-told .given .1) (c .before .before .cannot .ensures)
+returns-2 c =
+    let start : tie.Start = search in
+    let find-point : tie.After-find = search in
+    let enum-told-point : tie.After-enum-told = search in
+    let cannot-point : tie.After-cannot = search in
+    cannot-told (start .pre) _ _ _ (find-point .find .ensures) _ _ _ (enum-told-point .enum-told .given .1) (cannot-point .cannot .ensures)
 
 returns-3 : tie.Need-returns-3
-returns-3 c = absurd (never-refused (c .before .before .before .before .before .before .pre) _ _ _ (c .before .before .before .find .ensures) (c .enum-told2 .given .0 .0) (c .enum-told2 .given .1) (length-replicate {A = ℕ} 2016 0))
+returns-3 c =
+    let start : tie.Start = search in
+    let find-point : tie.After-find = search in
+    let why = c .enum-told2 .given in
+    absurd (never-refused (start .pre) _ _ _ (find-point .find .ensures) (why .0 .0) (why .1) (length-replicate {A = ℕ} 2016 0))
 
 pub ask-spec : {M : Type 1} → statement M
 ask-spec =

@@ -25,17 +25,20 @@ add-blocks c = search needs
 mul-blocks : tie.Need-mul-blocks
 mul-blocks c = search needs
 
-cast-asked : tie.Need-cast-asked
-cast-asked c = search needs
+cast-learnt : tie.Need-cast-learnt
+cast-learnt c = search needs
 
-mul-asked : tie.Need-mul-asked
-mul-asked c = search needs
+mul-learnt : tie.Need-mul-learnt
+mul-learnt c = search needs
 
 array-share-prefix-book : tie.Need-array-share-prefix-book
 array-share-prefix-book c = search needs
 
 slice-aggregate-find : tie.Need-slice-aggregate-find
-slice-aggregate-find c = sym (ap length (c .before .before .before .before .before .before .write-book .ensures) ∙ book-length (c .before .before .before .before .before .before .before .before .before .pre))
+slice-aggregate-find c =
+    let write-book-point : tie.After-write-book = search in
+    let start : tie.Start = search in
+    sym (ap length (write-book-point .write-book .ensures) ∙ book-length (start .pre))
 
 slice-aggregate-find-2 : tie.Need-slice-aggregate-find-2
 slice-aggregate-find-2 c = search needs
@@ -44,7 +47,10 @@ array-share-prefix-learn : tie.Need-array-share-prefix-learn
 array-share-prefix-learn c = search needs
 
 slice-aggregate-find-3 : tie.Need-slice-aggregate-find-3
-slice-aggregate-find-3 c = sym (length-take-le _ _ (omega (arith, c .before .before .before .before .before .before .before .before .before .before .before .pre .holds .learn-size, c .before .before .before .before .before .before .before .before .before .before .before .pre .holds .asks-most)))
+slice-aggregate-find-3 c =
+    let start : tie.Start = search in
+    let asked = start .pre .holds .asked in
+    sym (length-take-le _ _ (omega (arith, asked .learn-size, asked .asks-most)))
 
 slice-aggregate-find-4 : tie.Need-slice-aggregate-find-4
 slice-aggregate-find-4 c = search needs
@@ -57,7 +63,11 @@ same-length c = search needs
 
 returns : tie.Need-returns
 unfolding learnIn
-returns c = desk-found (c .before .before .before .before .before .before .before .before .before .before .before .before .before .before .before .before .before .pre) _ _ _ _ _ (c .before .before .before .before .before .before .before .before .before .before .before .before .before .before .write-book .ensures) (length-replicate {A = ℕ} 16807 0) (c .before .before .before .find .ensures)
+returns c =
+    let start : tie.Start = search in
+    let write-book-point : tie.After-write-book = search in
+    let find-point : tie.After-find = search in
+    desk-found (start .pre) _ _ _ _ _ (write-book-point .write-book .ensures) (length-replicate {A = ℕ} 16807 0) (find-point .find .ensures)
 
 pub find-spec : {M : Type 1} → statement M
 find-spec =
@@ -68,8 +78,8 @@ find-spec =
     cast-blocks
     add-blocks
     mul-blocks
-    cast-asked
-    mul-asked
+    cast-learnt
+    mul-learnt
     array-share-prefix-book
     slice-aggregate-find
     slice-aggregate-find-2

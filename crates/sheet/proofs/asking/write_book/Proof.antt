@@ -21,7 +21,9 @@ array-share-prefix-rights c = search needs
 
 slice-aggregate-write : tie.Need-slice-aggregate-write
 unfolding rightsIn
-slice-aggregate-write c = sym (rights-length (c .before .before .before .before .before .pre .0 .holds))
+slice-aggregate-write c =
+    let start : tie.Start = search in
+    sym (rights-length (start .pre .0 .holds))
 
 write-requires : tie.Need-write-requires
 write-requires c κs = search needs
@@ -31,7 +33,11 @@ same-length c = search needs
 
 returns : tie.Need-returns
 unfolding rightsIn
-returns c = desk-written (c .before .before .before .before .before .before .before .before .before .pre .0) (c .before .before .before .before .before .before .before .before .before .args .book .now) _ (c .before .before .write .result) (c .before .before .before .before .before .before .before .before .before .pre .1) (c .before .before .write .ensures)
+returns c =
+    let write-point : tie.After-write = search in
+    let start : tie.Start = search in
+    let write = write-point .write in
+    desk-written (start .pre .0) (start .args .book .now) _ (write .result) (start .pre .1) (write .ensures)
 
 pub write-book-spec : {M : Type 1} → statement M
 write-book-spec =
