@@ -7,7 +7,15 @@ ghost use Rattle.knowledge_acts.specs.Seven.{startTold, nowTold, afterSe
 const DIGITS: usize = 7;
 
 // The digit after a set: a row for each digit, a column for each value, false and true.
-const AFTER_SET: [[u8; 2]; DIGITS] = [[1, 2], [1, 2], [1, 2], [3, 4], [3, 4], [5, 6], [5, 6]];
+const AFTER_SET: [[u8; 2]; DIGITS] = [
+    [1, 2], // 0
+    [1, 2], // 1
+    [1, 2], // 2
+    [3, 4], // 3
+    [3, 4], // 4
+    [5, 6], // 5
+    [5, 6], // 6
+];
 
 // What the digit tells of the value now.
 pub fn now_side(digit: u8) -> u8
