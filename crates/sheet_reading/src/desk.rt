@@ -1,15 +1,13 @@
 // The desk: what a sheet has stated so far, by value, with the formulas as their tables.
 use crate::ASKS_MOST;
 use crate::SHEET_SETTINGS_MOST;
+use book_block::TABLES;
 use ground::TABLE;
 use refusal::Refusal;
 ghost use mathlib.Core.Path.{_≡_};
 ghost use Prim.Native.Nat.{_≤_};
 ghost use Rattle.sheet_reading.specs.Steps.{sized};
 ghost use Rattle.sheet_reading.specs.Desk.{OnDesk};
-
-// The bytes of a setting's tables in memory: two tables for each of 8 posts.
-pub(crate) const TABLES: usize = 2 * ground::POSTS_MOST * TABLE;
 
 // The bytes of all rights, how many rights there are, and the bytes of all formulas to learn.
 pub(crate) const RIGHTS: usize = SHEET_SETTINGS_MOST * TABLES;

@@ -1,11 +1,11 @@
 // The lines that state a right, `read P G F` and `write P G F`.
 use crate::desk::Desk;
-use crate::desk::TABLES;
 use crate::desk::Turn;
 use crate::desk::at_fault;
 use crate::formulas::Place;
 use crate::formulas::formula_line;
 use book_block::Right;
+use book_block::TABLES;
 use book_block::table_at;
 use ground::TABLE;
 use ground::peek;
