@@ -90,6 +90,12 @@ module _ {n : ℕ} {sets′ looks : List (List ℕ)} {ranks : List ℕ} where
     pub stop-plan : (S : System) → TablesTell n sets′ looks ranks S → Chooses S ranks k Stop → Written S k stop
     stop-plan S t none = stop-rank t (from .state) (from .finite) none
 
+-- a state after the act, by the number that code computed: its entry is below t, the one at k
+pub next-here : {n : ℕ} {sets′ looks : List (List ℕ)} {ranks : List ℕ} {k x y t : ℕ} → Ranked n sets′ looks ranks k → x ≡ y → getD ranks k 0 ≡ t
+    → Ranked n sets′ looks ranks y × (getD ranks y 0 < getD ranks k 0) → (getD ranks x 0 < t) × Ranked n sets′ looks ranks x
+next-here {n} {sets′} {looks} {ranks} {t = t} from e here next =
+    (subst (λ (z : ℕ). getD ranks z 0 < t) (sym e) (omega (arith, here, next .1)), subst (Ranked n sets′ looks ranks) (sym e) (next .0))
+
 -- a plan that was written from each state after the act, and its bytes
 module _ {n : ℕ} {sets′ looks : List (List ℕ)} {ranks : List ℕ} {k : ℕ} where
   pub set-plan : {i q : ℕ} {b : Bool} {x r : ℕ} → ((S : System) → TablesTell n sets′ looks ranks S → Chosen S k (Set i q b)) → x ≡ setTo k i b

@@ -1,18 +1,18 @@
 -- `write` meets its contract: the step's byte, then what follows it; each step leads to a lower entry of the rank table, which is the measure.
 use borrow.Author.Needs.{needs}
-use mathlib.Core.Path.{refl, sym, ap, _∙_, subst}
+use mathlib.Core.Path.{_≡_, refl, sym, ap, _∙_, subst}
 use mathlib.Core.Bool.{false, true}
-use Prim.Native.Nat.{_+_}
 use native.Mathlib.Omega.{arith}
-use lib.ListN.{length, getD, length-set}
-use Rattle.knowledge_acts.specs.Acts.{planByte}
+use lib.ListN.{length, getD, set, length-set}
+use Rattle.knowledge_acts.specs.Acts.{byteOf, planByte}
 use Rattle.knowledge_acts.specs.declared.act.Act.the-variants.{Set, Look}
-use Rattle.plan.specs.Plans.{stop}
-use Rattle.finder.specs.Tables.{Chooses, Ranked, PlanFits}
+use Rattle.plan.specs.Plans.{System, stop}
+use Rattle.plan.specs.Ranks.{Chosen}
+use Rattle.finder.specs.Tables.{TablesTell, Chooses, PlanFits}
 use Rattle.finder.specs.declared.steps.Step.the-variants.{Do}
 use Rattle.finder.proofs.StepLaws.{number-small}
-use Rattle.finder.proofs.PlanLaws.{next-set, next-look, step-setting, step-byte, stop-plan, room-here, room-set, set-written, room-false, room-true, look-written}
-use Prim.Native.Nat.{ℕ, _<_}
+use Rattle.finder.proofs.PlanLaws.{next-set, next-look, next-here, step-setting, step-byte, stop-plan, room-here, room-set, set-written, room-false, room-true, look-written}
+use Prim.Native.Nat.{ℕ, _+_, _^_, _<_}
 use borrow.Fn.Kinds.{In}
 use borrow.Fn.PlainCycle.{Measures, is, falls, and}
 use Rattle.finder.proofs.written.write.Reads as write
@@ -36,19 +36,98 @@ write-below t = and 4 write-kinds.ps (falls 4 write-kinds.ps _<_ μ-write t) wri
 
 -- what write may use of those that it calls
 abbrev write-claims : ℕ → write-lts.Claims
-write-claims t = (choose-reads.Asked, choose-reads.Learnt, byte-reads.Asked, byte-reads.Learnt, set-to-reads.Asked, set-to-reads.Learnt, write-below t, write.Post, look-at-reads.Asked, look-at-reads.Learnt)
+write-claims t = (
+  choose-reads.Asked,
+  choose-reads.Learnt,
+  byte-reads.Asked,
+  byte-reads.Learnt,
+  set-to-reads.Asked,
+  set-to-reads.Learnt,
+  write-below t,
+  write.Post,
+  look-at-reads.Asked,
+  look-at-reads.Learnt,
+)
+
+-- where write begins, and where the step is known to be a set or a look
+abbrev Begun : ℕ → Type 0
+Begun t = write-lts.Start (write-claims t) (write-at t) write.Post
+
+abbrev ToSet : ℕ → Type 0
+ToSet t = write-lts.After-known-told2 (write-claims t) (write-at t) write.Post
+
+abbrev ToLook : ℕ → Type 0
+ToLook t = write-lts.After-known-told3 (write-claims t) (write-at t) write.Post
+
+abbrev set-begun : (t : ℕ) → ToSet t → Begun t
+set-begun t c = c .before .before .before .before .before .before .before .before .before .before
+
+abbrev look-begun : (t : ℕ) → ToLook t → Begun t
+look-begun t c = c .before .before .before .before .before .before .before .before .before .before
+
+abbrev Tells : (t : ℕ) → Begun t → System → Type 0
+Tells t s S = TablesTell (s .args .n) (s .args .set .now) (s .args .look .now) (s .args .ranks .now) S
+
+-- the step chosen
+set-chosen : (t : ℕ) (c : ToSet t) (S : System) → Tells t (set-begun t c) S
+    → Chosen S (set-begun t c .args .k) (Set (c .before .act2 .given .0 .0) (c .before .act2 .given .0 .1 .0) (c .before .act2 .given .0 .1 .1 .0))
+set-chosen t c S u =
+    let start = set-begun t c in
+    subst (Chooses S (start .args .ranks .now) (start .args .k)) (c .before .before .before .before .before .act .given .1 ∙ ap Do (c .before .act2 .given .1)) (c .before .before .before .before .before .before .before .choose .ensures S u)
+
+look-chosen : (t : ℕ) (c : ToLook t) (S : System) → Tells t (look-begun t c) S
+    → Chosen S (look-begun t c .args .k) (Look (c .before .act3 .given .0 .0) (c .before .act3 .given .0 .1 .0))
+look-chosen t c S u =
+    let start = look-begun t c in
+    subst (Chooses S (start .args .ranks .now) (start .args .k)) (c .before .before .before .before .before .act .given .1 ∙ ap Do (c .before .act3 .given .1)) (c .before .before .before .before .before .before .before .choose .ensures S u)
+
+-- and in the system that the tables tell
+set-here : (t : ℕ) (c : ToSet t)
+    → Chosen (set-begun t c .pre .1 .0 .system) (set-begun t c .args .k) (Set (c .before .act2 .given .0 .0) (c .before .act2 .given .0 .1 .0) (c .before .act2 .given .0 .1 .1 .0))
+set-here t c = let from = set-begun t c .pre .1 .0 in set-chosen t c (from .system) (from .told)
+
+look-here : (t : ℕ) (c : ToLook t)
+    → Chosen (look-begun t c .pre .1 .0 .system) (look-begun t c .args .k) (Look (c .before .act3 .given .0 .0) (c .before .act3 .given .0 .1 .0))
+look-here t c = let from = look-begun t c .pre .1 .0 in look-chosen t c (from .system) (from .told)
+
+-- what a look at the state asks for
+look-asks : (t : ℕ) (c : ToLook t) → (look-begun t c .args .k < 7 ^ 7) × (c .before .act3 .given .0 .0 < 7)
+look-asks t c =
+    let from = look-begun t c .pre .1 .0 in
+    (number-small _ _ (from .few) (from .state), step-setting from _ (look-here t c))
+
+-- the byte that was stored is that of the step
+set-byte : (t : ℕ) (c : ToSet t)
+    → c .before .before .before .byte .result ≡ byteOf (Set (c .before .act2 .given .0 .0) (c .before .act2 .given .0 .1 .0) (c .before .act2 .given .0 .1 .1 .0))
+set-byte t c =
+    c .before .before .before .byte .ensures ∙ ap planByte (c .before .act2 .given .1) ∙ step-byte (set-begun t c .pre .1 .0) _ (set-here t c)
+
+look-byte : (t : ℕ) (c : ToLook t) → c .before .before .before .byte .result ≡ byteOf (Look (c .before .act3 .given .0 .0) (c .before .act3 .given .0 .1 .0))
+look-byte t c =
+    c .before .before .before .byte .ensures ∙ ap planByte (c .before .act3 .given .1) ∙ step-byte (look-begun t c .pre .1 .0) _ (look-here t c)
+
+-- a store leaves the room as long as it was
+stored : (t : ℕ) (s : Begun t) (byte : ℕ) → length (set (s .args .room .now) (s .args .at) byte) ≡ length (s .args .room .now)
+stored t s byte = length-set (s .args .room .now) (s .args .at) byte
+
+-- the room has a byte for the step
+here : (t : ℕ) (s : Begun t) → s .args .at < length (s .args .room .now)
+here t s = room-here (s .pre .1 .0) (s .pre .1 .1)
+
+abbrev Fits : (t : ℕ) → Begun t → ℕ → ℕ → ℕ → Type 0
+Fits t s x at end = PlanFits (s .args .n) (s .args .set .now) (s .args .look .now) (s .args .ranks .now) x at end
 
 write-choose-requires : (t : ℕ) → write-lts.Need-choose-requires (write-claims t) (write-at t) write.Post
-write-choose-requires t c κs = ((c .before .before .pre .1 .0) .few, (c .before .before .pre .1 .0) .state, (c .before .before .pre .1 .0) .size)
+write-choose-requires t c κs = let from = c .before .before .pre .1 .0 in (from .few, from .state, from .size)
 
 write-enum-told : (t : ℕ) → write-lts.Need-enum-told (write-claims t) (write-at t) write.Post
 write-enum-told t c = c .match .keys1
 
 write-slice-write-room : (t : ℕ) → write-lts.Need-slice-write-room (write-claims t) (write-at t) write.Post
-write-slice-write-room t c = room-here (c .before .before .before .before .before .pre .1 .0) (c .before .before .before .before .before .pre .1 .1)
+write-slice-write-room t c = here t (c .before .before .before .before .before)
 
 write-add-result : (t : ℕ) → write-lts.Need-add-result (write-claims t) (write-at t) write.Post
-write-add-result t c = omega (arith, room-here (c .before .before .before .before .before .pre .1 .0) (c .before .before .before .before .before .pre .1 .1))
+write-add-result t c = omega (arith, here t (c .before .before .before .before .before))
 
 write-enum-known-act : (t : ℕ) → write-lts.Need-enum-known-act (write-claims t) (write-at t) write.Post
 write-enum-known-act t c = c .match .keys2
@@ -57,55 +136,117 @@ write-byte-requires : (t : ℕ) → write-lts.Need-byte-requires (write-claims t
 write-byte-requires t c κs = search needs
 
 write-slice-write-room-2 : (t : ℕ) → write-lts.Need-slice-write-room-2 (write-claims t) (write-at t) write.Post
-write-slice-write-room-2 t c = room-here (c .before .before .before .before .before .before .before .pre .1 .0) (c .before .before .before .before .before .before .before .pre .1 .1)
+write-slice-write-room-2 t c = here t (c .before .before .before .before .before .before .before)
 
 write-enum-known-act-2 : (t : ℕ) → write-lts.Need-enum-known-act-2 (write-claims t) (write-at t) write.Post
 write-enum-known-act-2 t c = c .match2 .keys1
 
 write-set-to-requires : (t : ℕ) → write-lts.Need-set-to-requires (write-claims t) (write-at t) write.Post
-write-set-to-requires t c κs = (number-small (c .before .before .before .before .before .before .before .before .before .before .args .n) (c .before .before .before .before .before .before .before .before .before .before .args .k) ((c .before .before .before .before .before .before .before .before .before .before .pre .1 .0) .few) ((c .before .before .before .before .before .before .before .before .before .before .pre .1 .0) .state), step-setting (c .before .before .before .before .before .before .before .before .before .before .pre .1 .0) (Set (c .before .act2 .given .0 .0) (c .before .act2 .given .0 .1 .0) (c .before .act2 .given .0 .1 .1 .0)) (subst (Chooses ((c .before .before .before .before .before .before .before .before .before .before .pre .1 .0) .system) (c .before .before .before .before .before .before .before .before .before .before .args .ranks .now) (c .before .before .before .before .before .before .before .before .before .before .args .k)) (c .before .before .before .before .before .act .given .1 ∙ ap Do (c .before .act2 .given .1)) (c .before .before .before .before .before .before .before .choose .ensures ((c .before .before .before .before .before .before .before .before .before .before .pre .1 .0) .system) ((c .before .before .before .before .before .before .before .before .before .before .pre .1 .0) .told))))
+write-set-to-requires t c κs =
+    let from = set-begun t c .pre .1 .0 in
+    (number-small _ _ (from .few) (from .state), step-setting from _ (set-here t c))
 
 write-add-write : (t : ℕ) → write-lts.Need-add-write (write-claims t) (write-at t) write.Post
-write-add-write t c = omega (arith, room-here (c .before .before .before .before .before .before .before .before .before .before .before .before .pre .1 .0) (c .before .before .before .before .before .before .before .before .before .before .before .before .pre .1 .1))
+write-add-write t c = omega (arith, here t (set-begun t (c .before .before)))
 
 write-write-requires : (t : ℕ) → write-lts.Need-write-requires (write-claims t) (write-at t) write.Post
-write-write-requires t c κs = (let x = next-set (c .before .before .before .before .before .before .before .before .before .before .before .before .pre .1 .0) (c .before .before .before .act2 .given .0 .0) (c .before .before .before .act2 .given .0 .1 .0) (c .before .before .before .act2 .given .0 .1 .1 .0) (subst (Chooses ((c .before .before .before .before .before .before .before .before .before .before .before .before .pre .1 .0) .system) (c .before .before .before .before .before .before .before .before .before .before .before .before .args .ranks .now) (c .before .before .before .before .before .before .before .before .before .before .before .before .args .k)) (c .before .before .before .before .before .before .before .act .given .1 ∙ ap Do (c .before .before .before .act2 .given .1)) (c .before .before .before .before .before .before .before .before .before .choose .ensures ((c .before .before .before .before .before .before .before .before .before .before .before .before .pre .1 .0) .system) ((c .before .before .before .before .before .before .before .before .before .before .before .before .pre .1 .0) .told))) in (subst (λ (y : ℕ). getD (c .before .before .before .before .before .before .before .before .before .before .before .before .args .ranks .now) y 0 < t) (sym (c .before .set-to .ensures)) (omega (arith, x .1, c .before .before .before .before .before .before .before .before .before .before .before .before .pre .0)), (subst (Ranked (c .before .before .before .before .before .before .before .before .before .before .before .before .args .n) (c .before .before .before .before .before .before .before .before .before .before .before .before .args .set .now) (c .before .before .before .before .before .before .before .before .before .before .before .before .args .look .now) (c .before .before .before .before .before .before .before .before .before .before .before .before .args .ranks .now)) (sym (c .before .set-to .ensures)) (x .0), subst (λ (e : ℕ). PlanFits (c .before .before .before .before .before .before .before .before .before .before .before .before .args .n) (c .before .before .before .before .before .before .before .before .before .before .before .before .args .set .now) (c .before .before .before .before .before .before .before .before .before .before .before .before .args .look .now) (c .before .before .before .before .before .before .before .before .before .before .before .before .args .ranks .now) (c .before .set-to .result) ((c .before .before .before .before .before .before .before .before .before .before .before .before .args .at) + 1) e) (sym (length-set (c .before .before .before .before .before .before .before .before .before .before .before .before .args .room .now) (c .before .before .before .before .before .before .before .before .before .before .before .before .args .at) (c .before .before .before .before .before .byte .result))) (room-set (c .before .before .before .before .before .before .before .before .before .before .before .before .pre .1 .0) (λ S u. (subst (Chooses S (c .before .before .before .before .before .before .before .before .before .before .before .before .args .ranks .now) (c .before .before .before .before .before .before .before .before .before .before .before .before .args .k)) (c .before .before .before .before .before .before .before .act .given .1 ∙ ap Do (c .before .before .before .act2 .given .1)) (c .before .before .before .before .before .before .before .before .before .choose .ensures S u))) (c .before .before .before .before .before .before .before .before .before .before .before .before .args .at) (length (c .before .before .before .before .before .before .before .before .before .before .before .before .args .room .now)) (c .before .set-to .ensures) (c .before .before .before .before .before .before .before .before .before .before .before .before .pre .1 .1)))))
+write-write-requires t c κs =
+    let told = c .before .before in
+    let start = set-begun t told in
+    let after = c .before .set-to in
+    let next = next-here (start .pre .1 .0) (after .ensures) (start .pre .0) (next-set (start .pre .1 .0) _ _ _ (set-here t told)) in (
+      next .0,
+      (
+        next .1,
+        subst (Fits t start (after .result) (start .args .at + 1)) (sym (stored t start (told .before .before .before .byte .result)))
+            (room-set (start .pre .1 .0) (set-chosen t told) (start .args .at) (length (start .args .room .now)) (after .ensures) (start .pre .1 .1)),
+      ),
+    )
 
 write-enum-known-act-3 : (t : ℕ) → write-lts.Need-enum-known-act-3 (write-claims t) (write-at t) write.Post
 write-enum-known-act-3 t c = c .match2 .keys2
 
 write-look-at-requires : (t : ℕ) → write-lts.Need-look-at-requires (write-claims t) (write-at t) write.Post
-write-look-at-requires t c κs = (number-small (c .before .before .before .before .before .before .before .before .before .before .args .n) (c .before .before .before .before .before .before .before .before .before .before .args .k) ((c .before .before .before .before .before .before .before .before .before .before .pre .1 .0) .few) ((c .before .before .before .before .before .before .before .before .before .before .pre .1 .0) .state), step-setting (c .before .before .before .before .before .before .before .before .before .before .pre .1 .0) (Look (c .before .act3 .given .0 .0) (c .before .act3 .given .0 .1 .0)) (subst (Chooses ((c .before .before .before .before .before .before .before .before .before .before .pre .1 .0) .system) (c .before .before .before .before .before .before .before .before .before .before .args .ranks .now) (c .before .before .before .before .before .before .before .before .before .before .args .k)) (c .before .before .before .before .before .act .given .1 ∙ ap Do (c .before .act3 .given .1)) (c .before .before .before .before .before .before .before .choose .ensures ((c .before .before .before .before .before .before .before .before .before .before .pre .1 .0) .system) ((c .before .before .before .before .before .before .before .before .before .before .pre .1 .0) .told))))
+write-look-at-requires t c κs = look-asks t c
 
 write-add-write-2 : (t : ℕ) → write-lts.Need-add-write-2 (write-claims t) (write-at t) write.Post
-write-add-write-2 t c = omega (arith, room-here (c .before .before .before .before .before .before .before .before .before .before .before .before .pre .1 .0) (c .before .before .before .before .before .before .before .before .before .before .before .before .pre .1 .1))
+write-add-write-2 t c = omega (arith, here t (look-begun t (c .before .before)))
 
 write-write-requires-2 : (t : ℕ) → write-lts.Need-write-requires-2 (write-claims t) (write-at t) write.Post
-write-write-requires-2 t c κs = (let x = next-look (c .before .before .before .before .before .before .before .before .before .before .before .before .pre .1 .0) (c .before .before .before .act3 .given .0 .0) (c .before .before .before .act3 .given .0 .1 .0) false (subst (Chooses ((c .before .before .before .before .before .before .before .before .before .before .before .before .pre .1 .0) .system) (c .before .before .before .before .before .before .before .before .before .before .before .before .args .ranks .now) (c .before .before .before .before .before .before .before .before .before .before .before .before .args .k)) (c .before .before .before .before .before .before .before .act .given .1 ∙ ap Do (c .before .before .before .act3 .given .1)) (c .before .before .before .before .before .before .before .before .before .choose .ensures ((c .before .before .before .before .before .before .before .before .before .before .before .before .pre .1 .0) .system) ((c .before .before .before .before .before .before .before .before .before .before .before .before .pre .1 .0) .told))) in (subst (λ (y : ℕ). getD (c .before .before .before .before .before .before .before .before .before .before .before .before .args .ranks .now) y 0 < t) (sym (c .before .look-at .ensures)) (omega (arith, x .1, c .before .before .before .before .before .before .before .before .before .before .before .before .pre .0)), (subst (Ranked (c .before .before .before .before .before .before .before .before .before .before .before .before .args .n) (c .before .before .before .before .before .before .before .before .before .before .before .before .args .set .now) (c .before .before .before .before .before .before .before .before .before .before .before .before .args .look .now) (c .before .before .before .before .before .before .before .before .before .before .before .before .args .ranks .now)) (sym (c .before .look-at .ensures)) (x .0), subst (λ (e : ℕ). PlanFits (c .before .before .before .before .before .before .before .before .before .before .before .before .args .n) (c .before .before .before .before .before .before .before .before .before .before .before .before .args .set .now) (c .before .before .before .before .before .before .before .before .before .before .before .before .args .look .now) (c .before .before .before .before .before .before .before .before .before .before .before .before .args .ranks .now) (c .before .look-at .result) ((c .before .before .before .before .before .before .before .before .before .before .before .before .args .at) + 1) e) (sym (length-set (c .before .before .before .before .before .before .before .before .before .before .before .before .args .room .now) (c .before .before .before .before .before .before .before .before .before .before .before .before .args .at) (c .before .before .before .before .before .byte .result))) (room-false (c .before .before .before .before .before .before .before .before .before .before .before .before .pre .1 .0) (λ S u. (subst (Chooses S (c .before .before .before .before .before .before .before .before .before .before .before .before .args .ranks .now) (c .before .before .before .before .before .before .before .before .before .before .before .before .args .k)) (c .before .before .before .before .before .before .before .act .given .1 ∙ ap Do (c .before .before .before .act3 .given .1)) (c .before .before .before .before .before .before .before .before .before .choose .ensures S u))) (c .before .before .before .before .before .before .before .before .before .before .before .before .args .at) (length (c .before .before .before .before .before .before .before .before .before .before .before .before .args .room .now)) (c .before .look-at .ensures) (c .before .before .before .before .before .before .before .before .before .before .before .before .pre .1 .1)))))
+write-write-requires-2 t c κs =
+    let told = c .before .before in
+    let start = look-begun t told in
+    let after = c .before .look-at in
+    let next = next-here (start .pre .1 .0) (after .ensures) (start .pre .0) (next-look (start .pre .1 .0) _ _ false (look-here t told)) in (
+      next .0,
+      (
+        next .1,
+        subst (Fits t start (after .result) (start .args .at + 1)) (sym (stored t start (told .before .before .before .byte .result)))
+            (room-false (start .pre .1 .0) (look-chosen t told) (start .args .at) (length (start .args .room .now)) (after .ensures) (start .pre .1 .1)),
+      ),
+    )
 
 write-look-at-requires-2 : (t : ℕ) → write-lts.Need-look-at-requires-2 (write-claims t) (write-at t) write.Post
-write-look-at-requires-2 t c κs = (number-small (c .before .before .before .before .before .before .before .before .before .before .before .before .before .before .before .args .n) (c .before .before .before .before .before .before .before .before .before .before .before .before .before .before .before .args .k) ((c .before .before .before .before .before .before .before .before .before .before .before .before .before .before .before .pre .1 .0) .few) ((c .before .before .before .before .before .before .before .before .before .before .before .before .before .before .before .pre .1 .0) .state), step-setting (c .before .before .before .before .before .before .before .before .before .before .before .before .before .before .before .pre .1 .0) (Look (c .before .before .before .before .before .before .act3 .given .0 .0) (c .before .before .before .before .before .before .act3 .given .0 .1 .0)) (subst (Chooses ((c .before .before .before .before .before .before .before .before .before .before .before .before .before .before .before .pre .1 .0) .system) (c .before .before .before .before .before .before .before .before .before .before .before .before .before .before .before .args .ranks .now) (c .before .before .before .before .before .before .before .before .before .before .before .before .before .before .before .args .k)) (c .before .before .before .before .before .before .before .before .before .before .act .given .1 ∙ ap Do (c .before .before .before .before .before .before .act3 .given .1)) (c .before .before .before .before .before .before .before .before .before .before .before .before .choose .ensures ((c .before .before .before .before .before .before .before .before .before .before .before .before .before .before .before .pre .1 .0) .system) ((c .before .before .before .before .before .before .before .before .before .before .before .before .before .before .before .pre .1 .0) .told))))
+write-look-at-requires-2 t c κs = look-asks t (c .before .before .before .before .before)
 
 write-write-requires-3 : (t : ℕ) → write-lts.Need-write-requires-3 (write-claims t) (write-at t) write.Post
-write-write-requires-3 t c κs = (let x = next-look (c .before .before .before .before .before .before .before .before .before .before .before .before .before .before .before .before .before .pre .1 .0) (c .before .before .before .before .before .before .before .before .act3 .given .0 .0) (c .before .before .before .before .before .before .before .before .act3 .given .0 .1 .0) true (subst (Chooses ((c .before .before .before .before .before .before .before .before .before .before .before .before .before .before .before .before .before .pre .1 .0) .system) (c .before .before .before .before .before .before .before .before .before .before .before .before .before .before .before .before .before .args .ranks .now) (c .before .before .before .before .before .before .before .before .before .before .before .before .before .before .before .before .before .args .k)) (c .before .before .before .before .before .before .before .before .before .before .before .before .act .given .1 ∙ ap Do (c .before .before .before .before .before .before .before .before .act3 .given .1)) (c .before .before .before .before .before .before .before .before .before .before .before .before .before .before .choose .ensures ((c .before .before .before .before .before .before .before .before .before .before .before .before .before .before .before .before .before .pre .1 .0) .system) ((c .before .before .before .before .before .before .before .before .before .before .before .before .before .before .before .before .before .pre .1 .0) .told))) in (subst (λ (y : ℕ). getD (c .before .before .before .before .before .before .before .before .before .before .before .before .before .before .before .before .before .args .ranks .now) y 0 < t) (sym (c .before .look-at2 .ensures)) (omega (arith, x .1, c .before .before .before .before .before .before .before .before .before .before .before .before .before .before .before .before .before .pre .0)), (subst (Ranked (c .before .before .before .before .before .before .before .before .before .before .before .before .before .before .before .before .before .args .n) (c .before .before .before .before .before .before .before .before .before .before .before .before .before .before .before .before .before .args .set .now) (c .before .before .before .before .before .before .before .before .before .before .before .before .before .before .before .before .before .args .look .now) (c .before .before .before .before .before .before .before .before .before .before .before .before .before .before .before .before .before .args .ranks .now)) (sym (c .before .look-at2 .ensures)) (x .0), subst (λ (e : ℕ). PlanFits (c .before .before .before .before .before .before .before .before .before .before .before .before .before .before .before .before .before .args .n) (c .before .before .before .before .before .before .before .before .before .before .before .before .before .before .before .before .before .args .set .now) (c .before .before .before .before .before .before .before .before .before .before .before .before .before .before .before .before .before .args .look .now) (c .before .before .before .before .before .before .before .before .before .before .before .before .before .before .before .before .before .args .ranks .now) (c .before .look-at2 .result) (c .before .before .before .before .write2 .result) e) (sym (c .before .before .before .before .write2 .kept .1 .1 .1 .1 .1 .0 ∙ length-set (c .before .before .before .before .before .before .before .before .before .before .before .before .before .before .before .before .before .args .room .now) (c .before .before .before .before .before .before .before .before .before .before .before .before .before .before .before .before .before .args .at) (c .before .before .before .before .before .before .before .before .before .before .byte .result))) (room-true (c .before .before .before .before .before .before .before .before .before .before .before .before .before .before .before .before .before .pre .1 .0) (λ S u. (subst (Chooses S (c .before .before .before .before .before .before .before .before .before .before .before .before .before .before .before .before .before .args .ranks .now) (c .before .before .before .before .before .before .before .before .before .before .before .before .before .before .before .before .before .args .k)) (c .before .before .before .before .before .before .before .before .before .before .before .before .act .given .1 ∙ ap Do (c .before .before .before .before .before .before .before .before .act3 .given .1)) (c .before .before .before .before .before .before .before .before .before .before .before .before .before .before .choose .ensures S u))) (c .before .before .before .before .before .before .before .before .before .before .before .before .before .before .before .before .before .args .at) (length (c .before .before .before .before .before .before .before .before .before .before .before .before .before .before .before .before .before .args .room .now)) (c .before .before .before .before .before .before .before .before .before .before .byte .result) (c .before .before .before .before .before .before .before .before .before .before .before .before .before .before .before .before .before .args .room .now) (c .before .before .before .before .before .before .look-at .ensures) (c .before .look-at2 .ensures) (c .before .before .before .before .write2 .ensures) (c .before .before .before .before .before .before .before .before .before .before .before .before .before .before .before .before .before .pre .1 .1)))))
+write-write-requires-3 t c κs =
+    let after = c .before .look-at2 in
+    let written = c .before .before .before .before in
+    let first = written .before .before in
+    let told = first .before in
+    let start = look-begun t told in
+    let byte = told .before .before .before .byte .result in
+    let next = next-here (start .pre .1 .0) (after .ensures) (start .pre .0) (next-look (start .pre .1 .0) _ _ true (look-here t told)) in (
+      next .0,
+      (
+        next .1,
+        subst (Fits t start (after .result) (written .write2 .result)) (sym (written .write2 .kept .1 .1 .1 .1 .1 .0 ∙ stored t start byte))
+            (room-true (start .pre .1 .0) (look-chosen t told) (start .args .at) (length (start .args .room .now)) byte (start .args .room .now)
+            (first .look-at .ensures) (after .ensures) (written .write2 .ensures) (start .pre .1 .1)),
+      ),
+    )
 
 write-same-length : (t : ℕ) → write-lts.Need-same-length (write-claims t) (write-at t) write.Post
 write-same-length t c = simp length-set
 
 write-returns : (t : ℕ) → write-lts.Need-returns (write-claims t) (write-at t) write.Post
-write-returns t c = λ S u. (stop, stop-plan (c .before .before .before .before .before .pre .1 .0) S u (subst (Chooses S (c .before .before .before .before .before .args .ranks .now) (c .before .before .before .before .before .args .k)) (c .enum-told .given .1) (c .before .before .choose .ensures S u)), refl, refl)
+write-returns t c =
+    let chose = c .before .before in
+    let start = chose .before .before .before in
+    λ S u. (
+      stop,
+      stop-plan (start .pre .1 .0) S u (subst (Chooses S (start .args .ranks .now) (start .args .k)) (c .enum-told .given .1) (chose .choose .ensures S u)),
+      refl,
+      refl,
+    )
 
 write-same-length-2 : (t : ℕ) → write-lts.Need-same-length-2 (write-claims t) (write-at t) write.Post
-write-same-length-2 t c = c .before .before .write .kept .1 .1 .1 .1 .1 .0 ∙ length-set (c .before .before .before .before .before .before .before .before .before .before .before .before .before .before .before .args .room .now) (c .before .before .before .before .before .before .before .before .before .before .before .before .before .before .before .args .at) (c .before .before .before .before .before .before .before .before .byte .result)
+write-same-length-2 t c =
+    let told = c .before .before .before .before .before in
+    c .before .before .write .kept .1 .1 .1 .1 .1 .0 ∙ stored t (set-begun t told) (told .before .before .before .byte .result)
 
 write-returns-2 : (t : ℕ) → write-lts.Need-returns-2 (write-claims t) (write-at t) write.Post
-write-returns-2 t c = set-written (c .before .before .before .before .before .before .before .before .before .before .before .before .before .before .before .pre .1 .0) (λ S u. (subst (Chooses S (c .before .before .before .before .before .before .before .before .before .before .before .before .before .before .before .args .ranks .now) (c .before .before .before .before .before .before .before .before .before .before .before .before .before .before .before .args .k)) (c .before .before .before .before .before .before .before .before .before .before .act .given .1 ∙ ap Do (c .before .before .before .before .before .before .act2 .given .1)) (c .before .before .before .before .before .before .before .before .before .before .before .before .choose .ensures S u))) (c .before .before .before .before .set-to .ensures) (c .before .before .before .before .before .before .before .before .byte .ensures ∙ ap planByte (c .before .before .before .before .before .before .act2 .given .1) ∙ step-byte (c .before .before .before .before .before .before .before .before .before .before .before .before .before .before .before .pre .1 .0) (Set (c .before .before .before .before .before .before .act2 .given .0 .0) (c .before .before .before .before .before .before .act2 .given .0 .1 .0) (c .before .before .before .before .before .before .act2 .given .0 .1 .1 .0)) (subst (Chooses ((c .before .before .before .before .before .before .before .before .before .before .before .before .before .before .before .pre .1 .0) .system) (c .before .before .before .before .before .before .before .before .before .before .before .before .before .before .before .args .ranks .now) (c .before .before .before .before .before .before .before .before .before .before .before .before .before .before .before .args .k)) (c .before .before .before .before .before .before .before .before .before .before .act .given .1 ∙ ap Do (c .before .before .before .before .before .before .act2 .given .1)) (c .before .before .before .before .before .before .before .before .before .before .before .before .choose .ensures ((c .before .before .before .before .before .before .before .before .before .before .before .before .before .before .before .pre .1 .0) .system) ((c .before .before .before .before .before .before .before .before .before .before .before .before .before .before .before .pre .1 .0) .told)))) (c .before .before .write .ensures)
+write-returns-2 t c =
+    let moved = c .before .before .before .before in
+    let told = moved .before in
+    set-written (set-begun t told .pre .1 .0) (set-chosen t told) (moved .set-to .ensures) (set-byte t told) (c .before .before .write .ensures)
 
 write-same-length-3 : (t : ℕ) → write-lts.Need-same-length-3 (write-claims t) (write-at t) write.Post
-write-same-length-3 t c = c .before .before .write3 .kept .1 .1 .1 .1 .1 .0 ∙ (c .before .before .before .before .before .before .before .write2 .kept .1 .1 .1 .1 .1 .0 ∙ length-set (c .before .before .before .before .before .before .before .before .before .before .before .before .before .before .before .before .before .before .before .before .args .room .now) (c .before .before .before .before .before .before .before .before .before .before .before .before .before .before .before .before .before .before .before .before .args .at) (c .before .before .before .before .before .before .before .before .before .before .before .before .before .byte .result))
+write-same-length-3 t c =
+    let written = c .before .before .before .before .before .before .before in
+    let told = written .before .before .before in
+    c .before .before .write3 .kept .1 .1 .1 .1 .1 .0
+    ∙ (written .write2 .kept .1 .1 .1 .1 .1 .0 ∙ stored t (look-begun t told) (told .before .before .before .byte .result))
 
 write-returns-3 : (t : ℕ) → write-lts.Need-returns-3 (write-claims t) (write-at t) write.Post
-write-returns-3 t c = look-written (c .before .before .before .before .before .before .before .before .before .before .before .before .before .before .before .before .before .before .before .before .pre .1 .0) (λ S u. (subst (Chooses S (c .before .before .before .before .before .before .before .before .before .before .before .before .before .before .before .before .before .before .before .before .args .ranks .now) (c .before .before .before .before .before .before .before .before .before .before .before .before .before .before .before .before .before .before .before .before .args .k)) (c .before .before .before .before .before .before .before .before .before .before .before .before .before .before .before .act .given .1 ∙ ap Do (c .before .before .before .before .before .before .before .before .before .before .before .act3 .given .1)) (c .before .before .before .before .before .before .before .before .before .before .before .before .before .before .before .before .before .choose .ensures S u))) (c .before .before .before .before .before .before .before .before .before .look-at .ensures) (c .before .before .before .before .look-at2 .ensures) (c .before .before .before .before .before .before .before .before .before .before .before .before .before .byte .ensures ∙ ap planByte (c .before .before .before .before .before .before .before .before .before .before .before .act3 .given .1) ∙ step-byte (c .before .before .before .before .before .before .before .before .before .before .before .before .before .before .before .before .before .before .before .before .pre .1 .0) (Look (c .before .before .before .before .before .before .before .before .before .before .before .act3 .given .0 .0) (c .before .before .before .before .before .before .before .before .before .before .before .act3 .given .0 .1 .0)) (subst (Chooses ((c .before .before .before .before .before .before .before .before .before .before .before .before .before .before .before .before .before .before .before .before .pre .1 .0) .system) (c .before .before .before .before .before .before .before .before .before .before .before .before .before .before .before .before .before .before .before .before .args .ranks .now) (c .before .before .before .before .before .before .before .before .before .before .before .before .before .before .before .before .before .before .before .before .args .k)) (c .before .before .before .before .before .before .before .before .before .before .before .before .before .before .before .act .given .1 ∙ ap Do (c .before .before .before .before .before .before .before .before .before .before .before .act3 .given .1)) (c .before .before .before .before .before .before .before .before .before .before .before .before .before .before .before .before .before .choose .ensures ((c .before .before .before .before .before .before .before .before .before .before .before .before .before .before .before .before .before .before .before .before .pre .1 .0) .system) ((c .before .before .before .before .before .before .before .before .before .before .before .before .before .before .before .before .before .before .before .before .pre .1 .0) .told)))) (c .before .before .before .before .before .before .before .write2 .ensures) (c .before .before .write3 .ensures)
+write-returns-3 t c =
+    let seen = c .before .before .before .before in
+    let written = c .before .before .before .before .before .before .before in
+    let first = written .before .before in
+    let told = first .before in
+    look-written (look-begun t told .pre .1 .0) (look-chosen t told) (first .look-at .ensures) (seen .look-at2 .ensures) (look-byte t told)
+    (written .write2 .ensures) (c .before .before .write3 .ensures)
 
 pub +write-spec : {M : Type 1} → statement M
 +write-spec = close μ-write λ t. write-lts.spec (write-claims t) (write-at t)
