@@ -6,5 +6,4 @@ pub mod Table
 pub mod Digits
 pub mod HighBits
 pub mod Answers
-pub mod OrderLaws
 pub mod Lists
