@@ -39,7 +39,7 @@ module _ {plan : List ℕ} where
 pub encode-one : (p r : Plan) → Lettered p → Lettered r → encode p ≡ encode r → p ≡ r
 encode-one p r a b e = shown-one p r (whole-shown p refl a) (whole-shown r e b)
 
--- every permitted plan can be printed: what printing's `reach` requires holds of the plan that a finder writes
+-- every permitted plan can be printed: what `reach` requires holds of the plan that a finder writes
 pub permitted-lettered : {n : ℕ} {S : System} (law : Lawful n S) → n ≤ 7 → (p : Plan) (k : ℕ) → Permitted S k p → Lettered p
 permitted-lettered law few stop k w = tt
 permitted-lettered law few (set-then i q b p) k w =

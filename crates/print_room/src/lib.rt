@@ -1,6 +1,6 @@
 // Text into a lent room from a place on: bytes, words and numbers in decimal. A place past the room is
 // counted and not written, so each function gives the place after its text, whatever the room's length.
-// It refuses nothing: its functions have a `requires`, for this repository alone: places stay below 2^64.
+// It refuses nothing. For this repository alone: its functions ask that places stay below 2^64.
 ghost use mathlib.Core.List.{[], _∷_};
 ghost use Rattle.print_room.specs.Decimal.{decimal};
 ghost use Rattle.print_room.specs.Wrote.{Ends, Wrote};
