@@ -14,7 +14,8 @@ use Rattle.knowledge_acts.specs.declared.act.Act.the-variants.{Set, Look}
 use Rattle.knowledge_acts.specs.declared.act.Named.{Named}
 use Rattle.knowledge_acts.specs.declared.act.Named.the-variants.{One, Nothing}
 use Rattle.plan.specs.Plans.{System, may}
-use Rattle.plan.specs.Check.{Fault, no-act, not-permitted, not-settled, too-soon, left-over, Reading, goes-on, fails, outcomes, readAct, readNamed, readStop, readByte}
+use Rattle.plan.specs.Check.{Fault, no-act, not-permitted, not-settled, too-soon, left-over}
+use Rattle.plan.specs.Check.{Reading, goes-on, fails, outcomes, readAct, readNamed, readStop, readByte}
 use Rattle.plan.proofs.Check.{read-unsettled, read-nothing, read-other, read-forbidden}
 
 -- what is wrong with the byte c at the state k; a byte is never "too soon" or "after a whole plan" by itself

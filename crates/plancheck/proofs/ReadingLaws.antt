@@ -61,7 +61,8 @@ module _ (at k : ℕ) (a : Act) where
 
 -- a byte
 module _ (n : ℕ) (book : List ℕ) (q : Question) (goal : Goal) (k at byte : ℕ) where
-  pub byte-stops : {g : Bool} → n ≤ 7 → byte ≡ 0 → g ≡ leb n 7 && goalSettled n goal k → g ≡ true → Stops ≡ readingOf at (readByte (systemOf n book q goal) k byte)
+  pub byte-stops : {g : Bool} → n ≤ 7 → byte ≡ 0 → g ≡ leb n 7 && goalSettled n goal k → g ≡ true
+      → Stops ≡ readingOf at (readByte (systemOf n book q goal) k byte)
   unfolding systemOf
   byte-stops few e f g = rw (e, sym (unguarded n _ few) ∙ sym f ∙ g)
 

@@ -21,7 +21,8 @@ use Rattle.plan.proofs.Check.{judge-on, judge-fails}
 use Rattle.plan.proofs.Pending.{pending-first, pending-most, pending-stop, pending-set, pending-look}
 use Rattle.plancheck.specs.Reading.{readingOf}
 use Rattle.plancheck.proofs.ByteLaws.{Step, stops, sets, looks, faults, step}
-use Rattle.plancheck.specs.Inner.{answerOf, down, firstStanding, stoppedStanding, standsAs, afterByte, HasRoom, endedAt, Held, HeldAt, Ready, answerAt, answerFrom, Turned}
+use Rattle.plancheck.specs.Inner.{answerOf, down, firstStanding, stoppedStanding, standsAs, afterByte, HasRoom}
+use Rattle.plancheck.specs.Inner.{endedAt, Held, HeldAt, Ready, answerAt, answerFrom, Turned}
 use Rattle.plancheck.specs.declared.answer.CheckAnswer.{CheckAnswer}
 use Rattle.plancheck.specs.declared.reading.ByteReading.{ByteReading}
 use Rattle.plancheck.specs.declared.standing.Stands.{Stands}
@@ -80,9 +81,14 @@ module _ {n : ℕ} {S : System} (law : Lawful n S) (few : n ≤ 7) where
   look-room : (d : Standing) (i q : ℕ) → T (may S (d .here) (Look i q)) → Held n (d .here) (down (d .waiting) (d .count)) → d .count < n
   look-room d i q m h =
       let next = held-look (d .here) i q (down (d .waiting) (d .count)) m h in
-      omega (arith, pending-most n (lookAt (d .here) i false) (lookAt (d .here) i true ∷ down (d .waiting) (d .count)) (next .pending), down-length (d .waiting) (d .count))
+      omega (
+        arith,
+        down-length (d .waiting) (d .count),
+        pending-most n (lookAt (d .here) i false) (lookAt (d .here) i true ∷ down (d .waiting) (d .count)) (next .pending),
+      )
 
-  has-room : (d : Standing) (at c : ℕ) (r : C.Reading) → Step S (d .here) c r → Held n (d .here) (down (d .waiting) (d .count)) → HasRoom (d .count) (readingOf at r)
+  has-room : (d : Standing) (at c : ℕ) (r : C.Reading) → Step S (d .here) c r → Held n (d .here) (down (d .waiting) (d .count))
+      → HasRoom (d .count) (readingOf at r)
   has-room d at c r stops h = tt
   has-room d at c r (sets i q b m) h = tt
   has-room d at c r (looks i q m) h = omega (arith, look-room d i q m h)
@@ -140,7 +146,8 @@ module _ {n : ℕ} {S : System} (law : Lawful n S) (few : n ≤ 7) where
       (turn-step d at c (readByte S (d .here) c) refl (step S (d .here) c) ready opened (open-held d ready opened))
 
 -- a byte after a whole plan
-pub turn-whole : {n : ℕ} {S : System} (d : Standing) (at c : ℕ) {r : Standing} → Ready n d → d .stands ≡ Whole → r ≡ standsAs d (Failed (LeftOver at)) → Turned n S d at c r
+pub turn-whole : {n : ℕ} {S : System} (d : Standing) (at c : ℕ) {r : Standing} → Ready n d → d .stands ≡ Whole
+    → r ≡ standsAs d (Failed (LeftOver at)) → Turned n S d at c r
 turn-whole {n} {S} d at c ready whole e =
     subst (Turned n S d at c) (sym e) (record {
       ready = record { room = ready .room; most = ready .most; held = tt };
@@ -186,5 +193,6 @@ module _ {n : ℕ} {S : System} (k : ℕ) (plan : List ℕ) where
         ∙ ap (λ (i : ℕ). answerFrom S r i (drop i plan)) (sym (add-one at));
   }
 
-  pub walking-done : {d : Standing} {at : ℕ} {r : CheckAnswer} → Walking n S k plan d at → length plan ≤ at → r ≡ endedAt (d .stands) at → r ≡ answerOf (check S k plan)
+  pub walking-done : {d : Standing} {at : ℕ} {r : CheckAnswer} → Walking n S k plan d at → length plan ≤ at → r ≡ endedAt (d .stands) at
+      → r ≡ answerOf (check S k plan)
   walking-done {d} {at} w h e = e ∙ sym (w .same ∙ ap (answerFrom S d at) (drop-of-length-le plan h) ∙ ended-from S d at)

@@ -14,8 +14,8 @@ returns c =
     let stop : tie.Then1 = search in
     let judged : tie.After-is-settled = search in
     let a = start .args in
-    byte-stops (a .n) (a .book .now) (a .question) (goalOf (a .make .now) (a .learn .now)) (a .k) (a .at) (a .byte) (start .pre .0) (stop .if1 .taken)
-    (judged .is-settled .ensures) (c .if2 .taken)
+    byte-stops (a .n) (a .book .now) (a .question) (goalOf (a .make .now) (a .learn .now)) (a .k) (a .at) (a .byte)
+    (start .pre .0) (stop .if1 .taken) (judged .is-settled .ensures) (c .if2 .taken)
 
 returns-2 : tie.Need-returns-2
 returns-2 c =
@@ -23,8 +23,8 @@ returns-2 c =
     let stop : tie.Then1 = search in
     let judged : tie.After-is-settled = search in
     let a = start .args in
-    byte-unsettled (a .n) (a .book .now) (a .question) (goalOf (a .make .now) (a .learn .now)) (a .k) (a .at) (a .byte) (start .pre .0) (stop .if1 .taken)
-    (judged .is-settled .ensures) (c .if2 .left)
+    byte-unsettled (a .n) (a .book .now) (a .question) (goalOf (a .make .now) (a .learn .now)) (a .k) (a .at) (a .byte)
+    (start .pre .0) (stop .if1 .taken) (judged .is-settled .ensures) (c .if2 .left)
 
 of-byte-requires : tie.Need-of-byte-requires
 of-byte-requires c κs = search needs
@@ -44,8 +44,8 @@ returns-3 c =
     let other : tie.Else1 = search in
     let named : tie.After-of-byte = search in
     let a = start .args in
-    byte-nothing (a .n) (a .book .now) (a .question) (goalOf (a .make .now) (a .learn .now)) (a .k) (a .at) (a .byte) (other .if1 .left) (named .of-byte .ensures)
-    (c .enum-told .given .1)
+    byte-nothing (a .n) (a .book .now) (a .question) (goalOf (a .make .now) (a .learn .now)) (a .k) (a .at) (a .byte)
+    (other .if1 .left) (named .of-byte .ensures) (c .enum-told .given .1)
 
 returns-4 : tie.Need-returns-4
 returns-4 c =
@@ -54,8 +54,8 @@ returns-4 c =
     let named : tie.After-of-byte = search in
     let one : tie.After-act = search in
     let a = start .args in
-    byte-act (a .n) (a .book .now) (a .question) (goalOf (a .make .now) (a .learn .now)) (a .k) (a .at) (a .byte) (other .if1 .left) (named .of-byte .ensures)
-    (one .act .given .1) (c .read-act .ensures)
+    byte-act (a .n) (a .book .now) (a .question) (goalOf (a .make .now) (a .learn .now)) (a .k) (a .at) (a .byte)
+    (other .if1 .left) (named .of-byte .ensures) (one .act .given .1) (c .read-act .ensures)
 
 pub read-byte-spec : {M : Type 1} → statement M
 read-byte-spec =
