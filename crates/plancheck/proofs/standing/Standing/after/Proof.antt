@@ -23,7 +23,8 @@ enum-known-reading-2 c = search needs
 parted-requires : tie.Need-parted-requires
 parted-requires c κs =
     let start : tie.Start = search in
-    (start .pre .0, subst (HasRoom (start .args .self .count)) (c .before .reading2 .given .1) (start .pre .2))
+    let parts : tie.After-reading2 = search in
+    (start .pre .0, subst (HasRoom (start .args .self .count)) (parts .reading2 .given .1) (start .pre .2))
 
 enum-known-reading-3 : tie.Need-enum-known-reading-3
 enum-known-reading-3 c = search needs
@@ -34,22 +35,26 @@ stands-as-requires c κs = search needs
 returns : tie.Need-returns
 returns c =
     let start : tie.Start = search in
-    c .stopped .ensures ∙ ap (afterByte (start .args .self)) (sym (c .before .enum-told .given .1))
+    let stops : tie.After-enum-told = search in
+    c .stopped .ensures ∙ ap (afterByte (start .args .self)) (sym (stops .enum-told .given .1))
 
 returns-2 : tie.Need-returns-2
 returns-2 c =
     let start : tie.Start = search in
-    c .moved .ensures ∙ ap (afterByte (start .args .self)) (sym (c .before .before .reading .given .1))
+    let goes : tie.After-reading = search in
+    c .moved .ensures ∙ ap (afterByte (start .args .self)) (sym (goes .reading .given .1))
 
 returns-3 : tie.Need-returns-3
 returns-3 c =
     let start : tie.Start = search in
-    c .parted .ensures ∙ ap (afterByte (start .args .self)) (sym (c .before .before .reading2 .given .1))
+    let parts : tie.After-reading2 = search in
+    c .parted .ensures ∙ ap (afterByte (start .args .self)) (sym (parts .reading2 .given .1))
 
 returns-4 : tie.Need-returns-4
 returns-4 c =
     let start : tie.Start = search in
-    c .stands-as .ensures ∙ ap (afterByte (start .args .self)) (sym (c .before .before .reading3 .given .1))
+    let fails : tie.After-reading3 = search in
+    c .stands-as .ensures ∙ ap (afterByte (start .args .self)) (sym (fails .reading3 .given .1))
 
 pub after-spec : {M : Type 1} → statement M
 after-spec =

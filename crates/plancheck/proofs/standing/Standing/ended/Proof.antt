@@ -19,7 +19,7 @@ returns-2 : tie.Need-returns-2
 returns-2 c = search needs
 
 returns-3 : tie.Need-returns-3
-returns-3 c = rw (c .before .stands .given .1)
+returns-3 c = let failed : tie.After-stands = search in rw (failed .stands .given .1)
 
 pub ended-spec : {M : Type 1} → statement M
 ended-spec =

@@ -11,8 +11,9 @@ stands-as-requires c κs = search needs
 returns : tie.Need-returns
 returns c =
     let start : tie.Start = search in
+    let none : tie.Then1 = search in
     let self = start .args .self in
-    c .stands-as .ensures ∙ stopped-none (self .here) (self .waiting) (self .count) (c .before .if1 .taken)
+    c .stands-as .ensures ∙ stopped-none (self .here) (self .waiting) (self .count) (none .if1 .taken)
 
 sub-last : tie.Need-sub-last
 sub-last c = search needs
