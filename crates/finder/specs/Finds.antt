@@ -37,6 +37,11 @@ pub record Unmet (book : List ℕ) (q : Question) (goal : Goal) (ranks plan : Li
   pub ranks-kept : ranks′ ≡ ranks
   pub plan-kept : plan′ ≡ plan
 
+-- a valid question over n settings: all ranks, and the answer
+abbrev pub Answered : ℕ → List ℕ → Question → Goal → List ℕ → List ℕ → Answer → List ℕ → List ℕ → Type 0
+Answered n book q goal ranks plan answer ranks′ plan′ =
+    RanksFilled n (systemOf n book q goal) ranks ranks′ × AnswersFrom (systemOf n book q goal) (startOf q) plan answer plan′
+
 -- what `find` gives: the first of refusals 6 to 13, which leaves both rooms as they were; or, for a valid question, all ranks and the answer
 abbrev pub Finds : List ℕ → Question → Goal → List ℕ → List ℕ → Answer → List ℕ → List ℕ → Type 0
 Finds book q goal ranks plan answer ranks′ plan′ =

@@ -15,10 +15,8 @@ use refusal::Refusal;
 ghost use Prim.Native.Nat.{ℕ, _^_, _≤_};
 ghost use lib.ListN.{length as size};
 ghost use Rattle.knowledge.specs.Goal.{goalOf};
-ghost use Rattle.question.specs.Question.{systemOf, startOf};
 ghost use Rattle.question.specs.Asks.{ValidQuestion};
-ghost use Rattle.finder.specs.Answers.{AnswersFrom};
-ghost use Rattle.finder.specs.Finds.{RanksFilled, Finds};
+ghost use Rattle.finder.specs.Finds.{Answered, Finds};
 
 // Answers a valid question over n settings: what is permitted and where the goal is settled, at each
 // side; the rank of every knowledge number; the answer from the start.
@@ -32,7 +30,7 @@ fn search(
     plan: &mut [u8],
 ) -> Answer
     requires { ⌜ ((m : ℕ) × ValidQuestion (now book) question (goalOf (now make) (now learn)) n m) × (7 ^ n ≤ size (now ranks)) ⌝ }
-    ensures { λ r. ⌜ RanksFilled n (systemOf n (now (book .entry)) question (goalOf (now (make .entry)) (now (learn .entry)))) (now (ranks .entry)) (now (ranks .exit)) × AnswersFrom (systemOf n (now (book .entry)) question (goalOf (now (make .entry)) (now (learn .entry)))) (startOf question) (now (plan .entry)) r (now (plan .exit)) ⌝ }
+    ensures { λ r. ⌜ Answered n (now (book .entry)) question (goalOf (now (make .entry)) (now (learn .entry))) (now (ranks .entry)) (now (plan .entry)) r (now (ranks .exit)) (now (plan .exit)) ⌝ }
 {
     let set = posts_allowed(book, n, question.team, Right::Set);
     let look = posts_allowed(book, n, question.team, Right::Look);

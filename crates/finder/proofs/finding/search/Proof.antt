@@ -28,13 +28,15 @@ looked c = c .before .before .before .before .before .before .before .before
 
 -- once the ranks are filled, the tables tell the question's system
 told : (c : tie.After-fill-ranks)
-    → TablesTell (started c .args .n) (looked c .before .posts-allowed .result) (looked c .posts-allowed2 .result) (c .fill-ranks .last .1 .1 .1 .1 .1 .0) (systemHere (started c))
+    → TablesTell (started c .args .n) (looked c .before .posts-allowed .result) (looked c .posts-allowed2 .result)
+    (c .fill-ranks .last .1 .1 .1 .1 .1 .0) (systemHere (started c))
 told c =
     let halves = c .before .before .before .before .before .before in
     tables-tell (started c .pre .0 .1) (looked c .before .posts-allowed .ensures) (looked c .posts-allowed2 .ensures)
     (halves .before .made .ensures) (halves .learnt .ensures) (c .fill-ranks .ensures) (started c .pre .1)
 
-filled : (c : tie.After-fill-ranks) → RanksFilled (started c .args .n) (systemHere (started c)) (started c .args .ranks .now) (c .fill-ranks .last .1 .1 .1 .1 .1 .0)
+filled : (c : tie.After-fill-ranks)
+    → RanksFilled (started c .args .n) (systemHere (started c)) (started c .args .ranks .now) (c .fill-ranks .last .1 .1 .1 .1 .1 .0)
 filled c =
     let halves = c .before .before .before .before .before .before in
     ranks-filled (started c .pre .0 .1) (looked c .before .posts-allowed .ensures) (looked c .posts-allowed2 .ensures)
