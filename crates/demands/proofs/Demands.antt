@@ -47,7 +47,7 @@ use Rattle.sheet_reading.specs.Sheet.{Sheet}
 use Rattle.sheet_reading.specs.Reading.{Meaning, sheetMeaning, refused, stated}
 use Rattle.sheet_reading.specs.Place.{MalformedAt}
 use Rattle.sheet_reading.proofs.Place.{malformed-line, malformed-refused}
-use Rattle.sheet.specs.Answer.{PrintsOutcome, AnswersSheet, SheetAsks}
+use Rattle.sheet.specs.Answer.{sheetBook, PrintsMeaning, AnswersSheet, SheetAsks}
 use Rattle.sheet.proofs.Theorems.{answer-unique, answer-most, reach-printed, cannot-printed}
 use Rattle.sheet.proofs.Theorems as Printed
 use Rattle.formula.proofs.read.Reads as read-contract
@@ -105,13 +105,13 @@ refused-plan book q goal plan r x = x
 
 -- a sheet's is printed; 22 and its line are told by the grammar alone, unless an earlier line is refused for something else; and the formula's number is the one that `formula::read` answers
 pub refused-sheet : (s old : List ℕ) (r : ℕ) (new : List ℕ) (w : Refusal) (L : ℕ) → sheetMeaning s ≡ refused w L → AnswersSheet s old r new → Prints old (refusedText (number w) L) r new
-refused-sheet s old r new w L m a = subst (λ (o : Meaning). PrintsOutcome o old r new) m a
+refused-sheet s old r new w L m a = subst (λ (o : Meaning). PrintsMeaning o old r new) m a
 
 pub malformed : (s : List ℕ) (L : ℕ) → sheetMeaning s ≡ refused (Malformed L) L → MalformedAt s L
 malformed = malformed-line
 
 pub malformed-where : (s : List ℕ) (L : ℕ) → MalformedAt s L
-    → (meaning s ≡ refused 22 L) ⊎ ((x : ℕ) × (p : ℕ) × (meaning s ≡ refused x p) × (x ≡ 22 → ⊥) × (p < L))
+    → (sheetMeaning s ≡ refused (Malformed L) L) ⊎ ((w : Refusal) × (p : ℕ) × (sheetMeaning s ≡ refused w p) × (number w ≡ 22 → ⊥) × (p < L))
 malformed-where = malformed-refused
 
 pub sheet-formula : (n : ℕ) (F : List ℕ) (a : FormulaAnswer) (t : List ℕ) → ReadsFormula n F a t → formulaAnswer n F ≡ a
@@ -178,26 +178,30 @@ secret = cannot-secret
 
 -- ---- Demands 2 and 3 of a sheet: it asks one question, and what is printed is the answer to that
 
-module _ (s old : List ℕ) (r : ℕ) (new : List ℕ) {sheet : Sheet} {rights make learn : List ℕ} {team known values : ℕ}
-    (m : meaning s ≡ stated sheet) (q : Sheet.Question sheet rights make learn team known values) (a : AnswersSheet s old r new) where
-  pub sheet-reach : (p : Plan) → Works (System-for sheet rights make learn team) (startNumber known values) p
-      → (h : ℕ) × (t : Plan) × Works (System-for sheet rights make learn team) (startNumber known values) t × (height t ≡ h)
-      × ((u : Plan) → Works (System-for sheet rights make learn team) (startNumber known values) u → h ≤ height u) × Prints old (reachText h t) r new
-  sheet-reach = reach-printed s old r new m q a
+-- a plan that works for the question that the sheet asks
+abbrev WorksOn : Sheet → List ℕ → Question → Goal → Plan → Type 0
+WorksOn sheet rights q goal p = Works (systemOf (sheet .size .settings) (sheetBook sheet rights) q goal) (startOf q) p
 
-  pub sheet-cannot : ((p : Plan) → Works (System-for sheet rights make learn team) (startNumber known values) p → ⊥) → Prints old cannotText r new
-  sheet-cannot = cannot-printed s old r new m q a
+module _ (s old : List ℕ) (r : ℕ) (new : List ℕ) {sheet : Sheet} {rights : List ℕ} {q : Question} {goal : Goal}
+    (m : sheetMeaning s ≡ stated sheet) (asks : SheetAsks sheet rights q goal) (a : AnswersSheet s old r new) where
+  pub sheet-reach : (p : Plan) → WorksOn sheet rights q goal p
+      → (h : ℕ) × (t : Plan) × WorksOn sheet rights q goal t × (height t ≡ h)
+      × ((u : Plan) → WorksOn sheet rights q goal u → h ≤ height u) × Prints old (reachText h t) r new
+  sheet-reach = reach-printed s old r new m asks a
 
-  pub sheet-reach-means : (h : ℕ) (p : Plan) → Prints old (reachText h p) r new → (t : Plan) × Works (System-for sheet rights make learn team) (startNumber known values) t
-  sheet-reach-means = Printed.reach-means s old r new m q a
+  pub sheet-cannot : ((p : Plan) → WorksOn sheet rights q goal p → ⊥) → Prints old cannotText r new
+  sheet-cannot = cannot-printed s old r new m asks a
 
-  pub sheet-cannot-means : Prints old cannotText r new → (p : Plan) → Works (System-for sheet rights make learn team) (startNumber known values) p → ⊥
-  sheet-cannot-means = Printed.cannot-means s old r new m q a
+  pub sheet-reach-means : (h : ℕ) (p : Plan) → Prints old (reachText h p) r new → (t : Plan) × WorksOn sheet rights q goal t
+  sheet-reach-means = Printed.reach-means s old r new m asks a
 
-  pub sheet-secret : Prints old cannotText r new → NoMaking (sheet .settings) make → (F : List ℕ) → sheet .asks ≡ F ∷ []
-      → (p : Plan) → Permitted (System-for sheet rights make learn team) (startNumber known values) p
-      → (t : List ℕ) × Accepts (sheet .settings) F t × Twins (sheet .settings) t (startNumber known values) p
-  sheet-secret = Printed.cannot-secret s old r new m q a
+  pub sheet-cannot-means : Prints old cannotText r new → (p : Plan) → WorksOn sheet rights q goal p → ⊥
+  sheet-cannot-means = Printed.cannot-means s old r new m asks a
+
+  pub sheet-secret : Prints old cannotText r new → NoMaking (sheet .size .settings) goal → (F : List ℕ) → sheet .asked .asks ≡ F ∷ []
+      → (p : Plan) → Permitted (systemOf (sheet .size .settings) (sheetBook sheet rights) q goal) (startOf q) p
+      → (t : List ℕ) × Accepts (sheet .size .settings) F t × Twins (sheet .size .settings) t (startOf q) p
+  sheet-secret = Printed.cannot-secret s old r new m asks a
 
 -- ---- and these contracts are the functions' own: two results that the `ensures` of each allows are equal, and so is what is left in each lent room
 -- (`s` and `t` hold what each parameter refers to on return, in order)

@@ -12,8 +12,7 @@ use Rattle.ground.proofs.Bools.{and-left, and-right}
 use Rattle.book_sound.specs.Sound.{inOrder, tablesOf}
 use Rattle.book_block.specs.Rule.{tablePlace, rule, rulePlace}
 use Rattle.book.specs.Written.{bookOf, settingBlocks}
-use Rattle.book_block.specs.Sealed.{sealed, bytes16}
-use Rattle.book_block.specs.Sealed.{headBlock, settingBlock}
+use Rattle.book_block.specs.Sealed.{sealed, checkBytes, bytes16, headBlock, settingBlock}
 use Rattle.knowledge_acts.specs.Seven.{startTold, nowTold, afterSet, afterLook, firstDigit}
 use Rattle.knowledge_acts.specs.Acts.{byteOf, offered, setTo, lookAt}
 use Rattle.knowledge.specs.Number.{sumOf, firstAt}
@@ -41,7 +40,7 @@ least-from S k h p (inr n) w = absurd (n .1 p (written-works S p k w))
 
 -- it is valid, and its start is one of the states (who names it on an `unfolding` line unfolds all of a question, so that its tests compute)
 unfoldable pub starts : Case → List ℕ → Bool
-unfolding well startOf sumOf firstAt firstDigit elem systemOf goalSettled allSettled learnTable offered permitted known learnSettled always fits agrees startTold nowTold afterSet afterLook setTo lookAt digit put bit truth all rule rulePlace tablePlace byteOf bookOf headBlock settingBlocks settingBlock sealed bytes16 inOrder tablesOf
+unfolding well startOf sumOf firstAt firstDigit elem systemOf goalSettled allSettled learnTable offered permitted known learnSettled always fits agrees startTold nowTold afterSet afterLook setTo lookAt digit put bit truth all rule rulePlace tablePlace byteOf bookOf headBlock settingBlocks settingBlock sealed checkBytes bytes16 inOrder tablesOf
 starts c states = well c && elem (startIn c) states
 
 module _ (c : Case) (states : List ℕ) (t : T (starts c states)) where

@@ -7,8 +7,7 @@ use lib.Dec.{T}
 use Rattle.book_sound.specs.Sound.{inOrder, tablesOf}
 use Rattle.book_block.specs.Rule.{tablePlace, rule, rulePlace}
 use Rattle.book.specs.Written.{bookOf, settingBlocks}
-use Rattle.book_block.specs.Sealed.{sealed, bytes16}
-use Rattle.book_block.specs.Sealed.{headBlock, settingBlock}
+use Rattle.book_block.specs.Sealed.{sealed, checkBytes, bytes16, headBlock, settingBlock}
 use Rattle.knowledge_acts.specs.Acts.{byteOf}
 use Rattle.plan.specs.Plans.{stop, set-then, look-then}
 use Rattle.refusal.specs.declared.Refusal.the-variants.{NotSettled}
@@ -82,7 +81,7 @@ unfolding well
 p9-well = tt
 
 pub p10-row : RowHolds (faults p9 (1 ∷ 0 ∷ []) 19 1)
-unfolding rule rulePlace tablePlace bookOf headBlock settingBlocks settingBlock sealed bytes16 inOrder tablesOf
+unfolding rule rulePlace tablePlace bookOf headBlock settingBlocks settingBlock sealed checkBytes bytes16 inOrder tablesOf
 p10-row =
     let yes = p10 {book = bookFor p9} {m = 1} (valid p9 (tested p9 p9-well)) refl in (
       NotSettled 1,

@@ -18,8 +18,9 @@ use Rattle.formula_grammar.specs.Grammar.{letter, one, negated, one-unit, one-p
 use Rattle.formula_grammar.specs.Signs.{isLetter, isSign, isStray, isPast}
 use Rattle.formula_grammar.specs.Automaton.{isAtom, step, verdict}
 use Rattle.formula.specs.Read.{Accepts}
-use Rattle.formula.specs.Numbered.{sentenceNumber, foreignNumber, formulaNumber}
-use Rattle.formula.proofs.Computed.{foreign, bounds, clean, tabled, accepted}
+use Rattle.refusal.specs.declared.Refusal.the-variants.{Malformed, SheetSettings}
+use Rattle.formula.specs.Computed.{sentenceAnswer, foreignAnswer, formulaAnswer}
+use Rattle.formula.proofs.ByTest.{foreign, bounds, clean, tabled, accepted}
 use Rattle.book_block.specs.Rule.{table, tablePlace}
 use Rattle.book_sound.specs.Sound.{tablesOf}
 use Rattle.book_block.specs.declared.rule.Right.{Right}
@@ -31,14 +32,16 @@ use Rattle.sheet_words.specs.Words.{member, onto, split, begins, among, isFalse
 use Rattle.sheet_reading.specs.Rules.{isSetting, isPost, isRule, ruleOf, withRule, ruleStep}
 use Rattle.sheet_reading.specs.Steps.{unlessRefused, sized}
 use Rattle.sheet_reading.specs.Desk.{TablesOf}
-use Rattle.sheet_reading.specs.Forms.{isSize, digitAt, postWords, isTeam, teamOf, settingWords, isKnown, knownBy, knownOf}
+use Rattle.sheet_reading.specs.Names.{nameWords, isNames}
+use Rattle.sheet_reading.specs.Forms.{isSize, digitAt, isTeam, teamOf, isKnown, knownBy, knownOf}
 use Rattle.sheet_reading.specs.LineSteps.{withTeam, withKnown, withMake, withAsk, sizeStep, teamStep, knownStep, makeStep, askStep, rightsStep}
-use Rattle.sheet_reading.specs.Reading.{Meaning, refused, stated, lines, firstLine, meaning}
-use Rattle.sheet.specs.Answer.{Question, PrintsFound, Prints-outcome}
+use Rattle.sheet_reading.specs.Reading.{Meaning, refused, stated, lines, firstLine, sheetMeaning}
+use Rattle.knowledge.specs.Goal.{goalOf}
+use Rattle.sheet.specs.Answer.{SheetAsks, PrintsFound, PrintsMeaning}
 use Rattle.sheet_reading.proofs.HoldLaws.{nought-accepts}
 use Rattle.sheet_reading.proofs.Examples.{sheets-computed}
 use Rattle.sheet.proofs.Theorems.{answer-unique}
-use Rattle.marked.specs.Row.{Case, first, tables, RowHolds, prints}
+use Rattle.marked.specs.Row.{Case, first, tables, goalFor, RowHolds, prints}
 use Rattle.marked.specs.Table.{sixth, p6, p7, p8a, p8c, p6-sheet, p6-printed, p7-sheet, p8a-sheet, p8c-sheet}
 use Rattle.marked.proofs.Valid.{Well, nobody-zeros}
 use Rattle.marked.proofs.OneAnswer.{systemIn, startIn}
@@ -47,9 +50,9 @@ use Rattle.marked.proofs.FindRows.{by-look, p6-shown, stuck, p7-caught,
 
 -- ---- a row, from the meaning of its sheet
 
-row-prints : (s t : String) (o : Meaning) → meaning (bytes s) ≡ o → ((old : List ℕ) → Prints-outcome o old (length (bytes t)) (fitted old (bytes t))) → RowHolds (prints s t)
+row-prints : (s t : String) (o : Meaning) → sheetMeaning (bytes s) ≡ o → ((old : List ℕ) → PrintsMeaning o old (length (bytes t)) (fitted old (bytes t))) → RowHolds (prints s t)
 row-prints s t o m f old =
-    let yes = subst (λ (x : Meaning). Prints-outcome x old (length (bytes t)) (fitted old (bytes t))) (sym m) (f old) in
+    let yes = subst (λ (x : Meaning). PrintsMeaning x old (length (bytes t)) (fitted old (bytes t))) (sym m) (f old) in
     (yes, λ r new a. answer-unique (bytes s) old r (length (bytes t)) new (fitted old (bytes t)) a yes)
 
 -- what a question's row says, as it is printed
@@ -73,7 +76,11 @@ stated-rules =
 
 -- the sheet with this team and these learn formulas
 abbrev sheet : List ℕ → List (List ℕ) → Sheet
-sheet team asks = record { settings = 3; posts = 2; rules = stated-rules; team = team; known = []; make = bytes "b"; asks = asks }
+sheet team asks = record {
+  size = record { settings = 3; posts = 2 };
+  rules = stated-rules;
+  asked = record { team = team; known = []; make = bytes "b"; asks = asks };
+}
 
 formulas : Accepts 3 (bytes "~c") (first 15) × Accepts 3 (bytes "a") (first 170) × Accepts 3 (bytes "b") (first 204) × Accepts 3 (bytes "c") (first 240)
     × Accepts 3 (bytes "1") (first 255)
@@ -105,7 +112,7 @@ rules-taken Set = let no = nought-accepts 3 (lit≤ tt) (lit≤ tt) in by-settin
 -- by the team, named and as a mask, and by the learn formulas and their tables
 module _ (team : ℕ) (posts learn : List ℕ) (asks : List (List ℕ)) (w : Well (sixth team learn)) (named : (q : ℕ) → bit team q ≡ member q posts)
     (learnt : TablesOf 3 asks (tables learn)) where
-  asked : Question (sheet posts asks) (tables (p6 .rules)) (first 204) (tables learn) team 0 0
+  asked : SheetAsks (sheet posts asks) (tables (p6 .rules)) (sixth team learn .asked) (goalFor (sixth team learn))
   unfolding member knownSettings knownTrue
   asked = record {
     size = refl;
@@ -118,9 +125,9 @@ module _ (team : ℕ) (posts learn : List ℕ) (asks : List (List ℕ)) (w : Wel
     settings-true = bit-of-zero;
   }
 
-  sixth-prints : (s t : String) → meaning (bytes s) ≡ stated (sheet posts asks)
+  sixth-prints : (s t : String) → sheetMeaning (bytes s) ≡ stated (sheet posts asks)
       → ((old : List ℕ) → PrintsFound (systemIn (sixth team learn)) (startIn (sixth team learn)) old (length (bytes t)) (fitted old (bytes t))) → RowHolds (prints s t)
-  sixth-prints s t m f = row-prints s t (stated (sheet posts asks)) m (λ old. (tables (p6 .rules), first 204, tables learn, team, 0, 0, asked, f old))
+  sixth-prints s t m f = row-prints s t (stated (sheet posts asks)) m (λ old. (tables (p6 .rules), sixth team learn .asked, goalFor (sixth team learn), asked, f old))
 
 -- `team 1 2`, `team 1`
 both-posts : (q : ℕ) → bit 3 q ≡ member q (0 ∷ 1 ∷ [])
@@ -138,10 +145,10 @@ one-post (suc q) = bit-suc 1 q ∙ bit-of-zero q ∙ sym (ap (λ (a : Bool). a |
 
 -- ---- the rows
 
-meanings : (meaning (bytes p7-sheet) ≡ stated (sheet (0 ∷ []) []))
-    × (meaning (bytes p8a-sheet) ≡ stated (sheet (0 ∷ 1 ∷ []) (bytes "a" ∷ [])))
-    × (meaning (bytes p8c-sheet) ≡ stated (sheet (0 ∷ 1 ∷ []) (bytes "c" ∷ [])))
-unfolding isLetter isSign isStray isPast isAtom step verdict sentenceNumber foreignNumber formulaNumber sameRight concerns isStated knownSettings onto split begins among isSetting isPost isSize digitAt isRule ruleOf isFalse bare isName allNames indexOf indexes postWords isTeam teamOf settingWords isKnown knownBy knownOf twice unlessRefused sized withRule withTeam withKnown withMake withAsk sizeStep ruleStep teamStep knownStep makeStep askStep rightsStep lines firstLine meaning
+meanings : (sheetMeaning (bytes p7-sheet) ≡ stated (sheet (0 ∷ []) []))
+    × (sheetMeaning (bytes p8a-sheet) ≡ stated (sheet (0 ∷ 1 ∷ []) (bytes "a" ∷ [])))
+    × (sheetMeaning (bytes p8c-sheet) ≡ stated (sheet (0 ∷ 1 ∷ []) (bytes "c" ∷ [])))
+unfolding isLetter isSign isStray isPast isAtom step verdict sentenceAnswer foreignAnswer formulaAnswer sameRight concerns isStated knownSettings onto split begins among isSetting isPost isSize digitAt isRule ruleOf isFalse bare isName allNames indexOf indexes nameWords isNames isTeam teamOf isKnown knownBy knownOf twice unlessRefused sized withRule withTeam withKnown withMake withAsk sizeStep ruleStep teamStep knownStep makeStep askStep rightsStep lines firstLine sheetMeaning
 meanings = (refl, refl, refl)
 
 pub p6-prints : RowHolds (prints p6-sheet p6-printed)
@@ -166,8 +173,8 @@ p8c-prints =
 
 pub nothing-prints : RowHolds (prints "" "refused 22 1\n")
 unfolding decimal
-nothing-prints = row-prints "" "refused 22 1\n" (refused 22 1) (sheets-computed .1) (λ old. record { count = refl; room = refl })
+nothing-prints = row-prints "" "refused 22 1\n" (refused (Malformed 1) 1) (sheets-computed .1) (λ old. record { count = refl; room = refl })
 
 pub six-prints : RowHolds (prints "size 6 2\n" "refused 25 1\n")
 unfolding decimal
-six-prints = row-prints "size 6 2\n" "refused 25 1\n" (refused 25 1) (sheets-computed .3) (λ old. record { count = refl; room = refl })
+six-prints = row-prints "size 6 2\n" "refused 25 1\n" (refused SheetSettings 1) (sheets-computed .3) (λ old. record { count = refl; room = refl })
