@@ -27,13 +27,12 @@ use Rattle.book_block.specs.declared.rule.Right.{Right}
 use Rattle.book_block.specs.declared.rule.Right.the-variants.{Look, Set}
 use Rattle.print_room.specs.Decimal.{decimal}
 use Rattle.print_answer.specs.Printed.{reachText, cannotText, fitted}
-use Rattle.sheet_reading.specs.Sheet.{Rule, Sheet, sameRight, concerns, isStated, ruleText, knownSettings, knownTrue}
+use Rattle.sheet_reading.specs.Sheet.{Rule, Sheet, sameRight, concerns, isStated, unstated, ruleText, knownSettings, knownTrue}
 use Rattle.sheet_words.specs.Words.{member, onto, split, begins, among, isFalse, bare, isName, allNames, indexOf, indexes, twice}
 use Rattle.sheet_reading.specs.Rules.{isSetting, isPost, isRule, ruleOf, withRule, ruleStep}
 use Rattle.sheet_reading.specs.Steps.{unlessRefused, sized}
 use Rattle.sheet_reading.specs.Desk.{TablesOf}
-use Rattle.sheet_reading.specs.Names.{nameWords, isNames}
-use Rattle.sheet_reading.specs.Forms.{isSize, digitAt, isTeam, teamOf, isKnown, knownBy, knownOf}
+use Rattle.sheet_reading.specs.Forms.{isSize, digitAt, nameWords, isNames, isTeam, teamOf, isKnown, knownBy, knownOf}
 use Rattle.sheet_reading.specs.LineSteps.{withTeam, withKnown, withMake, withAsk, sizeStep, teamStep, knownStep, makeStep, askStep, rightsStep}
 use Rattle.sheet_reading.specs.Reading.{Meaning, refused, stated, lines, firstLine, sheetMeaning}
 use Rattle.knowledge.specs.Goal.{goalOf}
@@ -105,7 +104,7 @@ by-setting right a1 a2 b1 b2 c1 c2 (suc (suc zero)) q h k = below-2 (Taken right
 by-setting right a1 a2 b1 b2 c1 c2 (suc (suc (suc i))) q h k = absurd (omega arith)
 
 rules-taken : (right : Right) (i q : ℕ) → i < 3 → q < 2 → Taken right i q
-unfolding ruleText concerns sameRight table tablePlace tablesOf
+unfolding ruleText unstated concerns sameRight table tablePlace tablesOf
 rules-taken Look = let no = nought-accepts 3 (lit≤ tt) (lit≤ tt) in by-setting Look no no no no no (formulas .4)
 rules-taken Set = let no = nought-accepts 3 (lit≤ tt) (lit≤ tt) in by-setting Set no (formulas .0) (formulas .1) no no (formulas .3)
 
