@@ -131,7 +131,7 @@ sheet-room = answer-most
 -- named is the least; the plan written is such a plan; the plan check accepts exactly such plans, up to 32,640 bytes."
 
 -- a plan that works from what the team knows at the start
-abbrev WorksFor : List ℕ → Question → List ℕ → List ℕ → ℕ → Plan → Type 0
+abbrev WorksFor : List ℕ → Question → Goal → ℕ → Plan → Type 0
 WorksFor book q goal n p = Works (systemOf n book q goal) (startOf q) p
 
 module _ (book : List ℕ) (q : Question) (goal : Goal) (ranks plan : List ℕ) (r x : List ℕ) where
