@@ -62,7 +62,7 @@ pub formula-apart : {n : ℕ} {s old new : List ℕ} {r : ℕ} (c : FormulaRead 
 formula-apart {n} {s} c = (
   λ e. ap upper (c .result-is ∙ ap formulaReturned e),
   λ w e. let refuses = subst (λ (a : FormulaAnswer). ReadsFormula n s a (c .found)) e (c .reads) in
-      apart w (c .result-is ∙ ap formulaReturned e) (omega (arith, FormulaSmall.place-small (refuses .0))),
+      apart w (c .result-is ∙ ap formulaReturned e) (omega (arith, FormulaSmall.place-small {s = s} (refuses .0))),
 )
 
 pub book-read-apart : {book old new : List ℕ} {r : ℕ} (c : BookRead book old r new)
