@@ -1,9 +1,11 @@
 -- The laws of plans and ranks. First acts and states, then layers and the bound on ranks, ranks and tables of them, the plan written
--- and its bytes, the check, demand 3, and what shows a rank or a "cannot" by computation.
+-- and its bytes, the check, what is so after a run, demand 3 and its converse (`Twins`), and what shows a rank or a "cannot" by
+-- computation.
 pub mod Acts
 pub mod States
 pub mod Bytes
 pub mod Effects
+pub mod RunLaws
 pub mod Unknowns
 pub mod Layers
 pub mod Pigeonhole
@@ -19,6 +21,8 @@ pub mod Check
 pub mod Faults
 pub mod Pending
 pub mod Accepted
+pub mod After
 pub mod Secret
+pub mod Twins
 pub mod Trap
 pub mod Sample

@@ -11,9 +11,8 @@ use lib.Dec.{T}
 use Rattle.ground.specs.Digits.{digit, bit}
 use Rattle.ground.specs.Table.{truth}
 use Rattle.ground.proofs.Bools.{T→false, decide, both}
-use Rattle.ground.proofs.Digits.{digit-lt}
 use Rattle.ground.proofs.Search.{all-at, all-intro, all-or}
-use Rattle.knowledge_acts.specs.Seven.{startTold, afterSet, afterLook}
+use Rattle.knowledge_acts.specs.Seven.{startTold, afterLook}
 use Rattle.knowledge_acts.specs.Acts.{setTo, lookAt}
 use Rattle.knowledge_acts.specs.declared.act.Act.the-variants.{Set, Look}
 use Rattle.knowledge.specs.Fits.{agrees, fits, implies, is, always, fitsStart, startSide, learnSettled}
@@ -21,10 +20,9 @@ use Rattle.plan.specs.Plans.{System, Lawful, Plan, stop, set-then, look-
 use Rattle.plan.specs.Ranks.{Cannot}
 use Rattle.plan.specs.Runs.{change, did, saw, run}
 use Rattle.plan.specs.Secret.{Twins}
-use Rattle.plan.specs.Pending.{nought}
-use Rattle.plan.proofs.Unknowns.{seven, set-known, look-known}
-use Rattle.knowledge_acts.proofs.Outcomes.{set-here, set-other, look-here, look-other}
-use Rattle.plan.proofs.Effects.{change-other, start-stays}
+use Rattle.knowledge_acts.proofs.Outcomes.{look-here, look-other}
+use Rattle.plan.proofs.Effects.{start-stays}
+use Rattle.plan.proofs.RunLaws.{taken, run-look, Real, real-set, real-look}
 
 -- what a look has shown at the start
 seen : (b x : Bool) → T (agrees (startTold (afterLook b)) x) → x ≡ b
@@ -42,9 +40,6 @@ not-or true b h = absurd h
 not-not : (a : Bool) → T (not (not a)) → a ≡ true
 not-not true h = refl
 not-not false h = absurd h
-
-not-nought : (d : ℕ) → nought d ≡ 0 → d ≡ 0 → ⊥
-not-nought d h z = omega (arith, h, ap nought z)
 
 implies-no : (a b : Bool) → T (not (implies a b)) → T a × T (not b)
 implies-no true false h = (tt, tt)
@@ -80,10 +75,6 @@ module _ (n : ℕ) (formula : List ℕ) where
     | inr r ↦ (let c = implies-no (fits n side (r .0)) (is b (truth formula (r .0))) (r .2) in (r .0, r .1, c .0, c .1))
   ]
 
-  -- the real settings are those of the start where nothing is known
-  abbrev Real : ℕ → ℕ → ℕ → Type 0
-  Real k v a = (i : ℕ) → i < n → digit 7 k i ≡ 0 → bit a i ≡ bit v i
-
   -- two starts that differ on the formula, and run alike from all real settings that they can have come to
   record Open (k : ℕ) (p : Plan) : Type 0 where
     one : ℕ
@@ -94,7 +85,7 @@ module _ (n : ℕ) (formula : List ℕ) where
     other-fits : T (fitsStart n (digit 7 k) other)
     one-false : truth formula one ≡ false
     other-true : truth formula other ≡ true
-    alike : (a b : ℕ) → Real k one a → Real k other b → run p a ≡ run p b
+    alike : (a b : ℕ) → Real n k one a → Real n k other b → run p a ≡ run p b
 
   open-stop : (k : ℕ) → T (not (learnSettled n (digit 7 k) formula)) → Open k stop
   unfolding learnSettled fitsStart
@@ -115,19 +106,6 @@ module _ (n : ℕ) (formula : List ℕ) where
         alike = λ a b x y. refl;
       }
 
-  -- an unknown setting after a set is another one, which was unknown before, and the set has not touched it
-  real-set : (k i v a : ℕ) (b : Bool) → Real k v a → Real (setTo k i b) v (change a i b)
-  real-set k i v a b real j l z = elim (ℕ-discrete j i) [
-    | yes e ↦ absurd (not-nought (afterSet (digit 7 k i) b) (set-known (digit 7 k i) b (digit-lt seven k i)) (sym (set-here k i b) ∙ rw e at z))
-    | no ne ↦ change-other a i j b ne ∙ real j l (sym (set-other k i b j ne) ∙ z)
-  ]
-
-  real-look : (k i v a : ℕ) (b : Bool) → Real k v a → Real (lookAt k i b) v a
-  real-look k i v a b real j l z = elim (ℕ-discrete j i) [
-    | yes e ↦ absurd (not-nought (afterLook b) (look-known b) (sym (look-here k i b) ∙ rw e at z))
-    | no ne ↦ real j l (sym (look-other k i b j ne) ∙ z)
-  ]
-
   open-set : (k i q : ℕ) (b : Bool) (p : Plan) → Open (setTo k i b) p → Open k (set-then i q b p)
   open-set k i q b p o = record {
     one = o .one;
@@ -139,17 +117,8 @@ module _ (n : ℕ) (formula : List ℕ) where
     one-false = o .one-false;
     other-true = o .other-true;
     alike = λ a c x y. ap (λ l. did (Set i q b) ∷ l)
-        (o .alike (change a i b) (change c i b) (real-set k i (o .one) a b x) (real-set k i (o .other) c b y));
+        (o .alike (change a i b) (change c i b) (real-set n k i (o .one) a b x) (real-set n k i (o .other) c b y));
   }
-
-  -- the plan that a look goes on with
-  abbrev taken : Bool → Plan → Plan → Plan
-  taken false p r = p
-  taken true p r = r
-
-  run-look : (i q a : ℕ) (b : Bool) (p r : Plan) → bit a i ≡ b → run (look-then i q p r) a ≡ saw (Look i q) b ∷ run (taken b p r) a
-  run-look i q a false p r e = rw e
-  run-look i q a true p r e = rw e
 
   open-look : (k i q : ℕ) (b : Bool) (p r : Plan) → i < n → digit 7 k i ≡ 0 → Open (lookAt k i b) (taken b p r) → Open k (look-then i q p r)
   open-look k i q b p r l z o = record {
@@ -163,7 +132,7 @@ module _ (n : ℕ) (formula : List ℕ) where
     other-true = o .other-true;
     alike = λ a c x y.
         run-look i q a b p r (x i l z ∙ fits-seen n k i (o .one) b l (o .one-fits))
-        ∙ ap (λ t. saw (Look i q) b ∷ t) (o .alike a c (real-look k i (o .one) a b x) (real-look k i (o .other) c b y))
+        ∙ ap (λ t. saw (Look i q) b ∷ t) (o .alike a c (real-look n k i (o .one) a b x) (real-look n k i (o .other) c b y))
         ∙ sym (run-look i q c b p r (y i l z ∙ fits-seen n k i (o .other) b l (o .other-fits)));
   }
 
@@ -186,21 +155,21 @@ module _ (n : ℕ) (formula : List ℕ) where
       ]
     ]
 
-    twins-of : (p : Plan) (k : ℕ) → Open k p → Twins n formula k p
-    twins-of p k o = record {
-      one = o .one;
-      other = o .other;
-      one-lt = o .one-lt;
-      other-lt = o .other-lt;
-      one-fits = o .one-fits;
-      other-fits = o .other-fits;
-      differ = λ e. let z : false ≡ true = sym (o .one-false) ∙ e ∙ o .other-true in let c : _≡_ {A = ℕ} 0 1 = cc in omega arith;
-      same-run = o .alike (o .one) (o .other) (λ i l z. refl) (λ i l z. refl);
-    }
-
     -- a permitted plan works, or leaves two starts that it cannot tell apart
     pub works-or-twins : (p : Plan) (k : ℕ) → Permitted S k p → Works S k p ⊎ Twins n formula k p
-    works-or-twins p k m = elim (works-or-open p k m) [ inl w ↦ inl w | inr o ↦ inr (twins-of p k o) ]
+    works-or-twins p k m = elim (works-or-open p k m) [
+      | inl w ↦ inl w
+      | inr o ↦ inr (record {
+        one = o .one;
+        other = o .other;
+        one-lt = o .one-lt;
+        other-lt = o .other-lt;
+        one-fits = o .one-fits;
+        other-fits = o .other-fits;
+        differ = λ e. let z : false ≡ true = sym (o .one-false) ∙ e ∙ o .other-true in let c : _≡_ {A = ℕ} 0 1 = cc in omega arith;
+        same-run = o .alike (o .one) (o .other) (λ i l z. refl) (λ i l z. refl);
+      })
+    ]
 
     -- demand 3: where no plan works, every permitted plan leaves such starts
     pub secret : (k : ℕ) → Cannot S k → (p : Plan) → Permitted S k p → Twins n formula k p
