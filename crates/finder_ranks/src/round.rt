@@ -1,5 +1,5 @@
 // One round: every state of rank h - 1 is found and pushed from.
-use super::scan::BLOCK;
+use super::scan::STRETCH;
 use super::scan::is_bare;
 use crate::apart::take_apart;
 use crate::push::push;
@@ -77,7 +77,7 @@ fn sweep(
     found
 }
 
-// The same, with a look ahead at a whole block.
+// The same, with a look ahead at a whole stretch.
 fn block(
     n: usize,
     at: usize,
@@ -96,15 +96,15 @@ fn block(
     sweep(n, at, end, h, set, look, ranks)
 }
 
-// Where the block that begins at `at` ends.
+// Where the stretch that begins at `at` ends.
 fn end_of(at: usize, size: usize) -> usize
     requires { ⌜ at < size ⌝ }
     ensures { λ r. ⌜ (at < r) × (r ≤ at + 64) × (r ≤ size) ⌝ }
 {
-    if size - at < BLOCK {
+    if size - at < STRETCH {
         return size;
     }
-    at + BLOCK
+    at + STRETCH
 }
 
 // Visits each state of rank h - 1 among the first `size`; how many there are.
