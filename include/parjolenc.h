@@ -18,9 +18,11 @@ extern "C" {
 typedef unsigned char pj_u8;
 typedef unsigned long long pj_u64;
 
-// A refusal is number × 2^32 + place, and a success is below 2^32: `pj_number` is 0 for a success. What each number
-// means, and what it leaves in the lent bytes, is the list "Every refusal" of docs/CONTRACTS.md.
-static inline pj_u64 pj_number(pj_u64 result) { return result >> 32; }
+// A refusal is second × 2^40 + number × 2^32 + place, and a success is below 2^32: `pj_number` is 0 for a success. What
+// each number means, and what it leaves in the lent bytes, is the list "Every refusal" of docs/CONTRACTS.md.
+// `pj_second` is one more than a refusal's second number, and 0 where it has none; none has one yet.
+static inline pj_u64 pj_number(pj_u64 result) { return (result >> 32) & 0xff; }
+static inline pj_u64 pj_second(pj_u64 result) { return result >> 40; }
 static inline pj_u64 pj_place(pj_u64 result) { return result & 0xffffffff; }
 
 // A success of pj_find: 0 is "cannot", and any other the plan's height and its length in bytes.

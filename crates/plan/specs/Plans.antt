@@ -1,5 +1,6 @@
 -- "A plan stops, or does a permitted act and goes on with a plan for each outcome; it works if the goal is settled at every stop.
--- Its height is the longest count of acts on a branch." A state is a knowledge number k.
+-- Its height is the longest count of acts on a branch." A state is a knowledge number k: in base 7 its digit i tells what is
+-- known of setting i, 0 that nothing is (knowledge_acts/specs/Seven).
 use mathlib.Core.Bool.{Bool, true, false, _&&_}
 use Prim.Native.Nat.{ℕ, suc, max, _<_}
 use mathlib.Core.Path.{_≡_}
@@ -9,8 +10,8 @@ use Rattle.knowledge_acts.specs.Acts.{settingOf, postOf, setTo, lookAt}
 use Rattle.knowledge_acts.specs.declared.act.Act.{Act}
 use Rattle.knowledge_acts.specs.declared.act.Act.the-variants.{Set, Look}
 
--- what a question fixes: the acts of its book and team, those that are permitted at a state, and the states at which the goal is
--- settled
+-- what a question fixes: the acts of its book and team (any other is 17), those that are permitted at a state (else 18), and the states at
+-- which the goal is settled (else 19)
 pub record System : Type 0 where
   pub offers : Act → Bool
   pub permits : ℕ → Act → Bool

@@ -1,2 +1,2 @@
-// Plans and ranks, their meaning and their theory: no code, so that every finder, check and replay
+// Plans and ranks, their meaning and their theory: no code, so that every finder and every check
 // stands on the same definitions and laws.

@@ -1,6 +1,6 @@
 // Every refusal of the library and of the sheet program, in one enum, with the numbers that paper 01
 // gives to each. A refusal is made at the place that finds the fault and is handed upward as it is; its
-// numbers are numbered in one place, here. The crate refuses nothing itself and writes nothing.
+// numbers stand here alone. The crate refuses nothing itself and writes nothing.
 ghost use mathlib.Core.Path.{_≡_};
 ghost use Rattle.refusal.specs.Refusals.{numbered, numbers};
 
