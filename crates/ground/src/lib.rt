@@ -1,6 +1,6 @@
-// The ground that every other crate stands on: bytes and bits, valuations, and the 16-byte tables that are
-// read at them. It refuses nothing and lends nothing; its specs say what a bit, a digit and a table are, and
-// its proofs hold the laws about them that the other crates cite.
+// The ground that every other crate stands on: bytes and bits, valuations, the 16-byte tables that are read
+// at them, and runs of bytes written into a lent room as far as it goes. It refuses nothing; its specs say
+// what a bit, a digit and a table are, and its proofs hold the laws that the other crates cite.
 mod bytes;
 
 pub use bytes::copy;
