@@ -71,7 +71,8 @@ pub extern "C" fn pj_find(
     ranks: &mut [u8],
     plan: &mut [u8],
 ) -> u64
-    ensures { λ r. ⌜ PlanFound (now (book .entry)) (asked team known values) (goalOf (now (make .entry)) (now (learn .entry))) (now (ranks .entry)) (now (plan .entry)) r (now (ranks .exit)) (now (plan .exit)) ⌝ }
+    ensures { λ r. ⌜ PlanFound (now (book .entry)) (asked team known values) (goalOf (now (make .entry)) (now (learn .entry)))
+        (now (ranks .entry)) (now (plan .entry)) r (now (ranks .exit)) (now (plan .exit)) ⌝ }
 {
     let question = Question {
         team,

@@ -182,7 +182,13 @@ module _ {n : ℕ} {sets looks : List (List ℕ)} {ranks : List ℕ} {S : System
             | inl y ↦ absurd (f x y (postOf c) (subst (Lower S ranks k) (sym here) m))
             | inr y ↦ elim (lt-or-ge p x) [
               | inl z ↦ omega (arith, bc, bp, told .law .post-of k (family p q) (l .allowed), post-family p q)
-              | inr z ↦ (let same : x ≡ p = omega arith in omega (arith, bc, bp, least (postOf c) (subst (λ (y : ℕ). Lower S ranks k (family y (postOf c))) same (subst (Lower S ranks k) (sym here) m))))
+              | inr z ↦ (let same : x ≡ p = omega arith in
+                  omega (
+                    arith,
+                    bc,
+                    bp,
+                    least (postOf c) (subst (λ (y : ℕ). Lower S ranks k (family y (postOf c))) same (subst (Lower S ranks k) (sym here) m)),
+                  ))
             ]
           ]
 

@@ -68,7 +68,12 @@ module _ (book : List ℕ) (q : Question) (goal : Goal) (ranks plan r x : List �
       let S = systemOf k book q goal in
       let s = g .1 in
       let rank = has-rank (lawful d) (startOf q) in
-      absurd (omega (arith, s .2, written-most (lawful d) (few d) (startOf q) (s .0) (rank .0) (s .1) (rank .1) (rank-reach (lawful d) (startOf q) (rank .0) (few d) (rank .1) .1 (s .0, written-works S (s .0) (startOf q) (s .1)))))
+      absurd (omega (
+        arith,
+        s .2,
+        written-most (lawful d) (few d) (startOf q) (s .0) (rank .0) (s .1) (rank .1)
+            (rank-reach (lawful d) (startOf q) (rank .0) (few d) (rank .1) .1 (s .0, written-works S (s .0) (startOf q) (s .1))),
+      ))
 
   -- and one for which none works is answered "cannot", whatever the plan room
   pub none-cannot : {n m : ℕ} (a : Answer) → ValidQuestion book q goal n m → 7 ^ n ≤ length ranks

@@ -56,7 +56,9 @@ pub fn write(
     at: usize,
 ) -> usize
     requires { ⌜ Ranked n (now set) (now look) (now ranks) k × PlanFits n (now set) (now look) (now ranks) k at (length (now room)) ⌝ }
-    ensures { λ r. ⌜ ((S : System) → TablesTell n (now (set .entry)) (now (look .entry)) (now (ranks .entry)) S → (p : Plan) × Written S k p × (now (room .exit) ≡ sets (now (room .entry)) at (encode p)) × (r ≡ at + length (encode p))) ⌝ }
+    ensures { λ r. ⌜ ((S : System) → TablesTell n (now (set .entry)) (now (look .entry)) (now (ranks .entry)) S →
+        (p : Plan) × Written S k p × (now (room .exit) ≡ sets (now (room .entry)) at (encode p))
+        × (r ≡ at + length (encode p))) ⌝ }
 {
     match choose(n, set, look, ranks, k) {
         Step::Stop => {

@@ -162,4 +162,7 @@ alive-begins s a = finish-state (run (wants 0) s) s a (run-means s (wants 0) [] 
 
 -- no sentence begins with a text that leaves it dead
 pub dead-begins : (s : List ℕ) → run (wants 0) s ≡ dead → Begins s → ⊥
-dead-begins s e b = let z : has 0 ≡ dead = sym (run-text (b .sentence) 0) ∙ ap (run (wants 0)) (b .written) ∙ run-append s (b .rest) (wants 0) ∙ ap (λ (st : State). run st (b .rest)) e ∙ run-dead (b .rest) in let y : _≡_ {A = ℕ} 0 1 = cc in omega arith
+dead-begins s e b =
+    let z : has 0 ≡ dead = sym (run-text (b .sentence) 0) ∙ ap (run (wants 0)) (b .written) ∙ run-append s (b .rest) (wants 0)
+    ∙ ap (λ (st : State). run st (b .rest)) e ∙ run-dead (b .rest) in
+    let y : _≡_ {A = ℕ} 0 1 = cc in omega arith

@@ -74,7 +74,8 @@ same (one-product a) (product-or b q) x y m n e =
 same (product-or a p) (one-product b) x y m n e =
     absurd (n .1 (ap (λ (l : List ℕ). getD l 0 0) (sym (same a b (124 ∷ text p ++ x) y (λ z. omega (arith, z)) (n .0) (sym (append-assoc (text a) (124 ∷ text p) x) ∙ e) .1))))
 same (product-or a p) (product-or b q) x y m n e =
-    (let r = same a b (124 ∷ text p ++ x) (124 ∷ text q ++ y) (λ z. omega (arith, z)) (λ z. omega (arith, z)) (sym (append-assoc (text a) (124 ∷ text p) x) ∙ e ∙ append-assoc (text b) (124 ∷ text q) y) in
+    (let r = same a b (124 ∷ text p ++ x) (124 ∷ text q ++ y) (λ z. omega (arith, z)) (λ z. omega (arith, z))
+    (sym (append-assoc (text a) (124 ∷ text p) x) ∙ e ∙ append-assoc (text b) (124 ∷ text q) y) in
     let s = same p q x y m n (tails (r .1)) in (λ v. ap₂ _||_ (r .0 v) (s .0 v), s .1))
 
 -- two sentences with one text have one meaning

@@ -97,7 +97,10 @@ pub bracketed-read : {s : List ℕ} {i : ℕ} {w : Truths} {next : ℕ} → getD
 unfolding text meaning stops
 bracketed-read {s} {i} {w} {next} e p c = record {
   sentence = bracketed (p .sentence);
-  spans = from-byte s i 39 e ∙ ap (λ (t : List ℕ). 40 ∷ t) (p .spans ∙ ap (λ (t : List ℕ). text (p .sentence) ++ t) (from-byte s next 40 c) ∙ sym (append-assoc (text (p .sentence)) (41 ∷ []) (drop (next + 1) s)));
+  spans = from-byte s i 39 e
+      ∙ ap (λ (t : List ℕ). 40 ∷ t)
+      (p .spans ∙ ap (λ (t : List ℕ). text (p .sentence) ++ t) (from-byte s next 40 c)
+      ∙ sym (append-assoc (text (p .sentence)) (41 ∷ []) (drop (next + 1) s)));
   until = omega (arith, p .until, length-append (text (p .sentence)) (41 ∷ []));
   holds = p .holds;
   stopped = tt;

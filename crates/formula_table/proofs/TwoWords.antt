@@ -120,7 +120,9 @@ mask-holds n h = by-test (words (getD masks n 0) 0) (below n) (all-at 6 mask-tes
 pub within-low : (a : Truths) (n : ℕ) → n < 6 → WordsOf (words (bitAnd (a .low) (getD masks n 0)) 0) (λ v. has a v && below n v)
 unfolding WordsOf has
 within-low a n h v l =
-    ap₂ (cond (ltb v 64)) (bit-and (a .low) (getD masks n 0) v) (bit-of-zero (v - 64) ∙ sym (and-false (bit (a .high) (v - 64))) ∙ ap (λ (x : Bool). bit (a .high) (v - 64) && x) (sym (bit-of-zero (v - 64))))
+    ap₂ (cond (ltb v 64)) (bit-and (a .low) (getD masks n 0) v)
+    (bit-of-zero (v - 64) ∙ sym (and-false (bit (a .high) (v - 64)))
+    ∙ ap (λ (x : Bool). bit (a .high) (v - 64) && x) (sym (bit-of-zero (v - 64))))
     ∙ picked _&&_ (ltb v 64) (bit (a .low) v) (bit (getD masks n 0) v) (bit (a .high) (v - 64)) (bit 0 (v - 64))
     ∙ ap (λ (x : Bool). has a v && x) (mask-holds n h v l)
 
@@ -170,7 +172,9 @@ table-of {n} {f} w {u} {t} h hw hu b = record {
 }
 
 -- one more byte stored
-pub stored : (w : Truths) (t : List ℕ) (j x : ℕ) → length t ≡ 16 → j < 16 → ((k : ℕ) → k < j → getD t k 0 ≡ wordsByte w k) → x ≡ wordsByte w j → (k : ℕ) → k < j + 1 → getD (set t j x) k 0 ≡ wordsByte w k
+pub stored :
+    (w : Truths) (t : List ℕ) (j x : ℕ) → length t ≡ 16 → j < 16 → ((k : ℕ) → k < j → getD t k 0 ≡ wordsByte w k) → x ≡ wordsByte w j →
+    (k : ℕ) → k < j + 1 → getD (set t j x) k 0 ≡ wordsByte w k
 stored w t j x n h f e k l = elim (lt-or-ge k j) [
   | inl m ↦ getD-set-other t j k x 0 (λ q. omega arith) ∙ f k m
   | inr m ↦ (let same : k ≡ j = omega arith in rw same (getD-set-same t j x 0 (omega arith) ∙ e))

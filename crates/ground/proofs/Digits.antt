@@ -3,7 +3,8 @@
 -- Assumes nothing.
 use mathlib.Core.Path.{_≡_, refl, sym, _∙_, ap}
 use Prim.Native.Nat.{ℕ, zero, suc, _+_, _*_, _/_, _%_, _^_, _<_}
-use native.Mathlib.Nat.{pow-zero, pow-suc, mod-lt, div-add-mod', div-lt-iff-lt-mul, div-eq-of-lt, zero-mod, mul-one, mul-assoc, add-mul, le-of-suc-le-suc, not-suc-le-zero, one-le-pow, pow-succ', mod-eq-of-lt}
+use native.Mathlib.Nat.{pow-zero, pow-suc, mod-lt, div-add-mod', div-lt-iff-lt-mul, div-eq-of-lt, zero-mod, mul-one, mul-assoc, add-mul}
+use native.Mathlib.Nat.{le-of-suc-le-suc, not-suc-le-zero, one-le-pow, pow-succ', mod-eq-of-lt}
 use native.Mathlib.Omega.{arith}
 use lib.Arith.{digits-lt, digits-div, digits-mod, mod-mul}
 use Rattle.ground.specs.Digits.{digit, put}

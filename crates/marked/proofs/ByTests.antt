@@ -40,7 +40,9 @@ least-from S k h p (inr n) w = absurd (n .1 p (written-works S p k w))
 
 -- it is valid, and its start is one of the states (who names it on an `unfolding` line unfolds all of a question, so that its tests compute)
 unfoldable pub starts : Case → List ℕ → Bool
-unfolding well startOf sumOf firstAt firstDigit elem systemOf goalSettled allSettled learnTable offered permitted known learnSettled always fits agrees startTold nowTold afterSet afterLook setTo lookAt digit put bit truth all rule rulePlace tablePlace byteOf bookOf headBlock settingBlocks settingBlock sealed checkBytes bytes16 inOrder tablesOf
+unfolding well startOf sumOf firstAt firstDigit elem systemOf goalSettled allSettled learnTable offered permitted known learnSettled always
+    fits agrees startTold nowTold afterSet afterLook setTo lookAt digit put bit truth all rule rulePlace tablePlace byteOf bookOf headBlock
+    settingBlocks settingBlock sealed checkBytes bytes16 inOrder tablesOf
 starts c states = well c && elem (startIn c) states
 
 module _ (c : Case) (states : List ℕ) (t : T (starts c states)) where

@@ -7,5 +7,43 @@ use Rattle.marked.proofs.SheetRows.{p6-prints, p7-prints, p8a-prints, p
 use Rattle.marked.proofs.BookRows.{p13-first, p13-second}
 
 pub marked : All examples
-marked =
-    (p1, (p2, (p3, (p4, (p5, (p6-row, (p6-prints, (p7-row, (p7-prints, (p8a-row, (p8a-prints, (p8c-row, (p8c-prints, (p9-row, (p10-row, (p11-row, (p12-row, (p13-first, (p13-second, (nothing-prints, (six-prints, tt)))))))))))))))))))))
+marked = (
+  p1,
+  (
+    p2,
+    (
+      p3,
+      (
+        p4,
+        (
+          p5,
+          (
+            p6-row,
+            (
+              p6-prints,
+              (
+                p7-row,
+                (
+                  p7-prints,
+                  (
+                    p8a-row,
+                    (
+                      p8a-prints,
+                      (
+                        p8c-row,
+                        (
+                          p8c-prints,
+                          (p9-row, (p10-row, (p11-row, (p12-row, (p13-first, (p13-second, (nothing-prints, (six-prints, tt)))))))),
+                        ),
+                      ),
+                    ),
+                  ),
+                ),
+              ),
+            ),
+          ),
+        ),
+      ),
+    ),
+  ),
+)

@@ -147,7 +147,10 @@ one-post (suc q) = bit-suc 1 q ∙ bit-of-zero q ∙ sym (ap (λ (a : Bool). a |
 meanings : (sheetMeaning (bytes p7-sheet) ≡ stated (sheet (0 ∷ []) []))
     × (sheetMeaning (bytes p8a-sheet) ≡ stated (sheet (0 ∷ 1 ∷ []) (bytes "a" ∷ [])))
     × (sheetMeaning (bytes p8c-sheet) ≡ stated (sheet (0 ∷ 1 ∷ []) (bytes "c" ∷ [])))
-unfolding isLetter isSign isStray isPast isAtom step verdict sentenceAnswer foreignAnswer formulaAnswer sameRight concerns isStated knownSettings onto split begins among isSetting isPost isSize digitAt isRule ruleOf isFalse bare isName allNames indexOf indexes nameWords isNames isTeam teamOf isKnown knownBy knownOf twice unlessRefused sized withRule withTeam withKnown withMake withAsk sizeStep ruleStep teamStep knownStep makeStep askStep rightsStep lines firstLine sheetMeaning
+unfolding isLetter isSign isStray isPast isAtom step verdict sentenceAnswer foreignAnswer formulaAnswer sameRight concerns isStated
+    knownSettings onto split begins among isSetting isPost isSize digitAt isRule ruleOf isFalse bare isName allNames indexOf indexes
+    nameWords isNames isTeam teamOf isKnown knownBy knownOf twice unlessRefused sized withRule withTeam withKnown withMake withAsk sizeStep
+    ruleStep teamStep knownStep makeStep askStep rightsStep lines firstLine sheetMeaning
 meanings = (refl, refl, refl)
 
 pub p6-prints : RowHolds (prints p6-sheet p6-printed)

@@ -84,7 +84,8 @@ module _ {d : Desk} (x : Whole d) where
   unfolding bookIn
   desk-written room after a size wrote =
       let book = bookOf (d .rules .settings) (d .rules .posts) (rightsIn d) in
-      let same = writes-one (d .rules .settings) (d .rules .posts) (rightsIn d) room a BookWritten after (book ++ drop (512 * (1 + d .rules .settings)) room) wrote (desk-writable, omega (arith, x .holds .rules .settings-most), refl) in
+      let same = writes-one (d .rules .settings) (d .rules .posts) (rightsIn d) room a BookWritten after
+      (book ++ drop (512 * (1 + d .rules .settings)) room) wrote (desk-writable, omega (arith, x .holds .rules .settings-most), refl) in
       ap (take (512 * (1 + d .rules .settings))) (same .1)
       ∙ take-at book (drop (512 * (1 + d .rules .settings)) room) (512 * (1 + d .rules .settings)) book-length
 

@@ -111,7 +111,8 @@ small-later : (o : Meaning) (a b : ℕ) → a ≤ b → Small a o → Small b o
 small-later (refused r line) a b l h = omega (arith, h)
 small-later (stated v) a b l h = h
 
-small-after : (L k : ℕ) (pieces : List (List ℕ)) (st : Step) → SmallStep st → ((due : Due) (v : Sheet) → v .size .settings ≤ 5 → Small (suc L + k) (lines (suc L) due v pieces)) → Small (suc L + k) (after L pieces st)
+small-after : (L k : ℕ) (pieces : List (List ℕ)) (st : Step) → SmallStep st →
+    ((due : Due) (v : Sheet) → v .size .settings ≤ 5 → Small (suc L + k) (lines (suc L) due v pieces)) → Small (suc L + k) (after L pieces st)
 small-after L k pieces (fault r) h f = omega arith
 small-after L k pieces (next due v) h f = f due v h
 

@@ -199,7 +199,9 @@ module _ (rules : List Rule) (d : RulesDesk) (size : Size) (h : RulesOnDesk size
         (h .tables right i q x y)
   ]
 
-  rules-after : RulesOnDesk size (rules ++ (r ∷ [])) (rulesLaid (d .settings) (d .posts) (sets (d .rights) (16 * slotOf (r .right) (r .setting) (r .post)) t) (set (d .stated) (slotOf (r .right) (r .setting) (r .post)) 1))
+  rules-after : RulesOnDesk size (rules ++ (r ∷ []))
+      (rulesLaid (d .settings) (d .posts) (sets (d .rights) (16 * slotOf (r .right) (r .setting) (r .post)) t)
+      (set (d .stated) (slotOf (r .right) (r .setting) (r .post)) 1))
   unfolding own
   rules-after = record {
     settings = h .settings;

@@ -20,7 +20,10 @@ pub sheets-computed :
     -- "Input: ..", paper 01's sheet
     (sheetMeaning (bytes "size 3 2\nwrite a 2 ~c\nwrite b 1 a\nread c 2 1\nwrite c 2 c\nteam 1 2\nknown\nmake b\n") ≡ stated (record {
       size = sizeOf 3 2;
-      rules = record { right = Set; setting = 0; post = 1; text = bytes "~c" } ∷ record { right = Set; setting = 1; post = 0; text = bytes "a" } ∷ record { right = Look; setting = 2; post = 1; text = bytes "1" } ∷ record { right = Set; setting = 2; post = 1; text = bytes "c" } ∷ [];
+      rules =
+          record { right = Set; setting = 0; post = 1; text = bytes "~c" } ∷ record { right = Set; setting = 1; post = 0; text = bytes "a" }
+          ∷ record { right = Look; setting = 2; post = 1; text = bytes "1" } ∷ record { right = Set; setting = 2; post = 1; text = bytes "c" }
+          ∷ [];
       asked = record { team = 0 ∷ 1 ∷ []; known = []; make = bytes "b"; asks = [] };
     }))
     -- "A sheet that ends early gets 22 one past its last line."
@@ -49,5 +52,8 @@ pub sheets-computed :
     × (sheetMeaning (bytes "size 1 1\nteam 1\nknown\nmake a \n") ≡ refused (StrayByte 1) 4)
     -- "up to four `ask F`"
     × (sheetMeaning (bytes "size 1 1\nteam 1\nknown\nmake 1\nask a\nask a\nask a\nask a\nask a\n") ≡ refused (Malformed 9) 9)
-unfolding isLetter isSign isStray isPast isAtom step verdict sentenceAnswer foreignAnswer formulaAnswer sameRight concerns isStated knownSettings onto split begins among isSetting isPost isSize digitAt isRule ruleOf isFalse bare isName allNames indexOf indexes nameWords isNames isTeam teamOf isKnown knownBy knownOf twice unlessRefused sized withRule withTeam withKnown withMake withAsk sizeStep ruleStep teamStep knownStep makeStep askStep rightsStep lines firstLine sheetMeaning
+unfolding isLetter isSign isStray isPast isAtom step verdict sentenceAnswer foreignAnswer formulaAnswer sameRight concerns isStated
+    knownSettings onto split begins among isSetting isPost isSize digitAt isRule ruleOf isFalse bare isName allNames indexOf indexes
+    nameWords isNames isTeam teamOf isKnown knownBy knownOf twice unlessRefused sized withRule withTeam withKnown withMake withAsk sizeStep
+    ruleStep teamStep knownStep makeStep askStep rightsStep lines firstLine sheetMeaning
 sheets-computed = (refl, refl, refl, refl, refl, refl, refl, refl, refl, refl, refl, refl, refl, refl, refl)

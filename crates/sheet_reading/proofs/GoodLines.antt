@@ -53,7 +53,9 @@ rules-fit-snoc : (n m : ℕ) (rs : List Rule) (r : Rule) → RulesFit n m rs →
 rules-fit-snoc n m [] r h k = (k, tt)
 rules-fit-snoc n m (x ∷ rs) r h k = (h .0, rules-fit-snoc n m rs r (h .1) k)
 
-rule-good : (L : ℕ) (v : Sheet) (right : Right) (line : List ℕ) → Begun v → InLine line → T (isRule (word right) (v .size .settings) (v .size .posts) line) → Good L (toRights v ++ ended line) (ruleStep L v (ruleOf (word right) right line))
+rule-good : (L : ℕ) (v : Sheet) (right : Right) (line : List ℕ) → Begun v → InLine line →
+    T (isRule (word right) (v .size .settings) (v .size .posts) line) →
+    Good L (toRights v ++ ended line) (ruleStep L v (ruleOf (word right) right line))
 unfolding ruleStep withRule toRights rulesText ruleOf
 rule-good L v right line b i h =
     let s : List ℕ = toRights v ++ ended line in
@@ -92,7 +94,9 @@ rights-good L v line b i =
     (ruleStep L v (ruleOf (bytes "read ") Look line)) (ruleStep L v (ruleOf (bytes "write ") Set line)) (teamStep L v line)
     (rule-good L v Look line b i) (rule-good L v Set line b i) (team-good L v line b)
   where
-    by-form : (look set? : Bool) (x y z : Step) → (T look → Good L (toRights v ++ ended line) x) → (T set? → Good L (toRights v ++ ended line) y) → Good L (toRights v ++ ended line) z → Good L (toRights v ++ ended line) (rightOrTeam look x set? y z)
+    by-form :
+        (look set? : Bool) (x y z : Step) → (T look → Good L (toRights v ++ ended line) x) → (T set? → Good L (toRights v ++ ended line) y) →
+        Good L (toRights v ++ ended line) z → Good L (toRights v ++ ended line) (rightOrTeam look x set? y z)
     by-form true set? x y z f g h = f tt
     by-form false true x y z f g h = g tt
     by-form false false x y z f g h = h
@@ -149,7 +153,10 @@ ask-good L v line b i =
           asks-most = rw (length-append (v .asked .asks) (F ∷ [])) (omega arith);
         };
       },
-      ap (_++_ before) (asks-snoc (v .asked .asks) F ∙ ap (λ (l : List ℕ). askLines (v .asked .asks) ++ ended l) (sym (begins-written (bytes "ask ") line (and-left (begins (bytes "ask ") line) (ltb (length (v .asked .asks)) 4) h))))
+      ap (_++_ before)
+          (asks-snoc (v .asked .asks) F
+          ∙ ap (λ (l : List ℕ). askLines (v .asked .asks) ++ ended l)
+          (sym (begins-written (bytes "ask ") line (and-left (begins (bytes "ask ") line) (ltb (length (v .asked .asks)) 4) h))))
           ∙ sym (append-assoc before (askLines (v .asked .asks)) (ended line)),
     ))
 

@@ -70,7 +70,10 @@ right-step : (L : ℕ) (v : Sheet) (r : Rule) → r .setting < v .size .settings
 unfolding rightsStep ruleLine word isRule begins
 right-step L v r i q = let form = rule-read (v .size .settings) (v .size .posts) r i q in by-right (r .right) (r .setting) (r .post) (r .text) (form .0) (form .1)
   where
-    by-right : (right : Right) (i q : ℕ) (F : List ℕ) → (let r : Rule = record { right = right; setting = i; post = q; text = F } in T (isRule (word right) (v .size .settings) (v .size .posts) (ruleLine r)) → ruleOf (word right) right (ruleLine r) ≡ r → rightsStep L v (ruleLine r) ≡ ruleStep L v r)
+    by-right : (right : Right) (i q : ℕ) (F : List ℕ) →
+        (let r : Rule = record { right = right; setting = i; post = q; text = F } in
+        T (isRule (word right) (v .size .settings) (v .size .posts) (ruleLine r)) → ruleOf (word right) right (ruleLine r) ≡ r →
+        rightsStep L v (ruleLine r) ≡ ruleStep L v r)
     by-right Look i q F t e =
         rw (T→true (isRule (bytes "read ") (v .size .settings) (v .size .posts) (ruleLine (record { right = Look; setting = i; post = q; text = F }))) t) (ap (ruleStep L v) e)
     by-right Set i q F t e =
@@ -91,7 +94,9 @@ module _ (w : Sheet) (h : WellFormed w) where
   make-fine : (L : ℕ) → Fine w (lines L Make (knowing w) (split newline (ended (makeLine (w .asked .make)) ++ askLines (w .asked .asks))))
   unfolding makeStep begins withMake makeLine
   make-fine L =
-      subst (Fine w) (sym (lines-split L Make (knowing w) (makeLine (w .asked .make)) (askLines (w .asked .asks)) (clear-append 10 (bytes "make ") (w .asked .make) (omega arith) (line-clear (w .asked .make) (h .well-asked .make)))))
+      subst (Fine w)
+      (sym (lines-split L Make (knowing w) (makeLine (w .asked .make)) (askLines (w .asked .asks))
+      (clear-append 10 (bytes "make ") (w .asked .make) (omega arith) (line-clear (w .asked .make) (h .well-asked .make)))))
       (fine-refused w L (split newline (askLines (w .asked .asks))) (w .size .settings) (w .asked .make) (next Asks (asking w []))
       (asks-fine (w .asked .asks) [] (suc L) (h .well-asked .asks) refl))
 
@@ -105,7 +110,12 @@ module _ (w : Sheet) (h : WellFormed w) where
       (fine-unless w L (split newline rest) (not (twice (λ i. false) (knownSettings (w .asked .known)))) (Twice L) (next Make (knowing w)) (λ e. omega (arith, e))
       (make-fine (suc L))))
 
-  team-fine : (L : ℕ) → Fine w (lines L Rights (ruled w (w .rules)) (split newline (ended (teamLine (w .asked .team)) ++ (ended (knownLine (w .asked .known)) ++ (ended (makeLine (w .asked .make)) ++ askLines (w .asked .asks))))))
+  team-fine : (L : ℕ) →
+      Fine w
+      (lines L Rights (ruled w (w .rules))
+      (split newline
+      (ended (teamLine (w .asked .team))
+      ++ (ended (knownLine (w .asked .known)) ++ (ended (makeLine (w .asked .make)) ++ askLines (w .asked .asks))))))
   unfolding rightsStep isRule begins teamLine teamStep withTeam
   team-fine L =
       let rest : List ℕ = ended (knownLine (w .asked .known)) ++ (ended (makeLine (w .asked .make)) ++ askLines (w .asked .asks)) in
@@ -115,7 +125,9 @@ module _ (w : Sheet) (h : WellFormed w) where
       (fine-unless w L (split newline rest) (not (twice (λ i. false) (w .asked .team))) (Twice L) (next Known (teamed w)) (λ e. omega (arith, e))
       (known-fine (suc L))))
 
-  rules-fine : (rs done : List Rule) (L : ℕ) (rest : List ℕ) → RulesFit (w .size .settings) (w .size .posts) rs → done ++ rs ≡ w .rules → ((K : ℕ) → Fine w (lines K Rights (ruled w (w .rules)) (split newline rest))) → Fine w (lines L Rights (ruled w done) (split newline (ruleLines rs ++ rest)))
+  rules-fine : (rs done : List Rule) (L : ℕ) (rest : List ℕ) → RulesFit (w .size .settings) (w .size .posts) rs → done ++ rs ≡ w .rules →
+      ((K : ℕ) → Fine w (lines K Rights (ruled w (w .rules)) (split newline rest))) →
+      Fine w (lines L Rights (ruled w done) (split newline (ruleLines rs ++ rest)))
   unfolding ruleLines ruleStep withRule
   rules-fine [] done L rest i e f = subst (λ (rs : List Rule). Fine w (lines L Rights (ruled w rs) (split newline rest))) (sym e ∙ append-nil done) (f L)
   rules-fine (r ∷ rs) done L rest i e f =
@@ -125,7 +137,8 @@ module _ (w : Sheet) (h : WellFormed w) where
       (sym (ap (λ (s : List ℕ). lines L Rights v (split newline s)) (append-assoc (ended (ruleLine r)) (ruleLines rs) rest)
       ∙ lines-split L Rights v (ruleLine r) others (rule-clear r (line-clear (r .text) (i .0 .2)))
       ∙ ap (after L (split newline others)) (right-step L v r (i .0 .0) (i .0 .1))))
-      (fine-unless w L (split newline others) (not (isStated done (r .right) (r .setting) (r .post))) (Twice L) (unlessRefused (w .size .settings) (r .text) (next Rights (withRule v r))) (λ e. omega (arith, e))
+      (fine-unless w L (split newline others) (not (isStated done (r .right) (r .setting) (r .post))) (Twice L)
+      (unlessRefused (w .size .settings) (r .text) (next Rights (withRule v r))) (λ e. omega (arith, e))
       (fine-refused w L (split newline others) (w .size .settings) (r .text) (next Rights (withRule v r))
       (rules-fine rs (done ++ r ∷ []) (suc L) rest (i .1) (append-assoc done (r ∷ []) rs ∙ e) f)))
 

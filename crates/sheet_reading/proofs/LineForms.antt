@@ -78,7 +78,8 @@ size-clear n m = omega arith
 
 -- ---- `read P G F` and `write P G F`
 
-pub rule-written : (right : Right) (n m : ℕ) (line : List ℕ) → T (isRule (word right) n m line) → (let r : Rule = ruleOf (word right) right line in (r .setting < n) × (r .post < m) × (line ≡ ruleLine r))
+pub rule-written : (right : Right) (n m : ℕ) (line : List ℕ) → T (isRule (word right) n m line) →
+    (let r : Rule = ruleOf (word right) right line in (r .setting < n) × (r .post < m) × (line ≡ ruleLine r))
 unfolding isRule ruleOf ruleLine isSetting isPost
 rule-written right n m line h =
     let w : List ℕ = word right in
@@ -101,7 +102,9 @@ rule-read n m r h k =
     let b = T→true (among 49 m (49 + r .post)) (among-in 49 m (49 + r .post) (omega arith) (omega arith)) in
     by-right (r .right) (r .setting) (r .post) (r .text) a b
   where
-    by-right : (right : Right) (i q : ℕ) (F : List ℕ) → among 97 n (97 + i) ≡ true → among 49 m (49 + q) ≡ true → (let line : List ℕ = ruleLine (record { right = right; setting = i; post = q; text = F }) in T (isRule (word right) n m line) × (ruleOf (word right) right line ≡ record { right = right; setting = i; post = q; text = F }))
+    by-right : (right : Right) (i q : ℕ) (F : List ℕ) → among 97 n (97 + i) ≡ true → among 49 m (49 + q) ≡ true →
+        (let line : List ℕ = ruleLine (record { right = right; setting = i; post = q; text = F }) in
+        T (isRule (word right) n m line) × (ruleOf (word right) right line ≡ record { right = right; setting = i; post = q; text = F }))
     by-right Look i q F a b = (rw (a, b) tt, ap₂ (λ (x y : ℕ). record { right = Look; setting = x; post = y; text = F }) (omega arith) (omega arith))
     by-right Set i q F a b = (rw (a, b) tt, ap₂ (λ (x y : ℕ). record { right = Set; setting = x; post = y; text = F }) (omega arith) (omega arith))
 

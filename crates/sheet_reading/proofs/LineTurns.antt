@@ -38,7 +38,9 @@ module _ (sheet : Sheet) (d : Desk) (h : OnDesk sheet d) (line : List ℕ) (L : 
   ask-fifth e m = ask-by L sheet line true false e (le-ltb (length (sheet .asked .asks)) 4 (omega (arith, h .asked .asks)))
 
   -- the formula behind the word, read for the desk's settings, is the sheet's
-  behind : (k : ℕ) (st : Step) (t : Taken) (x : Desk) → Steps (unlessRefused (d .rules .settings) (take (length line - k) (drop k line)) st) t x → Steps (unlessRefused (sheet .size .settings) (drop k line) st) t x
+  behind :
+      (k : ℕ) (st : Step) (t : Taken) (x : Desk) → Steps (unlessRefused (d .rules .settings) (take (length line - k) (drop k line)) st) t x →
+      Steps (unlessRefused (sheet .size .settings) (drop k line) st) t x
   behind k st t x s = subst (λ (n : ℕ). Steps (unlessRefused n (drop k line) st) t x) (h .rules .settings) (subst (λ (F : List ℕ). Steps (unlessRefused (d .rules .settings) F st) t x) (tail line k) s)
 
   accepts-behind : (k : ℕ) (t : List ℕ) → Accepts (d .rules .settings) (take (length line - k) (drop k line)) t → Accepts (d .rules .settings) (drop k line) t
@@ -46,14 +48,17 @@ module _ (sheet : Sheet) (d : Desk) (h : OnDesk sheet d) (line : List ℕ) (L : 
 
   module _ (r : Taken) (x : Desk) where
     pub make-read : begins (bytes "make ") line ≡ true
-        → ((v : Sheet) → ((t : List ℕ) → Accepts (d .rules .settings) (take (length line - 5) (drop 5 line)) t → OnDesk v (makeDesk d t)) → Steps (unlessRefused (d .rules .settings) (take (length line - 5) (drop 5 line)) (next Asks v)) r x)
+        → ((v : Sheet) → ((t : List ℕ) → Accepts (d .rules .settings) (take (length line - 5) (drop 5 line)) t → OnDesk v (makeDesk d t)) →
+        Steps (unlessRefused (d .rules .settings) (take (length line - 5) (drop 5 line)) (next Asks v)) r x)
         → Steps (makeStep L sheet line) r x
     make-read e f =
         subst (λ (s : Step). Steps s r x) (sym (make-by L sheet line true e))
         (behind 5 (next Asks (withMake sheet (drop 5 line))) r x (f (withMake sheet (drop 5 line)) (λ t a. holds-make sheet d h (drop 5 line) t (accepts-behind 5 t a))))
 
     pub ask-read : begins (bytes "ask ") line ≡ true → d .asked .asks < 4
-        → ((v : Sheet) → ((t : List ℕ) → Accepts (d .rules .settings) (take (length line - 4) (drop 4 line)) t → OnDesk v (learnDesk d t)) → Steps (unlessRefused (d .rules .settings) (take (length line - 4) (drop 4 line)) (next Asks v)) r x)
+        → ((v : Sheet) →
+        ((t : List ℕ) → Accepts (d .rules .settings) (take (length line - 4) (drop 4 line)) t → OnDesk v (learnDesk d t)) →
+        Steps (unlessRefused (d .rules .settings) (take (length line - 4) (drop 4 line)) (next Asks v)) r x)
         → Steps (askStep L sheet line) r x
     ask-read e few f =
         subst (λ (s : Step). Steps s r x) (sym (ask-by L sheet line true true e (lt-ltb (length (sheet .asked .asks)) 4 (omega (arith, h .asked .asks)))))

@@ -57,7 +57,8 @@ module _ (s : List ℕ) (at r L : ℕ) (due : Due) (sheet : Sheet) (p : PieceEnd
   pub rest-faults : {x : Refusal} → r < length s → step L due sheet (part s at r) ≡ fault x → lines L due sheet (split newline (drop at s)) ≡ refused x L
   rest-faults h e = ap (lines L due sheet) (p .more h) ∙ lines-on L due sheet (part s at r) (drop (suc r) s) ∙ ap (after L (split newline (drop (suc r) s))) e
 
-  pub rest-goes-on : {d : Due} {v : Sheet} → r < length s → step L due sheet (part s at r) ≡ next d v → lines L due sheet (split newline (drop at s)) ≡ lines (suc L) d v (split newline (drop (suc r) s))
+  pub rest-goes-on : {d : Due} {v : Sheet} → r < length s → step L due sheet (part s at r) ≡ next d v →
+      lines L due sheet (split newline (drop at s)) ≡ lines (suc L) d v (split newline (drop (suc r) s))
   rest-goes-on h e = ap (lines L due sheet) (p .more h) ∙ lines-on L due sheet (part s at r) (drop (suc r) s) ∙ ap (after L (split newline (drop (suc r) s))) e
 
 -- ---- the whole

@@ -53,7 +53,11 @@ module _ (before : List ℕ) (run : List ℕ → Meaning) (K : ℕ) (b : BeginsS
   }
 
   -- in a line, or after it
-  at-step : (line : List ℕ) (st : Step) (another : List ℕ) (more : List (List ℕ)) → Good K (before ++ ended line) st → ((rest : List ℕ) → run (ended line ++ rest) ≡ after K (split newline rest) st) → ((d : Due) (u : Sheet) → WellSoFar d u → Placed (soFar d u) (another ∷ more) (λ s. lines (suc K) d u (split newline s)) (suc K) (lines (suc K) d u (another ∷ more))) → Placed before (line ∷ another ∷ more) run K (after K (another ∷ more) st)
+  at-step : (line : List ℕ) (st : Step) (another : List ℕ) (more : List (List ℕ)) → Good K (before ++ ended line) st →
+      ((rest : List ℕ) → run (ended line ++ rest) ≡ after K (split newline rest) st) →
+      ((d : Due) (u : Sheet) → WellSoFar d u →
+      Placed (soFar d u) (another ∷ more) (λ s. lines (suc K) d u (split newline s)) (suc K) (lines (suc K) d u (another ∷ more))) →
+      Placed before (line ∷ another ∷ more) run K (after K (another ∷ more) st)
   unfolding allEnded
   at-step line (fault r) another more g e f = record {
     taken = 0;
@@ -81,7 +85,8 @@ module _ (before : List ℕ) (run : List ℕ → Meaning) (K : ℕ) (b : BeginsS
           }
       onward (stated w) a = tt
 
-lines-placed : (more : List (List ℕ)) (line : List ℕ) (K : ℕ) (due : Due) (v : Sheet) → AllClear newline (line ∷ more) → WellSoFar due v → Placed (soFar due v) (line ∷ more) (λ s. lines K due v (split newline s)) K (lines K due v (line ∷ more))
+lines-placed : (more : List (List ℕ)) (line : List ℕ) (K : ℕ) (due : Due) (v : Sheet) → AllClear newline (line ∷ more) → WellSoFar due v →
+    Placed (soFar due v) (line ∷ more) (λ s. lines K due v (split newline s)) K (lines K due v (line ∷ more))
 unfolding lines
 lines-placed [] rest K due v c h = by-due due v rest h
   where

@@ -20,7 +20,8 @@ use Rattle.sheet_reading.specs.Steps.{Step, fault, next, unless, unlessA
 use Rattle.sheet_reading.specs.declared.desk.Due.{Due}
 use Rattle.sheet_reading.specs.declared.desk.Due.the-variants.{Rights, Known, Make, Asks}
 use Rattle.sheet_reading.specs.LineSteps.{withMake}
-use Rattle.sheet_reading.specs.Grammar.{ended, sizeText, ruleLines, teamLine, knownLine, makeLine, askLines, rulesText, askedText, sheetText, InLine, RulesFit, PostsFit, KnownFit, AsksFit, WellRuled, WellAsked, WellFormed}
+use Rattle.sheet_reading.specs.Grammar.{ended, sizeText, ruleLines, teamLine, knownLine, makeLine, askLines, rulesText, askedText, sheetText}
+use Rattle.sheet_reading.specs.Grammar.{InLine, RulesFit, PostsFit, KnownFit, AsksFit, WellRuled, WellAsked, WellFormed}
 use Rattle.sheet_reading.specs.Place.{BeginsSheet}
 use Rattle.sheet_reading.proofs.FormulaLaws.{formula-not-malformed}
 
@@ -86,7 +87,9 @@ asks-begin v h = record { sheet = v; well-formed = h; rest = []; written = whole
 make-begins : (v : Sheet) → WellSoFar Make v → BeginsSheet (toKnown v)
 unfolding toKnown toTeam toRights withMake
 make-begins v h =
-    begins-less (toKnown v) (ended (makeLine (bytes "0"))) (begins-less (toKnown v ++ ended (makeLine (bytes "0"))) (askLines (v .asked .asks)) (asks-begin (withMake v (bytes "0")) (made v (bytes "0") h (omega arith))))
+    begins-less (toKnown v) (ended (makeLine (bytes "0")))
+    (begins-less (toKnown v ++ ended (makeLine (bytes "0"))) (askLines (v .asked .asks))
+    (asks-begin (withMake v (bytes "0")) (made v (bytes "0") h (omega arith))))
 
 known-begins : (v : Sheet) → WellSoFar Known v → BeginsSheet (toTeam v)
 unfolding toKnown toTeam toRights

@@ -39,7 +39,9 @@ regroup : (s line rest : List ℕ) → (s ++ ended line) ++ rest ≡ s ++ (line 
 unfolding ended
 regroup s line rest = simp append-assoc
 
-after-written : (s : List ℕ) (st : Step) (L : ℕ) (pieces : List (List ℕ)) → Good L s st → ((d : Due) (v : Sheet) → WellSoFar d v → Written (soFar d v ++ joined newline pieces) (lines (suc L) d v pieces)) → Written (s ++ joined newline pieces) (after L pieces st)
+after-written : (s : List ℕ) (st : Step) (L : ℕ) (pieces : List (List ℕ)) → Good L s st →
+    ((d : Due) (v : Sheet) → WellSoFar d v → Written (soFar d v ++ joined newline pieces) (lines (suc L) d v pieces)) →
+    Written (s ++ joined newline pieces) (after L pieces st)
 after-written s (fault r) L pieces g f = tt
 after-written s (next d v) L pieces g f = subst (λ (x : List ℕ). Written (x ++ joined newline pieces) (lines (suc L) d v pieces)) (g .1) (f d v (g .0))
 

@@ -104,7 +104,11 @@ fn placed(desk: Desk, place: Place, table: [u8; TABLE]) -> Turn
 // sheet then states is for the caller to say: any sheet that is on the desk with a table of this text.
 pub fn formula_line(desk: Desk, place: Place, text: &[u8]) -> Turn
     requires { ⌜ Room place desk ⌝ }
-    ensures { λ r. ⌜ ((sheet : Sheet) → ((t : List ℕ) → Accepts (desk .rules .settings) (now (text .entry)) t → OnDesk sheet (placedDesk place desk t)) → Steps (unlessRefused (desk .rules .settings) (now (text .entry)) (next (dueAfter place) sheet)) (r .taken) (r .desk)) ⌝ }
+    ensures { λ r. ⌜ ((sheet : Sheet) →
+        ((t : List ℕ) → Accepts (desk .rules .settings) (now (text .entry)) t →
+        OnDesk sheet (placedDesk place desk t)) →
+        Steps (unlessRefused (desk .rules .settings) (now (text .entry)) (next (dueAfter place) sheet)) (r .taken)
+        (r .desk)) ⌝ }
 {
     let reading = formula::read(desk.rules.settings as usize, text);
     let answer = reading.answer;

@@ -149,7 +149,8 @@ marks-all first words m t = record {
   again = sym (or-false (m .twice)) ∙ t .again;
 }
 
-module _ (first : ℕ) (words : List (List ℕ)) (w : List ℕ) (rest : List (List ℕ)) (old new : Marks) (t : Marks-to first words (w ∷ rest) old) (k : Marking old (indexOf first w) (not (isFalse w)) new) where
+module _ (first : ℕ) (words : List (List ℕ)) (w : List ℕ) (rest : List (List ℕ)) (old new : Marks) (t : Marks-to first words (w ∷ rest) old)
+    (k : Marking old (indexOf first w) (not (isFalse w)) new) where
   value-more : (j : ℕ) (b f : Bool) → (f || (not b && eqb (indexOf first w) j)) || member j (trueIndexes first rest)
       ≡ (f || member j (cond b (trueIndexes first rest) (indexOf first w ∷ trueIndexes first rest)))
   unfolding member

@@ -38,7 +38,8 @@ module _ (mark : ℕ) where
   unfolding split
   split-other c s other = rw (T→false (eqb c mark) (not-T (eqb c mark) (λ h. other (eqb→eq c mark h))))
 
-  pub by-byte : (P : ℕ → List ℕ → List (List ℕ) → Type 0) → ((s : List ℕ) → P mark s ([] ∷ split mark s)) → ((c : ℕ) (s : List ℕ) → (c ≡ mark → ⊥) → P c s (onto c (split mark s))) → (c : ℕ) (s : List ℕ) → P c s (split mark (c ∷ s))
+  pub by-byte : (P : ℕ → List ℕ → List (List ℕ) → Type 0) → ((s : List ℕ) → P mark s ([] ∷ split mark s)) →
+      ((c : ℕ) (s : List ℕ) → (c ≡ mark → ⊥) → P c s (onto c (split mark s))) → (c : ℕ) (s : List ℕ) → P c s (split mark (c ∷ s))
   by-byte P at-mark at-other c s =
       elim (decide (eqb c mark)) [
         | inl h ↦ subst (λ (x : ℕ). P x s (split mark (x ∷ s))) (sym (eqb→eq c mark h)) (subst (P mark s) (sym (split-mark s)) (at-mark s))

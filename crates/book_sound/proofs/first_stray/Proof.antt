@@ -20,12 +20,17 @@ abbrev μ-loop : tie.MeasureT-loop
 
 -- what the test of setting i tells
 abbrev Here : tie.After-is-setting Inv-loop μ-loop → Type 0
-Here c = let a = c .before .before .before .before .args in SettingBlock (a .n) (a .m) (block (now (a .book)) (1 + c .before .before .loop .i))
+Here c =
+    let at-loop : tie.At-loop Inv-loop μ-loop = search in
+    let start : tie.Start Inv-loop μ-loop = search in
+    let a = start .args in SettingBlock (a .n) (a .m) (block (now (a .book)) (1 + at-loop .loop .i))
 
 tested : (c : tie.After-is-setting Inv-loop μ-loop) → Tells (c .is-setting .result) (Here c)
 tested c =
-    let a = c .before .before .before .before .args in
-    let i = c .before .before .loop .i in
+    let at-loop : tie.At-loop Inv-loop μ-loop = search in
+    let start : tie.Start Inv-loop μ-loop = search in
+    let a = start .args in
+    let i = at-loop .loop .i in
     tells-iff (c .is-setting .result) (setting-block (now (a .book)) (1 + i)) (setting-drop (now (a .book)) (1 + i)) (c .is-setting .ensures)
 
 loop-holds : tie.Need-loop-holds Inv-loop μ-loop
@@ -42,7 +47,9 @@ is-setting-requires c κs = search needs
 
 returns : tie.Need-returns Inv-loop μ-loop
 returns c =
-    lowest-at (c .before .before .loop-test .taken) (c .before .before .before .loop .inv .1)
+    let in-loop : tie.In-loop Inv-loop μ-loop = search in
+    let at-loop : tie.At-loop Inv-loop μ-loop = search in
+    lowest-at (in-loop .loop-test .taken) (at-loop .loop .inv .1)
     (untold (Here (c .before)) (c .before .is-setting .result) (tested (c .before)) (c .if1 .taken))
 
 add-i : tie.Need-add-i Inv-loop μ-loop
@@ -53,7 +60,8 @@ loop-less c = search needs
 
 loop-again : tie.Need-loop-again Inv-loop μ-loop
 loop-again c =
-    let r = c .before .before .before .loop in
+    let at-loop : tie.At-loop Inv-loop μ-loop = search in
+    let r = at-loop .loop in
     (omega arith, below-more _ (r .i) (r .inv .1) (told (Here (c .before)) (c .before .is-setting .result) (tested (c .before)) (c .if1 .left)))
 
 returns-2 : tie.Need-returns-2 Inv-loop μ-loop

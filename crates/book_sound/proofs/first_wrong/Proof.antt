@@ -19,26 +19,35 @@ abbrev μ-loop : tie.MeasureT-loop
 
 -- what the test of block k tells
 abbrev Here : tie.After-is-right Inv-loop μ-loop → Type 0
-Here c = RightCheck (block (now (c .before .before .before .before .args .book)) (c .before .before .loop .k))
+Here c =
+    let at-loop : tie.At-loop Inv-loop μ-loop = search in
+    let start : tie.Start Inv-loop μ-loop = search in
+    RightCheck (block (now (start .args .book)) (at-loop .loop .k))
 
 tested : (c : tie.After-is-right Inv-loop μ-loop) → Tells (c .is-right .result) (Here c)
 tested c =
-    let b = now (c .before .before .before .before .args .book) in
-    let k = c .before .before .loop .k in
+    let at-loop : tie.At-loop Inv-loop μ-loop = search in
+    let start : tie.Start Inv-loop μ-loop = search in
+    let b = now (start .args .book) in
+    let k = at-loop .loop .k in
     tells-iff (c .is-right .result) (right-block b k) (right-drop b k) (c .is-right .ensures)
 
 loop-holds : tie.Need-loop-holds Inv-loop μ-loop
 loop-holds c = (search needs, λ k h. omega arith)
 
 mul-is-right : tie.Need-mul-is-right Inv-loop μ-loop
-mul-is-right c = omega (arith, c .before .before .before .pre)
+mul-is-right c =
+    let start : tie.Start Inv-loop μ-loop = search in
+    omega (arith, start .pre)
 
 is-right-requires : tie.Need-is-right-requires Inv-loop μ-loop
 is-right-requires c κs = search needs
 
 returns : tie.Need-returns Inv-loop μ-loop
 returns c =
-    lowest-at (c .before .before .loop-test .taken) (c .before .before .before .loop .inv .1)
+    let in-loop : tie.In-loop Inv-loop μ-loop = search in
+    let at-loop : tie.At-loop Inv-loop μ-loop = search in
+    lowest-at (in-loop .loop-test .taken) (at-loop .loop .inv .1)
     (untold (Here (c .before)) (c .before .is-right .result) (tested (c .before)) (c .if1 .taken))
 
 add-k : tie.Need-add-k Inv-loop μ-loop
@@ -49,7 +58,8 @@ loop-less c = search needs
 
 loop-again : tie.Need-loop-again Inv-loop μ-loop
 loop-again c =
-    let r = c .before .before .before .loop in
+    let at-loop : tie.At-loop Inv-loop μ-loop = search in
+    let r = at-loop .loop in
     (omega arith, below-more _ (r .k) (r .inv .1) (told (Here (c .before)) (c .before .is-right .result) (tested (c .before)) (c .if1 .left)))
 
 returns-2 : tie.Need-returns-2 Inv-loop μ-loop

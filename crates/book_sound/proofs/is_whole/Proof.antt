@@ -17,7 +17,9 @@ returns-3 c = λ w. omega (arith, w .most)
 
 returns-4 : tie.Need-returns-4
 unfolding blocks
-returns-4 c = record { whole = c .before .before .if1 .left; least = omega arith; most = omega arith }
+returns-4 c =
+    let else1 : tie.Else1 = search in
+    record { whole = else1 .if1 .left; least = omega arith; most = omega arith }
 
 pub is-whole-spec : {M : Type 1} → statement M
 is-whole-spec = tie.close (tie.spec returns returns-2 returns-3 returns-4)

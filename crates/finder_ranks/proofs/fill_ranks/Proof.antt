@@ -9,14 +9,20 @@ use Rattle.finder_ranks.proofs.FillLaws.{ready, filled, unfilled}
 use Rattle.finder_ranks.proofs.fill_ranks.Statement.{statement}
 use Rattle.finder_ranks.proofs.fill_ranks.Tie as tie
 
+abbrev start-of-after-numbers : tie.After-numbers → tie.Start
+start-of-after-numbers c = search
+
 -- up to seven settings count as they are
-size-is : (c : tie.After-numbers) → c .numbers .result ≡ 7 ^ c .before .before .before .before .args .n
+size-is : (c : tie.After-numbers) → c .numbers .result ≡ 7 ^ start-of-after-numbers c .args .n
 size-is c =
     let second : tie.Else2 = search in
     c .numbers .ensures ∙ ap (λ k. 7 ^ k) (min-eq-left (second .if2 .left))
 
+abbrev start-of-else3 : tie.Else3 → tie.Start
+start-of-else3 c = search
+
 -- past the three tests
-room : (c : tie.Else3) → RanksFit (c .before .before .before .before .before .args .n) (c .before .before .before .before .before .args .ranks .now)
+room : (c : tie.Else3) → RanksFit (start-of-else3 c .args .n) (start-of-else3 c .args .ranks .now)
 room c =
     let first : tie.Else1 = search in
     let second : tie.Else2 = search in

@@ -31,31 +31,41 @@ bytes-requires c κs = search needs
 
 returns : tie.Need-returns
 returns c =
-    let start = c .before .before .before .before .before .before in
+    let after-i : tie.After-i = search in
+    let after-sum : tie.After-sum = search in
+    let the-start : tie.Start = search in
+    let start = the-start in
     let n = start .args .n in
     let s = start .args .text .now in
-    let i = c .before .before .i .given in
+    let i = after-i .i .given in
     refusal n s (NotSentence (i .0 .0)) (c .refused .ensures)
-    (broken n s (start .pre .0) (start .pre .1) (start .pre .2) (i .0 .0) (as-broken G.sum s 0 (i .1) (c .before .before .before .before .sum .ensures) 0))
+    (broken n s (start .pre .0) (start .pre .1) (start .pre .2) (i .0 .0) (as-broken G.sum s 0 (i .1) (after-sum .sum .ensures) 0))
 
 returns-2 : tie.Need-returns-2
 returns-2 c =
-    let start = c .before .before .before .before .before .before .before in
+    let after-w : tie.After-w = search in
+    let after-sum : tie.After-sum = search in
+    let the-start : tie.Start = search in
+    let start = the-start in
     let n = start .args .n in
     let s = start .args .text .now in
-    let w = c .before .before .before .w .given in
+    let w = after-w .w .given in
     refusal n s (NotSentence (w .0 .1 .0)) (c .refused2 .ensures)
     (broken n s (start .pre .0) (start .pre .1) (start .pre .2) (w .0 .1 .0)
-    (sum-short (as-read G.sum s 0 (w .1) (c .before .before .before .before .before .sum .ensures)) (c .before .if1 .taken)))
+    (sum-short (as-read G.sum s 0 (w .1) (after-sum .sum .ensures)) (c .before .if1 .taken)))
 
 returns-3 : tie.Need-returns-3
 returns-3 c =
-    let start = c .before .before .before .before .before .before .before .before in
+    let else1 : tie.Else1 = search in
+    let after-w : tie.After-w = search in
+    let after-sum : tie.After-sum = search in
+    let the-start : tie.Start = search in
+    let start = the-start in
     let n = start .args .n in
     let s = start .args .text .now in
     whole n s (start .pre .0) (start .pre .1) (start .pre .2)
-    (as-read G.sum s 0 (c .before .before .before .before .w .given .1) (c .before .before .before .before .before .before .sum .ensures))
-    (c .before .before .if1 .left) (c .before .within .ensures) (c .bytes .ensures)
+    (as-read G.sum s 0 (after-w .w .given .1) (after-sum .sum .ensures))
+    (else1 .if1 .left) (c .before .within .ensures) (c .bytes .ensures)
 
 pub sentence-spec : {M : Type 1} → statement M
 sentence-spec =

@@ -15,7 +15,10 @@ sub-if2 : tie.Need-sub-if2
 sub-if2 c = search needs
 
 returns-2 : tie.Need-returns-2
-returns-2 c = truth-out (c .before .before .args .bytes .now) (c .before .before .args .from) (c .before .before .args .v) (omega arith)
+returns-2 c =
+    let start : tie.Start = search in
+    let args = start .args in
+    truth-out (args .bytes .now) (args .from) (args .v) (omega arith)
 
 add-byte : tie.Need-add-byte
 add-byte c = search needs
@@ -27,7 +30,9 @@ shr-result : tie.Need-shr-result
 shr-result c = search needs
 
 returns-3 : tie.Need-returns-3
-returns-3 c = truth-in (c .before .before .before .args .bytes .now) _ _
+returns-3 c =
+    let start : tie.Start = search in
+    truth-in (start .args .bytes .now) _ _
 
 pub truth-at-spec : {M : Type 1} → statement M
 truth-at-spec =

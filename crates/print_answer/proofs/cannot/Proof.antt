@@ -14,7 +14,9 @@ same-length : tie.Need-same-length
 same-length c = search needs
 
 returns : tie.Need-returns
-returns c = prints (c .before .before .word .ensures)
+returns c =
+    let after-word : tie.After-word = search in
+    prints (after-word .word .ensures)
 
 pub cannot-spec : {M : Type 1} → statement M
 cannot-spec = tie.close (tie.spec slice-aggregate-word word-requires same-length returns)

@@ -15,22 +15,54 @@ word-requires : tie.Need-word-requires
 word-requires c κs = search needs
 
 number-requires : tie.Need-number-requires
-number-requires c κs = record { below = omega (arith, c .before .before .before .word .ensures .next-place, decimal-length 2 (c .before .before .before .before .before .before .before .before .args .height) (omega arith)) }
+number-requires c κs =
+    let after-word : tie.After-word = search in
+    let start : tie.Start = search in
+    record { below = omega (arith, after-word .word .ensures .next-place, decimal-length 2 (start .args .height) (omega arith)) }
 
 put-requires : tie.Need-put-requires
-put-requires c κs = record { below = omega (arith, c .before .before .before .before .before .before .before .word .ensures .next-place, c .before .before .before .number .ensures .next-place, decimal-length 2 (c .before .before .before .before .before .before .before .before .before .before .before .before .args .height) (omega arith)) }
+put-requires c κs =
+    let after-number : tie.After-number = search in
+    let after-word : tie.After-word = search in
+    let start : tie.Start = search in
+    record {
+      below
+          = omega (
+            arith,
+            after-word .word .ensures .next-place,
+            after-number .number .ensures .next-place,
+            decimal-length 2 (start .args .height) (omega arith),
+          );
+    }
 
 lines-requires : tie.Need-lines-requires
-lines-requires c κs = whole-readable (c .before .before .before .before .before .before .before .before .before .before .before .before .before .before .before .before .pre .0 .0) (c .before .before .before .before .before .before .before .before .before .before .before .before .before .before .before .before .pre .0 .1) (c .before .before .before .before .before .before .before .before .before .before .before .before .before .before .before .before .pre .0 .2) (c .before .before .before .before .before .before .before .before .before .before .before .before .before .before .before .before .pre .1) (omega (arith, c .before .before .before .before .before .before .before .before .before .before .before .word .ensures .next-place, c .before .before .before .before .before .before .before .number .ensures .next-place, c .before .before .before .put .ensures .next-place, decimal-length 2 (c .before .before .before .before .before .before .before .before .before .before .before .before .before .before .before .before .args .height) (omega arith)))
+lines-requires c κs =
+    let after-put : tie.After-put = search in
+    let after-number : tie.After-number = search in
+    let after-word : tie.After-word = search in
+    let start : tie.Start = search in
+    let pre = start .pre in
+    whole-readable (pre .0 .0) (pre .0 .1) (pre .0 .2) (pre .1)
+    (omega (
+      arith,
+      after-word .word .ensures .next-place,
+      after-number .number .ensures .next-place,
+      after-put .put .ensures .next-place,
+      decimal-length 2 (start .args .height) (omega arith),
+    ))
 
 same-length : tie.Need-same-length
 same-length c = search needs
 
 returns : tie.Need-returns
 returns c p whole lettered =
+    let after-lines : tie.After-lines = search in
+    let after-put : tie.After-put = search in
+    let after-number : tie.After-number = search in
+    let after-word : tie.After-word = search in
     prints
-    (wrote-then (wrote-then (wrote-then (c .before .before .before .before .before .before .before .before .before .before .before .before .before .before .word .ensures) (c .before .before .before .before .before .before .before .before .before .before .number .ensures)) (c .before .before .before .before .before .before .put .ensures))
-    (c .before .before .lines .ensures p (whole-shown p whole lettered) .wrote))
+    (wrote-then (wrote-then (wrote-then (after-word .word .ensures) (after-number .number .ensures)) (after-put .put .ensures))
+    (after-lines .lines .ensures p (whole-shown p whole lettered) .wrote))
 
 pub reach-spec : {M : Type 1} → statement M
 reach-spec =

@@ -14,22 +14,79 @@ word-requires : tie.Need-word-requires
 word-requires c κs = search needs
 
 number-requires : tie.Need-number-requires
-number-requires c κs = record { below = omega (arith, c .before .before .before .word .ensures .next-place, decimal-length 19 (c .before .before .before .before .before .before .before .args .number) (omega arith)) }
+number-requires c κs =
+    let after-word : tie.After-word = search in
+    let start : tie.Start = search in
+    record { below = omega (arith, after-word .word .ensures .next-place, decimal-length 19 (start .args .number) (omega arith)) }
 
 put-requires : tie.Need-put-requires
-put-requires c κs = record { below = omega (arith, c .before .before .before .before .before .before .before .word .ensures .next-place, c .before .before .before .number .ensures .next-place, decimal-length 19 (c .before .before .before .before .before .before .before .before .before .before .before .args .number) (omega arith)) }
+put-requires c κs =
+    let after-number : tie.After-number = search in
+    let after-word : tie.After-word = search in
+    let start : tie.Start = search in
+    record {
+      below
+          = omega (
+            arith,
+            after-word .word .ensures .next-place,
+            after-number .number .ensures .next-place,
+            decimal-length 19 (start .args .number) (omega arith),
+          );
+    }
 
 number-requires-2 : tie.Need-number-requires-2
-number-requires-2 c κs = record { below = omega (arith, c .before .before .before .before .before .before .before .before .before .before .before .word .ensures .next-place, c .before .before .before .before .before .before .before .number .ensures .next-place, c .before .before .before .put .ensures .next-place, decimal-length 19 (c .before .before .before .before .before .before .before .before .before .before .before .before .before .before .before .args .number) (omega arith), decimal-length 19 (c .before .before .before .before .before .before .before .before .before .before .before .before .before .before .before .args .place) (omega arith)) }
+number-requires-2 c κs =
+    let after-put : tie.After-put = search in
+    let after-number : tie.After-number = search in
+    let after-word : tie.After-word = search in
+    let start : tie.Start = search in
+    let args = start .args in
+    record {
+      below
+          = omega (
+            arith,
+            after-word .word .ensures .next-place,
+            after-number .number .ensures .next-place,
+            after-put .put .ensures .next-place,
+            decimal-length 19 (args .number) (omega arith),
+            decimal-length 19 (args .place) (omega arith),
+          );
+    }
 
 put-requires-2 : tie.Need-put-requires-2
-put-requires-2 c κs = record { below = omega (arith, c .before .before .before .before .before .before .before .before .before .before .before .before .before .before .before .word .ensures .next-place, c .before .before .before .before .before .before .before .before .before .before .before .number .ensures .next-place, c .before .before .before .before .before .before .before .put .ensures .next-place, c .before .before .before .number2 .ensures .next-place, decimal-length 19 (c .before .before .before .before .before .before .before .before .before .before .before .before .before .before .before .before .before .before .before .args .number) (omega arith), decimal-length 19 (c .before .before .before .before .before .before .before .before .before .before .before .before .before .before .before .before .before .before .before .args .place) (omega arith)) }
+put-requires-2 c κs =
+    let after-number2 : tie.After-number2 = search in
+    let after-put : tie.After-put = search in
+    let after-number : tie.After-number = search in
+    let after-word : tie.After-word = search in
+    let start : tie.Start = search in
+    let args = start .args in
+    record {
+      below
+          = omega (
+            arith,
+            after-word .word .ensures .next-place,
+            after-number .number .ensures .next-place,
+            after-put .put .ensures .next-place,
+            after-number2 .number2 .ensures .next-place,
+            decimal-length 19 (args .number) (omega arith),
+            decimal-length 19 (args .place) (omega arith),
+          );
+    }
 
 same-length : tie.Need-same-length
 same-length c = search needs
 
 returns : tie.Need-returns
-returns c = prints (wrote-then (wrote-then (wrote-then (wrote-then (c .before .before .before .before .before .before .before .before .before .before .before .before .before .before .before .before .before .before .word .ensures) (c .before .before .before .before .before .before .before .before .before .before .before .before .before .before .number .ensures)) (c .before .before .before .before .before .before .before .before .before .before .put .ensures)) (c .before .before .before .before .before .before .number2 .ensures)) (c .before .before .put2 .ensures))
+returns c =
+    let after-put2 : tie.After-put2 = search in
+    let after-number2 : tie.After-number2 = search in
+    let after-put : tie.After-put = search in
+    let after-number : tie.After-number = search in
+    let after-word : tie.After-word = search in
+    prints (wrote-then (wrote-then (wrote-then
+    (wrote-then (after-word .word .ensures) (after-number .number .ensures))
+    (after-put .put .ensures)) (after-number2 .number2 .ensures)) (after-put2 .put2 .ensures))
 
 pub refused-spec : {M : Type 1} → statement M
 refused-spec =

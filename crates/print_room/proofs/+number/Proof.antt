@@ -32,16 +32,27 @@ add-put : (t : ℕ) → number-lts.Need-add-put (claims t) (number-at t) number.
 add-put t c = omega arith
 
 put-requires : (t : ℕ) → number-lts.Need-put-requires (claims t) (number-at t) number.Post
-put-requires t c κs = rw (decimal-small (c .before .before .before .args .n) (c .before .if1 .taken)) at (c .before .before .before .pre .1)
+put-requires t c κs =
+    let start : number-lts.Start (claims t) (number-at t) number.Post = search in
+    rw (decimal-small (start .args .n) (c .before .if1 .taken)) at (start .pre .1)
 
 same-length : (t : ℕ) → number-lts.Need-same-length (claims t) (number-at t) number.Post
-same-length t c = wrote-length (c .before .before .put .ensures)
+same-length t c =
+    let after-put : number-lts.After-put (claims t) (number-at t) number.Post = search in
+    wrote-length (after-put .put .ensures)
 
 returns : (t : ℕ) → number-lts.Need-returns (claims t) (number-at t) number.Post
-returns t c = rw (decimal-small (c .before .before .before .before .before .before .args .n) (c .before .before .before .before .if1 .taken)) (c .before .before .put .ensures)
+returns t c =
+    let after-put : number-lts.After-put (claims t) (number-at t) number.Post = search in
+    let then1 : number-lts.Then1 (claims t) (number-at t) number.Post = search in
+    let start : number-lts.Start (claims t) (number-at t) number.Post = search in
+    rw (decimal-small (start .args .n) (then1 .if1 .taken)) (after-put .put .ensures)
 
 number-requires : (t : ℕ) → number-lts.Need-number-requires (claims t) (number-at t) number.Post
-number-requires t c κs = (omega (arith, c .before .before .before .pre .0), ends-left _ _ (rw (decimal-more (c .before .before .before .args .n) (c .before .if1 .left)) at (c .before .before .before .pre .1)))
+number-requires t c κs =
+    let start : number-lts.Start (claims t) (number-at t) number.Post = search in
+    let pre = start .pre in
+    (omega (arith, pre .0), ends-left _ _ (rw (decimal-more (start .args .n) (c .before .if1 .left)) at (pre .1)))
 
 cast-put-2 : (t : ℕ) → number-lts.Need-cast-put-2 (claims t) (number-at t) number.Post
 cast-put-2 t c = omega arith
@@ -50,13 +61,25 @@ add-put-2 : (t : ℕ) → number-lts.Need-add-put-2 (claims t) (number-at t) num
 add-put-2 t c = omega arith
 
 put-requires-2 : (t : ℕ) → number-lts.Need-put-requires-2 (claims t) (number-at t) number.Post
-put-requires-2 t c κs = ends-right (c .before .before .before .number .ensures) (rw (decimal-more (c .before .before .before .before .before .before .before .args .n) (c .before .before .before .before .before .if1 .left)) at (c .before .before .before .before .before .before .before .pre .1))
+put-requires-2 t c κs =
+    let after-number : number-lts.After-number (claims t) (number-at t) number.Post = search in
+    let else1 : number-lts.Else1 (claims t) (number-at t) number.Post = search in
+    let start : number-lts.Start (claims t) (number-at t) number.Post = search in
+    ends-right (after-number .number .ensures) (rw (decimal-more (start .args .n) (else1 .if1 .left)) at (start .pre .1))
 
 same-length-2 : (t : ℕ) → number-lts.Need-same-length-2 (claims t) (number-at t) number.Post
-same-length-2 t c = wrote-length (wrote-then (c .before .before .before .before .before .before .number .ensures) (c .before .before .put2 .ensures))
+same-length-2 t c =
+    let after-put2 : number-lts.After-put2 (claims t) (number-at t) number.Post = search in
+    let after-number : number-lts.After-number (claims t) (number-at t) number.Post = search in
+    wrote-length (wrote-then (after-number .number .ensures) (after-put2 .put2 .ensures))
 
 returns-2 : (t : ℕ) → number-lts.Need-returns-2 (claims t) (number-at t) number.Post
-returns-2 t c = rw (decimal-more (c .before .before .before .before .before .before .before .before .before .before .args .n) (c .before .before .before .before .before .before .before .before .if1 .left)) (wrote-then (c .before .before .before .before .before .before .number .ensures) (c .before .before .put2 .ensures))
+returns-2 t c =
+    let after-put2 : number-lts.After-put2 (claims t) (number-at t) number.Post = search in
+    let after-number : number-lts.After-number (claims t) (number-at t) number.Post = search in
+    let else1 : number-lts.Else1 (claims t) (number-at t) number.Post = search in
+    let start : number-lts.Start (claims t) (number-at t) number.Post = search in
+    rw (decimal-more (start .args .n) (else1 .if1 .left)) (wrote-then (after-number .number .ensures) (after-put2 .put2 .ensures))
 
 pub +number-spec : {M : Type 1} → statement M
 +number-spec = close μ-number λ t. number-lts.spec (claims t) (number-at t) number.Post

@@ -22,7 +22,11 @@ shared-slice-read-put : tie.Need-shared-slice-read-put Inv-loop μ-loop
 shared-slice-read-put c = search needs
 
 put-requires : tie.Need-put-requires Inv-loop μ-loop
-put-requires c κs = record { below = omega (arith, c .before .before .before .loop .inv .1 .next-place, length-take-le (c .before .before .before .loop .i) (c .before .before .before .before .before .before .args .text .now) (c .before .before .before .loop .inv .0)) }
+put-requires c κs =
+    let at-loop : tie.At-loop Inv-loop μ-loop = search in
+    let start : tie.Start Inv-loop μ-loop = search in
+    let loop = at-loop .loop in
+    record { below = omega (arith, loop .inv .1 .next-place, length-take-le (loop .i) (start .args .text .now) (loop .inv .0)) }
 
 add-i : tie.Need-add-i Inv-loop μ-loop
 add-i c = search needs
@@ -31,7 +35,11 @@ loop-less : tie.Need-loop-less Inv-loop μ-loop
 loop-less c = search needs
 
 loop-again : tie.Need-loop-again Inv-loop μ-loop
-loop-again c = (omega arith, wrote-more _ _ (c .before .before .before .before .before .before .loop .inv .1) (c .before .before .before .before .before .loop-test .taken) (c .before .before .put .ensures))
+loop-again c =
+    let after-put : tie.After-put Inv-loop μ-loop = search in
+    let in-loop : tie.In-loop Inv-loop μ-loop = search in
+    let at-loop : tie.At-loop Inv-loop μ-loop = search in
+    (omega arith, wrote-more _ _ (at-loop .loop .inv .1) (in-loop .loop-test .taken) (after-put .put .ensures))
 
 same-length : tie.Need-same-length Inv-loop μ-loop
 same-length c = wrote-length (c .before .loop .inv .1)

@@ -14,17 +14,25 @@ use Rattle.question.proofs.ask.Tie as tie
 
 -- what was handed over, where `sound` has answered
 abbrev the-book : tie.After-sound → List ℕ
-the-book c = c .before .before .before .before .args .book .now
+the-book c =
+    let start : tie.Start = search in
+    start .args .book .now
 
 abbrev asked : tie.After-sound → Question
-asked c = c .before .before .before .before .args .question
+asked c =
+    let start : tie.Start = search in
+    start .args .question
 
 abbrev wanted : tie.After-sound → Goal
-wanted c = let a = c .before .before .before .before .args in goalOf (a .make .now) (a .learn .now)
+wanted c =
+    let start : tie.Start = search in
+    let a = start .args in goalOf (a .make .now) (a .learn .now)
 
 -- in the arm of a book: its two numbers, and that it is sound
 abbrev answered : tie.After-known-told2 → tie.After-sound
-answered c = c .before .before .before
+answered c =
+    let after-sound : tie.After-sound = search in
+    after-sound
 
 abbrev settings : tie.After-known-told2 → ℕ
 settings c = c .before .settings .given .0 .0
@@ -47,7 +55,8 @@ team c = told (Team (c .before)) (c .before .team-fits .result) (c .before .team
 -- past the second: what is known fits
 abbrev Known : tie.After-known-fits → Type 0
 Known c =
-    let b = c .before .before .before in
+    let after-known-told2 : tie.After-known-told2 = search in
+    let b = after-known-told2 in
     let q = asked (answered b) in
     KnownFits (settings b) (q .known) (q .values)
 
@@ -56,7 +65,9 @@ known c = told (Known (c .before)) (c .before .known-fits .result) (c .before .k
 
 -- what the third test tells: the goal fits
 abbrev Fits : tie.After-goal-fits → Type 0
-Fits c = let b = c .before .before .before .before .before in GoalFits (settings b) (wanted (answered b))
+Fits c =
+    let after-known-told2 : tie.After-known-told2 = search in
+    let b = after-known-told2 in GoalFits (settings b) (wanted (answered b))
 
 sound-requires : tie.Need-sound-requires
 sound-requires c κs = search needs
@@ -72,18 +83,23 @@ team-fits-requires c κs = sound c .posts .most
 
 returns : tie.Need-returns
 returns c =
-    let b = c .before .before in
+    let after-known-told2 : tie.After-known-told2 = search in
+    let b = after-known-told2 in
     let s = answered b in
     team-row (the-book s) (asked s) (wanted s) (sound b)
     (untold (Team (c .before)) (c .before .team-fits .result) (c .before .team-fits .ensures) (c .if1 .taken))
 
 known-fits-requires : tie.Need-known-fits-requires
-known-fits-requires c κs = sound (c .before .before) .settings .most
+known-fits-requires c κs =
+    let after-known-told2 : tie.After-known-told2 = search in
+    sound after-known-told2 .settings .most
 
 returns-2 : tie.Need-returns-2
 returns-2 c =
-    let e = c .before .before in
-    let b = e .before .before in
+    let else1 : tie.Else1 = search in
+    let after-known-told2 : tie.After-known-told2 = search in
+    let e = else1 in
+    let b = after-known-told2 in
     let s = answered b in
     known-row (the-book s) (asked s) (wanted s) (sound b) (team e)
     (untold (Known (c .before)) (c .before .known-fits .result) (c .before .known-fits .ensures) (c .if2 .taken))
@@ -93,25 +109,32 @@ goal-fits-requires c κs = search needs
 
 returns-3 : tie.Need-returns-3
 returns-3 c =
-    let k = c .before .before in
-    let e = k .before .before in
-    let b = e .before .before in
+    let else2 : tie.Else2 = search in
+    let else1 : tie.Else1 = search in
+    let after-known-told2 : tie.After-known-told2 = search in
+    let k = else2 in
+    let e = else1 in
+    let b = after-known-told2 in
     let s = answered b in
     goal-row (the-book s) (asked s) (wanted s) (sound b) (team e) (known k)
     (untold (Fits (c .before)) (c .before .goal-fits .result) (c .before .goal-fits .ensures) (c .if3 .taken))
 
 returns-4 : tie.Need-returns-4
 returns-4 c =
-    let s = c .before .before .before in
+    let after-sound : tie.After-sound = search in
+    let s = after-sound in
     let why = c .before .why .given in
     book-row (the-book s) (asked s) (wanted s) (judged-refused (the-book s) (s .sound .result) (why .0 .0) (s .sound .ensures) (why .1))
 
 returns-5 : tie.Need-returns-5
 returns-5 c =
-    let k = c .before .before in
-    let e = k .before .before in
+    let else2 : tie.Else2 = search in
+    let else1 : tie.Else1 = search in
+    let after-known-told2 : tie.After-known-told2 = search in
+    let k = else2 in
+    let e = else1 in
     record {
-      sound = sound (e .before .before);
+      sound = sound after-known-told2;
       team = team e;
       known = known k;
       goal = told (Fits (c .before)) (c .before .goal-fits .result) (c .before .goal-fits .ensures) (c .if3 .left);

@@ -22,7 +22,9 @@ within-requires c κs = search needs
 
 -- what the test of the make table tells
 abbrev Make : tie.After-within → Type 0
-Make c = let a = c .before .before .before .before .before .before .args in Within (a .n) (a .make .now)
+Make c =
+    let start : tie.Start = search in
+    let a = start .args in Within (a .n) (a .make .now)
 
 returns-4 : tie.Need-returns-4
 returns-4 c = λ f. untold (Make (c .before)) (c .before .within .result) (c .before .within .ensures) (c .if4 .taken) (f .make-within)
@@ -32,8 +34,10 @@ learn-within-requires c κs = search needs
 
 returns-5 : tie.Need-returns-5
 returns-5 c =
-    let m = c .before .before in
-    let a = m .before .before .before .before .before .before .args in
+    let after-within : tie.After-within = search in
+    let start : tie.Start = search in
+    let m = after-within in
+    let a = start .args in
     let make : Make m = told (Make m) (m .within .result) (m .within .ensures) (c .before .if4 .left) in
     tells-iff {A = LearnWithin (a .n) (a .learn .now)} {B = GoalFits (a .n) (goalOf (a .make .now) (a .learn .now))} (c .learn-within .result)
     (λ w. record { make-bytes = omega arith; learn-bytes = omega arith; learn-most = omega arith; make-within = make; learn-within = w })

@@ -27,14 +27,18 @@ within-requires c κs = search needs
 -- what the test of the table with index j tells
 abbrev Here : tie.After-within Inv-loop μ-loop → Type 0
 Here c =
-    let a = c .before .before .before .before .args in
-    Within (a .n) (drop (16 * c .before .before .loop .j) (a .learn .now))
+    let at-loop : tie.At-loop Inv-loop μ-loop = search in
+    let start : tie.Start Inv-loop μ-loop = search in
+    let a = start .args in
+    Within (a .n) (drop (16 * at-loop .loop .j) (a .learn .now))
 
 returns : tie.Need-returns Inv-loop μ-loop
 returns c =
+    let at-loop : tie.At-loop Inv-loop μ-loop = search in
+    let start : tie.Start Inv-loop μ-loop = search in
     let w = c .before in
-    let a = w .before .before .before .before .args in
-    learn-bad (a .n) (a .learn .now) (w .before .before .loop .j) (w .before .loop-test .taken)
+    let a = start .args in
+    learn-bad (a .n) (a .learn .now) (at-loop .loop .j) (w .before .loop-test .taken)
     (untold (Here w) (w .within .result) (w .within .ensures) (c .if1 .taken))
 
 add-j : tie.Need-add-j Inv-loop μ-loop
@@ -45,14 +49,17 @@ loop-less c = omega arith
 
 loop-again : tie.Need-loop-again Inv-loop μ-loop
 loop-again c =
+    let at-loop : tie.At-loop Inv-loop μ-loop = search in
+    let start : tie.Start Inv-loop μ-loop = search in
     let w = c .before in
-    let r = w .before .before .loop in
-    let a = w .before .before .before .before .args in
+    let r = at-loop .loop in
+    let a = start .args in
     (omega arith, learn-more (a .n) (a .learn .now) (r .j) (r .inv .1) (told (Here w) (w .within .result) (w .within .ensures) (c .if1 .left)))
 
 returns-2 : tie.Need-returns-2 Inv-loop μ-loop
 returns-2 c =
-    let a = c .before .before .before .args in
+    let start : tie.Start Inv-loop μ-loop = search in
+    let a = start .args in
     let r = c .before .loop in
     learn-all (a .n) (a .learn .now) (r .j) (c .loop-test .left) (r .inv .1)
 

@@ -43,35 +43,51 @@ returns c =
     let enum-told4-point : tie.After-enum-told4 = search in
     let yes1 : tie.Then1 = search in
     let a = start .args in
-    λ sheet h. refused-is (c .refused4 .result .desk) (Malformed (a .number)) (a .number) (ap (λ (x : Due). ending x sheet (a .rest .now) (a .number)) (enum-told4-point .enum-told4 .given .1) ∙ ended-late sheet (a .rest .now) (a .number) (yes1 .if1 .taken)) (c .refused4 .ensures)
+    λ sheet h. refused-is (c .refused4 .result .desk) (Malformed (a .number)) (a .number)
+    (ap (λ (x : Due). ending x sheet (a .rest .now) (a .number)) (enum-told4-point .enum-told4 .given .1)
+    ∙ ended-late sheet (a .rest .now) (a .number) (yes1 .if1 .taken)) (c .refused4 .ensures)
 
 returns-2 : tie.Need-returns-2
 returns-2 c =
     let start : tie.Start = search in
     let enum-told-point : tie.After-enum-told = search in
     let a = start .args in
-    λ sheet h. refused-is (c .refused .result .desk) (Malformed (a .number)) (a .number) (ended (a .due) sheet (a .rest .now) (a .number) (λ e. let z : _≡_ {A = Due} Asks _ = sym e ∙ enum-told-point .enum-told .given .1 in let y : _≡_ {A = ℕ} 0 1 = cc in omega arith)) (c .refused .ensures)
+    λ sheet h. refused-is (c .refused .result .desk) (Malformed (a .number)) (a .number)
+    (ended (a .due) sheet (a .rest .now) (a .number)
+    (λ e.
+    let z : _≡_ {A = Due} Asks _ = sym e ∙ enum-told-point .enum-told .given .1 in
+    let y : _≡_ {A = ℕ} 0 1 = cc in omega arith)) (c .refused .ensures)
 
 returns-3 : tie.Need-returns-3
 returns-3 c =
     let start : tie.Start = search in
     let enum-told2-point : tie.After-enum-told2 = search in
     let a = start .args in
-    λ sheet h. refused-is (c .refused2 .result .desk) (Malformed (a .number)) (a .number) (ended (a .due) sheet (a .rest .now) (a .number) (λ e. let z : _≡_ {A = Due} Asks _ = sym e ∙ enum-told2-point .enum-told2 .given .1 in let y : _≡_ {A = ℕ} 0 1 = cc in omega arith)) (c .refused2 .ensures)
+    λ sheet h. refused-is (c .refused2 .result .desk) (Malformed (a .number)) (a .number)
+    (ended (a .due) sheet (a .rest .now) (a .number)
+    (λ e.
+    let z : _≡_ {A = Due} Asks _ = sym e ∙ enum-told2-point .enum-told2 .given .1 in
+    let y : _≡_ {A = ℕ} 0 1 = cc in omega arith)) (c .refused2 .ensures)
 
 returns-4 : tie.Need-returns-4
 returns-4 c =
     let start : tie.Start = search in
     let enum-told3-point : tie.After-enum-told3 = search in
     let a = start .args in
-    λ sheet h. refused-is (c .refused3 .result .desk) (Malformed (a .number)) (a .number) (ended (a .due) sheet (a .rest .now) (a .number) (λ e. let z : _≡_ {A = Due} Asks _ = sym e ∙ enum-told3-point .enum-told3 .given .1 in let y : _≡_ {A = ℕ} 0 1 = cc in omega arith)) (c .refused3 .ensures)
+    λ sheet h. refused-is (c .refused3 .result .desk) (Malformed (a .number)) (a .number)
+    (ended (a .due) sheet (a .rest .now) (a .number)
+    (λ e.
+    let z : _≡_ {A = Due} Asks _ = sym e ∙ enum-told3-point .enum-told3 .given .1 in
+    let y : _≡_ {A = ℕ} 0 1 = cc in omega arith)) (c .refused3 .ensures)
 
 returns-5 : tie.Need-returns-5
 returns-5 c =
     let start : tie.Start = search in
     let enum-told4-point : tie.After-enum-told4 = search in
     let a = start .args in
-    λ sheet h. subst (λ (o : Meaning). ReadsSheet o Stated (a .desk)) (sym (ap (λ (x : Due). ending x sheet (a .rest .now) (a .number)) (enum-told4-point .enum-told4 .given .1) ∙ ended-whole sheet (a .rest .now) (a .number) (c .if1 .left))) h
+    λ sheet h. subst (λ (o : Meaning). ReadsSheet o Stated (a .desk))
+    (sym (ap (λ (x : Due). ending x sheet (a .rest .now) (a .number)) (enum-told4-point .enum-told4 .given .1)
+    ∙ ended-whole sheet (a .rest .now) (a .number) (c .if1 .left))) h
 
 pub ending-spec : {M : Type 1} → statement M
 ending-spec =

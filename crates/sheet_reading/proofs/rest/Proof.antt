@@ -74,7 +74,9 @@ returns c =
     let p = piece-is s (l .at) newline (end .result) (l .inv .0) (end .ensures) in
     λ stated h.
     let z = l .inv .3 stated h in
-    subst (λ (o : Meaning). ReadsSheet o (c .ending .result .told) (c .ending .result .desk)) (sym (rest-ends s (l .at) (end .result) (l .number) (l .due) (z .0) p (yes1 .if1 .taken)) ∙ z .2) (c .ending .ensures (z .0) (z .1))
+    subst (λ (o : Meaning). ReadsSheet o (c .ending .result .told) (c .ending .result .desk))
+    (sym (rest-ends s (l .at) (end .result) (l .number) (l .due) (z .0) p (yes1 .if1 .taken)) ∙ z .2)
+    (c .ending .ensures (z .0) (z .1))
 
 sub-later-line : tie.Need-sub-later-line Inv-loop μ-loop
 sub-later-line c =
@@ -132,7 +134,9 @@ returns-2 c =
     λ stated h.
     let z = l .inv .3 stated h in
     let w = faulted-by (step (l .number) (l .due) (z .0) (part s (l .at) (end .result))) (turn .result .desk) (why .1) (turn .ensures (z .0) (z .1)) in
-    refused-is (c .refused .result .desk) (why .0 .0) (l .number) (sym (z .2) ∙ rest-faults s (l .at) (end .result) (l .number) (l .due) (z .0) p (no1 .if1 .left) w) (c .refused .ensures)
+    refused-is (c .refused .result .desk) (why .0 .0) (l .number)
+    (sym (z .2) ∙ rest-faults s (l .at) (end .result) (l .number) (l .due) (z .0) p (no1 .if1 .left) w)
+    (c .refused .ensures)
 
 enum-known-taken-2 : tie.Need-enum-known-taken-2 Inv-loop μ-loop
 enum-known-taken-2 c = c .match .keys2

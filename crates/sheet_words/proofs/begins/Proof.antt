@@ -29,8 +29,10 @@ shared-slice-read-if2-2 c = omega arith
 
 returns-2 : tie.Need-returns-2 Inv-loop μ-loop
 returns-2 c =
-    let a = c .before .before .before .before .before .before .args in
-    let r = c .before .before .before .before .loop in
+    let at-loop : tie.At-loop Inv-loop μ-loop = search in
+    let start : tie.Start Inv-loop μ-loop = search in
+    let a = start .args in
+    let r = at-loop .loop in
     sym (sym (r .inv .2) ∙ begins-differs (a .word .now) (a .line .now) (r .i) (omega arith) (omega arith) (c .if2 .taken))
 
 add-i : tie.Need-add-i Inv-loop μ-loop
@@ -41,13 +43,16 @@ loop-less c = omega arith
 
 loop-again : tie.Need-loop-again Inv-loop μ-loop
 loop-again c =
-    let a = c .before .before .before .before .before .before .args in
-    let r = c .before .before .before .before .loop in
+    let at-loop : tie.At-loop Inv-loop μ-loop = search in
+    let start : tie.Start Inv-loop μ-loop = search in
+    let a = start .args in
+    let r = at-loop .loop in
     (omega arith, omega arith, rw add-one (sym (begins-more (a .word .now) (a .line .now) (r .i) (omega arith) (omega arith) (c .if2 .left)) ∙ r .inv .2))
 
 returns-3 : tie.Need-returns-3 Inv-loop μ-loop
 returns-3 c =
-    let a = c .before .before .before .args in
+    let start : tie.Start Inv-loop μ-loop = search in
+    let a = start .args in
     let r = c .before .loop in
     sym (begins-whole (a .word .now) (a .line .now) (r .i) (omega arith) (r .inv .0)) ∙ r .inv .2
 

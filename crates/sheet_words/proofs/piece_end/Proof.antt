@@ -23,8 +23,10 @@ shared-slice-read-if1 c = omega arith
 
 returns : tie.Need-returns Inv-loop μ-loop
 returns c =
-    let a = c .before .before .before .before .args in
-    let r = c .before .before .before .loop in
+    let at-loop : tie.At-loop Inv-loop μ-loop = search in
+    let start : tie.Start Inv-loop μ-loop = search in
+    let a = start .args in
+    let r = at-loop .loop in
     sym (end-mark (a .text .now) (r .i) (a .mark) (omega arith) (c .if1 .taken)) ∙ r .inv
 
 add-i : tie.Need-add-i Inv-loop μ-loop
@@ -35,13 +37,16 @@ loop-less c = omega arith
 
 loop-again : tie.Need-loop-again Inv-loop μ-loop
 loop-again c =
-    let a = c .before .before .before .before .args in
-    let r = c .before .before .before .loop in
+    let at-loop : tie.At-loop Inv-loop μ-loop = search in
+    let start : tie.Start Inv-loop μ-loop = search in
+    let a = start .args in
+    let r = at-loop .loop in
     rw add-one (sym (end-other (a .text .now) (r .i) (a .mark) (omega arith) (c .if1 .left)) ∙ r .inv)
 
 returns-2 : tie.Need-returns-2 Inv-loop μ-loop
 returns-2 c =
-    let a = c .before .before .args in
+    let start : tie.Start Inv-loop μ-loop = search in
+    let a = start .args in
     let r = c .before .loop in
     sym (end-past (a .text .now) (r .i) (a .mark) (omega arith)) ∙ r .inv
 

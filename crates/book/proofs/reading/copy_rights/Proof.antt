@@ -22,29 +22,46 @@ unfolding rightsOf inOrder
 loop-holds c = (search needs, refl, refl)
 
 add-copy : tie.Need-add-copy Inv-loop μ-loop
-add-copy c = omega (arith, c .before .before .before .before .pre)
+add-copy c =
+    let start : tie.Start Inv-loop μ-loop = search in
+    omega (arith, start .pre)
 
 mul-copy : tie.Need-mul-copy Inv-loop μ-loop
-mul-copy c = omega (arith, c .before .before .before .before .pre)
+mul-copy c =
+    let start : tie.Start Inv-loop μ-loop = search in
+    omega (arith, start .pre)
 
 mul-copy-2 : tie.Need-mul-copy-2 Inv-loop μ-loop
-mul-copy-2 c = omega (arith, c .before .before .before .before .before .pre)
+mul-copy-2 c =
+    let start : tie.Start Inv-loop μ-loop = search in
+    omega (arith, start .pre)
 
 copy-requires : tie.Need-copy-requires Inv-loop μ-loop
-copy-requires c κs = omega (arith, c .before .before .before .before .before .pre, c .before .before .loop .inv)
+copy-requires c κs =
+    let at-loop : tie.At-loop Inv-loop μ-loop = search in
+    let start : tie.Start Inv-loop μ-loop = search in
+    omega (arith, start .pre, at-loop .loop .inv)
 
 add-i : tie.Need-add-i Inv-loop μ-loop
-add-i c = omega (arith, c .before .before .before .before .before .before .before .before .pre)
+add-i c =
+    let start : tie.Start Inv-loop μ-loop = search in
+    omega (arith, start .pre)
 
 loop-less : tie.Need-loop-less Inv-loop μ-loop
-loop-less c = omega (arith, c .before .before .before .before .loop-test)
+loop-less c =
+    let in-loop : tie.In-loop Inv-loop μ-loop = search in
+    omega (arith, in-loop .loop-test)
 
 loop-again : tie.Need-loop-again Inv-loop μ-loop
 loop-again c =
-    let copied = c .before .before .copy in
-    let test = c .before .before .before .before .loop-test in
-    let r = c .before .before .before .before .before .loop in
-    let start = c .before .before .before .before .before .before .before .before in
+    let after-copy : tie.After-copy Inv-loop μ-loop = search in
+    let in-loop : tie.In-loop Inv-loop μ-loop = search in
+    let at-loop : tie.At-loop Inv-loop μ-loop = search in
+    let the-start : tie.Start Inv-loop μ-loop = search in
+    let copied = after-copy .copy in
+    let test = in-loop .loop-test in
+    let r = at-loop .loop in
+    let start = the-start in
     let a = start .args in (
       omega (arith, test),
       copied .kept .1 .1 .1 .0 ∙ r .inv .1,
@@ -56,7 +73,8 @@ same-length c = omega arith
 
 returns : tie.Need-returns Inv-loop μ-loop
 returns c =
-    let a = c .before .before .before .before .args in
+    let start : tie.Start Inv-loop μ-loop = search in
+    let a = start .args in
     let inv = c .before .loop .inv in
     inv .2 ∙ ap (λ k. sets (now (a .room)) 0 (rightsOf (now (a .book)) k)) (omega (arith, inv .0))
 

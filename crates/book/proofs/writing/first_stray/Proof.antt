@@ -20,12 +20,17 @@ abbrev μ-loop : tie.MeasureT-loop
 
 -- what the test of setting i tells
 abbrev Here : tie.After-are-tables Inv-loop μ-loop → Type 0
-Here c = let a = c .before .before .before .before .args in Tables (a .n) (a .m) (tablesOf (now (a .rights)) (c .before .before .loop .i))
+Here c =
+    let at-loop : tie.At-loop Inv-loop μ-loop = search in
+    let start : tie.Start Inv-loop μ-loop = search in
+    let a = start .args in Tables (a .n) (a .m) (tablesOf (now (a .rights)) (at-loop .loop .i))
 
 tested : (c : tie.After-are-tables Inv-loop μ-loop) → Tells (c .are-tables .result) (Here c)
 tested c =
-    let a = c .before .before .before .before .args in
-    let i = c .before .before .loop .i in
+    let at-loop : tie.At-loop Inv-loop μ-loop = search in
+    let start : tie.Start Inv-loop μ-loop = search in
+    let a = start .args in
+    let i = at-loop .loop .i in
     tells-iff (c .are-tables .result) (tables-there (now (a .rights)) i) (tables-here (now (a .rights)) i) (c .are-tables .ensures)
 
 loop-holds : tie.Need-loop-holds Inv-loop μ-loop
@@ -39,7 +44,9 @@ are-tables-requires c κs = search needs
 
 returns : tie.Need-returns Inv-loop μ-loop
 returns c =
-    lowest-at (c .before .before .loop-test .taken) (c .before .before .before .loop .inv .1)
+    let in-loop : tie.In-loop Inv-loop μ-loop = search in
+    let at-loop : tie.At-loop Inv-loop μ-loop = search in
+    lowest-at (in-loop .loop-test .taken) (at-loop .loop .inv .1)
     (untold (Here (c .before)) (c .before .are-tables .result) (tested (c .before)) (c .if1 .taken))
 
 add-i : tie.Need-add-i Inv-loop μ-loop
@@ -50,7 +57,8 @@ loop-less c = search needs
 
 loop-again : tie.Need-loop-again Inv-loop μ-loop
 loop-again c =
-    let r = c .before .before .before .loop in
+    let at-loop : tie.At-loop Inv-loop μ-loop = search in
+    let r = at-loop .loop in
     (omega arith, below-more _ (r .i) (r .inv .1) (told (Here (c .before)) (c .before .are-tables .result) (tested (c .before)) (c .if1 .left)))
 
 returns-2 : tie.Need-returns-2 Inv-loop μ-loop

@@ -13,13 +13,16 @@ use Rattle.book.proofs.writing.write.Tie as tie
 -- in the arm of no refusal, the rights may be written and the room is long enough
 abbrev May : tie.After-enum-told → Type 0
 May c =
-    let a = c .before .before .before .before .before .before .args in
+    let start : tie.Start = search in
+    let a = start .args in
     Writable (a .n) (a .m) (now (a .rights)) × (512 * (1 + a .n) ≤ length (now (a .room)))
 
 may : (c : tie.After-enum-told) → May c
 may c =
-    let judged = c .before .before in
-    let a = judged .before .before .before .before .args in
+    let after-judge : tie.After-judge = search in
+    let start : tie.Start = search in
+    let judged = after-judge in
+    let a = start .args in
     may-write (a .n) (a .m) (now (a .rights)) (now (a .room)) (judged .judge .result) (judged .judge .ensures) (c .enum-told .given .1)
 
 judge-requires : tie.Need-judge-requires
@@ -42,17 +45,21 @@ write-head-requires c κs = let w = may (c .before) in omega (arith, w .1)
 
 write-settings-requires : tie.Need-write-settings-requires
 write-settings-requires c κs =
-    let w = may (c .before .before .before .before .before) in
-    omega (arith, w .0 .settings .most, w .0 .size, w .1, c .before .before .before .write-head .kept .1 .1 .0)
+    let after-write-head : tie.After-write-head = search in
+    let after-enum-told : tie.After-enum-told = search in
+    let w = may after-enum-told in
+    omega (arith, w .0 .settings .most, w .0 .size, w .1, after-write-head .write-head .kept .1 .1 .0)
 
 same-length : tie.Need-same-length
 same-length c = search needs
 
 returns : tie.Need-returns
 returns c =
+    let after-judge : tie.After-judge = search in
+    let start : tie.Start = search in
     let told = c .before .answer .given in
-    let judged = c .before .before .before in
-    let a = judged .before .before .before .before .args in
+    let judged = after-judge in
+    let a = start .args in
     (may-not-write (a .n) (a .m) (now (a .rights)) (now (a .room)) (judged .judge .result) (told .0 .0) (judged .judge .ensures) (told .1), refl)
 
 same-length-2 : tie.Need-same-length-2
@@ -60,10 +67,14 @@ same-length-2 c = search needs
 
 returns-2 : tie.Need-returns-2
 returns-2 c =
-    let settings = c .before .before in
-    let head = settings .before .before .before .before in
-    let arm = head .before .before in
-    let a = arm .before .before .before .before .before .before .args in
+    let after-write-settings : tie.After-write-settings = search in
+    let after-write-head : tie.After-write-head = search in
+    let after-enum-told : tie.After-enum-told = search in
+    let start : tie.Start = search in
+    let settings = after-write-settings in
+    let head = after-write-head in
+    let arm = after-enum-told in
+    let a = start .args in
     let w = may arm in (
       w .0,
       w .1,

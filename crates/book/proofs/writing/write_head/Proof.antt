@@ -24,14 +24,20 @@ seal-requires : tie.Need-seal-requires
 seal-requires c κs = search needs
 
 same-length : tie.Need-same-length
-same-length c = c .before .before .seal .kept .0 ∙ c .before .before .before .before .before .before .zeros .kept .1 .0 ∙ simp length-set
+same-length c =
+    let after-seal : tie.After-seal = search in
+    let after-zeros : tie.After-zeros = search in
+    after-seal .seal .kept .0 ∙ after-zeros .zeros .kept .1 .0 ∙ simp length-set
 
 returns : tie.Need-returns
 unfolding headBlock
 returns c =
-    let sealing = c .before .before in
-    let zeros = sealing .before .before .before .before in
-    let start = zeros .before .before .before in
+    let after-seal : tie.After-seal = search in
+    let after-zeros : tie.After-zeros = search in
+    let the-start : tie.Start = search in
+    let sealing = after-seal in
+    let zeros = after-zeros in
+    let start = the-start in
     let a = start .args in
     seal-on (now (a .room)) _ _ (a .n ∷ a .m ∷ replicate 506 0) 0 (ap (λ k. suc (suc k)) (length-replicate {A = ℕ} 506 0)) (start .pre)
     (run-on (now (a .room)) _ _ (a .n ∷ a .m ∷ []) (replicate 506 0) 0 2 refl refl (zeros .zeros .ensures))

@@ -40,10 +40,14 @@ same-length c = search needs
 returns : tie.Need-returns
 unfolding settingBlock tablesOf
 returns c =
-    let sealing = c .before .before in
-    let zeros = sealing .before .before .before .before in
-    let copied = zeros .before .before .before .before in
-    let start = copied .before .before .before .before in
+    let after-seal : tie.After-seal = search in
+    let after-zeros : tie.After-zeros = search in
+    let after-copy : tie.After-copy = search in
+    let the-start : tie.Start = search in
+    let sealing = after-seal in
+    let zeros = after-zeros in
+    let copied = after-copy in
+    let start = the-start in
     let a = start .args in
     let at = 512 * (1 + a .i) in
     let tables = tablesOf (now (a .rights)) (a .i) in

@@ -23,20 +23,32 @@ unfolding settingBlocks inOrder
 loop-holds c = (search needs, refl, refl)
 
 write-setting-requires : tie.Need-write-setting-requires Inv-loop μ-loop
-write-setting-requires c κs = omega (arith, c .before .before .before .before .before .pre, c .before .before .loop .inv, c .before .loop-test)
+write-setting-requires c κs =
+    let at-loop : tie.At-loop Inv-loop μ-loop = search in
+    let start : tie.Start Inv-loop μ-loop = search in
+    omega (arith, start .pre, at-loop .loop .inv, c .before .loop-test)
 
 add-i : tie.Need-add-i Inv-loop μ-loop
-add-i c = omega (arith, c .before .before .before .before .before .before .before .before .pre, c .before .before .before .before .loop-test)
+add-i c =
+    let in-loop : tie.In-loop Inv-loop μ-loop = search in
+    let start : tie.Start Inv-loop μ-loop = search in
+    omega (arith, start .pre, in-loop .loop-test)
 
 loop-less : tie.Need-loop-less Inv-loop μ-loop
-loop-less c = omega (arith, c .before .before .before .before .loop-test)
+loop-less c =
+    let in-loop : tie.In-loop Inv-loop μ-loop = search in
+    omega (arith, in-loop .loop-test)
 
 loop-again : tie.Need-loop-again Inv-loop μ-loop
 loop-again c =
-    let written = c .before .before .write-setting in
-    let test = c .before .before .before .before .loop-test in
-    let r = c .before .before .before .before .before .loop in
-    let start = c .before .before .before .before .before .before .before .before in
+    let after-write-setting : tie.After-write-setting Inv-loop μ-loop = search in
+    let in-loop : tie.In-loop Inv-loop μ-loop = search in
+    let at-loop : tie.At-loop Inv-loop μ-loop = search in
+    let the-start : tie.Start Inv-loop μ-loop = search in
+    let written = after-write-setting .write-setting in
+    let test = in-loop .loop-test in
+    let r = at-loop .loop in
+    let start = the-start in
     let a = start .args in (
       omega (arith, test),
       written .kept .1 .1 .0 ∙ r .inv .1,
@@ -48,7 +60,8 @@ same-length c = omega arith
 
 returns : tie.Need-returns Inv-loop μ-loop
 returns c =
-    let a = c .before .before .before .before .args in
+    let start : tie.Start Inv-loop μ-loop = search in
+    let a = start .args in
     let inv = c .before .loop .inv in
     inv .2 ∙ ap (λ k. sets (now (a .room)) 512 (settingBlocks (now (a .rights)) k)) (omega (arith, inv .0, c .loop-test))
 

@@ -26,12 +26,15 @@ byte-at-requires c κs = search needs
 returns : tie.Need-returns Inv-loop μ-loop
 unfolding Zeros
 returns c =
-    let a = c .before .before .before .before .before .args in
-    let r = c .before .before .before .loop in
+    let in-loop : tie.In-loop Inv-loop μ-loop = search in
+    let at-loop : tie.At-loop Inv-loop μ-loop = search in
+    let start : tie.Start Inv-loop μ-loop = search in
+    let a = start .args in
+    let r = at-loop .loop in
     λ zeros. c .if1 .taken
     (c .before .byte-at .ensures
     ∙ sym (getD-drop (a .from) (now (a .bytes)) (r .j) 0)
-    ∙ zeros (r .j) (r .inv .0) (c .before .before .loop-test .taken))
+    ∙ zeros (r .j) (r .inv .0) (in-loop .loop-test .taken))
 
 add-j : tie.Need-add-j Inv-loop μ-loop
 add-j c = search needs
@@ -41,8 +44,10 @@ loop-less c = search needs
 
 loop-again : tie.Need-loop-again Inv-loop μ-loop
 loop-again c =
-    let a = c .before .before .before .before .before .args in
-    let r = c .before .before .before .loop in (
+    let at-loop : tie.At-loop Inv-loop μ-loop = search in
+    let start : tie.Start Inv-loop μ-loop = search in
+    let a = start .args in
+    let r = at-loop .loop in (
       omega arith,
       below-more _ (r .j) (r .inv .1)
           (λ _. getD-drop (a .from) (now (a .bytes)) (r .j) 0 ∙ sym (c .before .byte-at .ensures) ∙ c .if1 .left),

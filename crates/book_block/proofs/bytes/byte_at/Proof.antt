@@ -9,13 +9,17 @@ use Rattle.book_block.proofs.bytes.byte_at.Statement.{statement}
 use Rattle.book_block.proofs.bytes.byte_at.Tie as tie
 
 returns : tie.Need-returns
-returns c = let a = c .before .before .args in sym (List·getD-eq-default (now (a .bytes)) 0 {n = a .from + a .i} (omega arith))
+returns c =
+    let start : tie.Start = search in
+    let a = start .args in sym (List·getD-eq-default (now (a .bytes)) 0 {n = a .from + a .i} (omega arith))
 
 sub-if2 : tie.Need-sub-if2
 sub-if2 c = search needs
 
 returns-2 : tie.Need-returns-2
-returns-2 c = let a = c .before .before .before .args in sym (List·getD-eq-default (now (a .bytes)) 0 {n = a .from + a .i} (omega arith))
+returns-2 c =
+    let start : tie.Start = search in
+    let a = start .args in sym (List·getD-eq-default (now (a .bytes)) 0 {n = a .from + a .i} (omega arith))
 
 add-peek : tie.Need-add-peek
 add-peek c = search needs

@@ -19,13 +19,16 @@ table-at-requires c κs = search needs
 
 add-result-2 : tie.Need-add-result-2
 add-result-2 c =
-    let start = c .before .before in
+    let the-start : tie.Start = search in
+    let start = the-start in
     let a = start .args in
     omega (arith, c .table-at .ensures, place-small (a .post) (a .right) (omega (arith, start .fits .post)))
 
 returns : tie.Need-returns
 unfolding rulePlace
-returns c = ap (λ (k : ℕ). 512 * (1 + c .before .before .args .setting) + k) (c .table-at .ensures)
+returns c =
+    let start : tie.Start = search in
+    ap (λ (k : ℕ). 512 * (1 + start .args .setting) + k) (c .table-at .ensures)
 
 pub rule-at-spec : {M : Type 1} → statement M
 rule-at-spec = tie.close (tie.spec add-result mul-result table-at-requires add-result-2 returns)

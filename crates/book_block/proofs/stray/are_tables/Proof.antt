@@ -33,23 +33,31 @@ fits-requires c κs = rw (c .live-bits .ensures) (live-most _ _ _)
 -- byte j has only its live bits, which is what the test tells
 abbrev Here : tie.After-fits2 Inv-loop μ-loop → Type 0
 Here c =
-    let a = c .before .before .before .before .before .before .args in
-    Alive (a .n) (a .m) (drop (a .from) (now (a .bytes))) (c .before .before .before .before .loop .j)
+    let at-loop : tie.At-loop Inv-loop μ-loop = search in
+    let start : tie.Start Inv-loop μ-loop = search in
+    let a = start .args in
+    Alive (a .n) (a .m) (drop (a .from) (now (a .bytes))) (at-loop .loop .j)
 
 tested : (c : tie.After-fits2 Inv-loop μ-loop) → Tells (c .fits2 .result) (Here c)
 tested c =
-    let a = c .before .before .before .before .before .before .args in
-    byte-tells (now (a .bytes)) (a .from) (c .before .before .before .before .loop .j) _ _ (a .n) (a .m) (c .fits2 .result)
-    (c .before .before .byte-at .ensures) (c .before .live-bits .ensures) (c .fits2 .ensures)
+    let after-byte-at : tie.After-byte-at Inv-loop μ-loop = search in
+    let at-loop : tie.At-loop Inv-loop μ-loop = search in
+    let start : tie.Start Inv-loop μ-loop = search in
+    let a = start .args in
+    byte-tells (now (a .bytes)) (a .from) (at-loop .loop .j) _ _ (a .n) (a .m) (c .fits2 .result)
+    (after-byte-at .byte-at .ensures) (c .before .live-bits .ensures) (c .fits2 .ensures)
 
 returns : tie.Need-returns Inv-loop μ-loop
 unfolding Clean
 returns c =
-    let s = c .before .before .before .before .before .before in
+    let in-loop : tie.In-loop Inv-loop μ-loop = search in
+    let at-loop : tie.At-loop Inv-loop μ-loop = search in
+    let after-shared-slice-known : tie.After-shared-slice-known Inv-loop μ-loop = search in
+    let s = after-shared-slice-known in
     let a = s .before .args in
     λ good. untold (Here (c .before)) (c .before .fits2 .result) (tested (c .before)) (c .if1 .taken)
     (tables-clean (a .n) (a .m) (drop (a .from) (now (a .bytes))) (dropped-small _ (a .from) (λ k. s .shared-slice-known .given k .fits)) good
-    (c .before .before .before .before .before .loop .j) (c .before .before .before .before .loop-test .taken))
+    (at-loop .loop .j) (in-loop .loop-test .taken))
 
 add-j : tie.Need-add-j Inv-loop μ-loop
 add-j c = search needs
@@ -59,7 +67,8 @@ loop-less c = search needs
 
 loop-again : tie.Need-loop-again Inv-loop μ-loop
 loop-again c =
-    let r = c .before .before .before .before .before .loop in
+    let at-loop : tie.At-loop Inv-loop μ-loop = search in
+    let r = at-loop .loop in
     (omega arith, below-more _ (r .j) (r .inv .1) (told (Here (c .before)) (c .before .fits2 .result) (tested (c .before)) (c .if1 .left)))
 
 returns-2 : tie.Need-returns-2 Inv-loop μ-loop

@@ -18,7 +18,9 @@ are-zeros-requires c κs = search needs
 
 returns-2 : tie.Need-returns-2
 returns-2 c =
-    let tables = told (Tables _ _ _) (c .before .before .are-tables .result) (c .before .before .are-tables .ensures) (c .before .if1 .left) in
+    let after-are-tables : tie.After-are-tables = search in
+    let are-tables = after-are-tables .are-tables in
+    let tables = told (Tables _ _ _) (are-tables .result) (are-tables .ensures) (c .before .if1 .left) in
     tells-iff (c .are-zeros .result) (λ rest. record { tables = tables; rest = rest }) (λ s. s .rest) (c .are-zeros .ensures)
 
 pub is-setting-spec : {M : Type 1} → statement M

@@ -22,8 +22,11 @@ shl-all c = search needs
 mul-first : tie.Need-mul-first
 mul-first c = search needs
 
+abbrev start-of-else2 : tie.Else2 → tie.Start
+start-of-else2 c = search
+
 -- below seven settings the shift gives their valuations
-shifted : (c : tie.Else2) → 1 * 2 ^ c .before .before .args .n % 2 ^ 64 ≡ 2 ^ c .before .before .args .n
+shifted : (c : tie.Else2) → 1 * 2 ^ start-of-else2 c .args .n % 2 ^ 64 ≡ 2 ^ start-of-else2 c .args .n
 shifted c = one-shifted _ (c .if2 .left)
 
 returns-3 : tie.Need-returns-3
@@ -33,13 +36,17 @@ sub-if4 : tie.Need-sub-if4
 sub-if4 c = search needs
 
 returns-4 : tie.Need-returns-4
-returns-4 c = let e = c .before .before in rw (live-some _ _ _ (e .before .if1 .left)) (omega (arith, shifted e))
+returns-4 c =
+    let else2 : tie.Else2 = search in
+    let e = else2 in rw (live-some _ _ _ (e .before .if1 .left)) (omega (arith, shifted e))
 
 sub-result : tie.Need-sub-result
 sub-result c = search needs
 
 returns-5 : tie.Need-returns-5
-returns-5 c = let e = c .before .before in rw (live-some _ _ _ (e .before .if1 .left)) (omega (arith, shifted e))
+returns-5 c =
+    let else2 : tie.Else2 = search in
+    let e = else2 in rw (live-some _ _ _ (e .before .if1 .left)) (omega (arith, shifted e))
 
 pub live-bits-spec : {M : Type 1} → statement M
 live-bits-spec =

@@ -35,17 +35,21 @@ loop-less c = search needs
 
 loop-again : tie.Need-loop-again Inv-loop μ-loop
 loop-again c =
-    let a = c .before .before .before .before .before .args in
-    let r = c .before .before .before .loop in (
+    let at-loop : tie.At-loop Inv-loop μ-loop = search in
+    let start : tie.Start Inv-loop μ-loop = search in
+    let a = start .args in
+    let r = at-loop .loop in (
       omega arith,
       c .add .ensures
-          ∙ sums-step (drop (a .from) (now (a .bytes))) (r .i) (r .sums) _ (r .inv .1) (c .before .byte-at .ensures ∙ sym (getD-drop (a .from) (now (a .bytes)) (r .i) 0)),
+          ∙ sums-step (drop (a .from) (now (a .bytes))) (r .i) (r .sums) _ (r .inv .1)
+          (c .before .byte-at .ensures ∙ sym (getD-drop (a .from) (now (a .bytes)) (r .i) 0)),
     )
 
 returns : tie.Need-returns Inv-loop μ-loop
 unfolding check
 returns c =
-    let a = c .before .before .before .args in
+    let start : tie.Start Inv-loop μ-loop = search in
+    let a = start .args in
     let r = c .before .loop in
     r .inv .1 ∙ ap (sumsAfter (drop (a .from) (now (a .bytes)))) (omega arith)
 

@@ -13,7 +13,8 @@ number-at-requires c κs = search needs
 
 returns : tie.Need-returns
 returns c =
-    let n = c .before .before in
+    let after-number-at : tie.After-number-at = search in
+    let n = after-number-at in
     λ right. c .if1 .taken (n .number-at .ensures ∙ right .holds-s ∙ sym (ap (λ (x : Sums). x .s) (n .before .check-of .ensures)))
 
 number-at-requires-2 : tie.Need-number-at-requires-2
@@ -21,17 +22,22 @@ number-at-requires-2 c κs = search needs
 
 returns-2 : tie.Need-returns-2
 returns-2 c =
-    let n = c .before .before in
-    let sums = n .before .before .before .before .check-of in
+    let after-number-at2 : tie.After-number-at2 = search in
+    let after-check-of : tie.After-check-of = search in
+    let n = after-number-at2 in
+    let sums = after-check-of .check-of in
     λ right. c .if2 .taken (n .number-at2 .ensures ∙ right .holds-t ∙ sym (ap (λ (x : Sums). x .t) (sums .ensures)))
 
 returns-3 : tie.Need-returns-3
 returns-3 c =
-    let n = c .before .before in
+    let after-number-at2 : tie.After-number-at2 = search in
+    let after-number-at : tie.After-number-at = search in
+    let after-check-of : tie.After-check-of = search in
+    let n = after-number-at2 in
     let first = n .before in
-    let sums = first .before .before .before .check-of in
+    let sums = after-check-of .check-of in
     record {
-      holds-s = sym (first .before .before .number-at .ensures) ∙ first .if1 .left ∙ ap (λ (x : Sums). x .s) (sums .ensures);
+      holds-s = sym (after-number-at .number-at .ensures) ∙ first .if1 .left ∙ ap (λ (x : Sums). x .s) (sums .ensures);
       holds-t = sym (n .number-at2 .ensures) ∙ c .if2 .left ∙ ap (λ (x : Sums). x .t) (sums .ensures);
     }
 

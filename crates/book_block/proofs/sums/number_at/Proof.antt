@@ -32,7 +32,8 @@ add-result c = search needs
 returns : tie.Need-returns
 unfolding number16
 returns c =
-    let a = c .before .before .before .args in
+    let start : tie.Start = search in
+    let a = start .args in
     ap₂ (λ x y. x + 256 * y)
     (c .before .byte-at .ensures ∙ sym (getD-drop (a .from) (now (a .bytes)) (a .i) 0))
     (c .byte-at2 .ensures ∙ sym (getD-drop (a .from) (now (a .bytes)) (a .i + 1) 0))

@@ -43,11 +43,16 @@ same-length c = search needs
 returns-3 : tie.Need-returns-3
 unfolding checkBytes bytes16
 returns-3 c =
-    let sums = c .before .before .before .before .before .before .before .before .check-of in
-    let before = c .before .before .before .before .before .before .before .before .before .before in
-    let a = before .before .before .before .args in
+    let after-put162 : tie.After-put162 = search in
+    let after-put16 : tie.After-put16 = search in
+    let after-check-of : tie.After-check-of = search in
+    let else2 : tie.Else2 = search in
+    let start : tie.Start = search in
+    let sums = after-check-of .check-of in
+    let before = else2 in
+    let a = start .args in
     run-on (now (a .room)) _ _ (bytes16 (sums .result .s)) (bytes16 (sums .result .t)) (a .at + 508) (a .at + 510)
-    (add-assoc (a .at) 508 2) (c .before .before .before .before .before .before .put16 .ensures) (c .before .before .put162 .ensures)
+    (add-assoc (a .at) 508 2) (after-put16 .put16 .ensures) (after-put162 .put162 .ensures)
     ∙ ap (λ (x : Sums). sets (now (a .room)) (a .at + 508) (bytes16 (x .s) ++ bytes16 (x .t))) (sums .ensures)
     ∙ sym (sealed-at (now (a .room)) (a .at) (omega arith))
 

@@ -7,8 +7,13 @@ use borrow.Author.Needs.{needs}
 use Rattle.finder.proofs.answer.from_start.Statement.{statement}
 use Rattle.finder.proofs.answer.from_start.Tie as tie
 
+abbrev start-of-else1 : tie.Else1 → tie.Start
+start-of-else1 c = search
+
 -- the start has a rank, past the test for none
-ranked : (c : tie.Else1) → Ranked (c .before .before .before .before .args .n) (c .before .before .before .before .args .set .now) (c .before .before .before .before .args .look .now) (c .before .before .before .before .args .ranks .now) (c .before .before .before .before .args .start)
+ranked : (c : tie.Else1) →
+    Ranked (start-of-else1 c .args .n) (start-of-else1 c .args .set .now) (start-of-else1 c .args .look .now)
+    (start-of-else1 c .args .ranks .now) (start-of-else1 c .args .start)
 ranked c =
     let start : tie.Start = search in
     let pre = start .pre in record {

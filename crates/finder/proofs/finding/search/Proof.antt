@@ -21,10 +21,14 @@ systemHere s = systemOf (s .args .n) (s .args .book .now) (s .args .question) (g
 
 -- the places before the ranks are filled
 abbrev started : tie.After-fill-ranks → tie.Start
-started c = c .before .before .before .before .before .before .before .before .before .before .before .before .before .before .before
+started c =
+    let start : tie.Start = search in
+    start
 
 abbrev looked : tie.After-fill-ranks → tie.After-posts-allowed2
-looked c = c .before .before .before .before .before .before .before .before
+looked c =
+    let after-posts-allowed2 : tie.After-posts-allowed2 = search in
+    after-posts-allowed2
 
 -- once the ranks are filled, the tables tell the question's system
 told : (c : tie.After-fill-ranks)
@@ -42,9 +46,14 @@ filled c =
     ranks-filled (started c .pre .0 .1) (looked c .before .posts-allowed .ensures) (looked c .posts-allowed2 .ensures)
     (halves .before .made .ensures) (halves .learnt .ensures) (c .fill-ranks .ensures) (started c .pre .1)
 
+abbrev after-fill-ranks-of-after-number : tie.After-number → tie.After-fill-ranks
+after-fill-ranks-of-after-number c = search
+
 -- the number of the start
-start-here : (c : tie.After-number) → c .number .result ≡ startOf (started (c .before .before .before .before) .args .question)
-start-here c = start-is (started (c .before .before .before .before) .args .question) (c .before .at-start .ensures) (c .number .ensures)
+start-here : (c : tie.After-number) → c .number .result ≡ startOf (started (after-fill-ranks-of-after-number c) .args .question)
+start-here c =
+    let after-fill-ranks : tie.After-fill-ranks = search in
+    start-is (started after-fill-ranks .args .question) (c .before .at-start .ensures) (c .number .ensures)
 
 posts-allowed-requires : tie.Need-posts-allowed-requires
 posts-allowed-requires c κs = search needs
@@ -69,8 +78,10 @@ number-requires c κs = search needs
 
 from-start-requires : tie.Need-from-start-requires
 from-start-requires c κs =
-    let numbered = c .before .before .before .before in
-    let ranked = numbered .before .before .before .before in
+    let after-number : tie.After-number = search in
+    let after-fill-ranks : tie.After-fill-ranks = search in
+    let numbered = after-number in
+    let ranked = after-fill-ranks in
     let start = started ranked in (
       subst (λ (x : ℕ). x < 7 ^ start .args .n) (sym (start-here numbered)) (valid-start (start .pre .0 .1)),
       omega (arith, start .pre .1, filled ranked .size),
@@ -85,9 +96,12 @@ same-length-2 c = search needs
 
 returns : tie.Need-returns
 returns c =
-    let answered = c .before .before in
-    let numbered = answered .before .before .before .before .before in
-    let ranked = numbered .before .before .before .before in
+    let after-from-start : tie.After-from-start = search in
+    let after-number : tie.After-number = search in
+    let after-fill-ranks : tie.After-fill-ranks = search in
+    let answered = after-from-start in
+    let numbered = after-number in
+    let ranked = after-fill-ranks in
     let start = started ranked in (
       filled ranked,
       subst (λ (x : ℕ). AnswersFrom (systemHere start) x (start .args .plan .now) (answered .from-start .result) (answered .from-start .last .1 .1 .1 .1 .1 .0))

@@ -19,7 +19,12 @@ shr-if1 : tie.Need-shr-if1 Inv-loop μ-loop
 shr-if1 c = omega arith
 
 returns : tie.Need-returns Inv-loop μ-loop
-returns c = (lowest-here (c .before .before .before .args .posts) (c .before .before .loop .q) (c .before .before .loop .inv .1) (bit-on (c .before .before .before .args .posts) (c .before .before .loop .q) (c .if1 .taken)), omega arith)
+returns c =
+    let at-loop : tie.At-loop Inv-loop μ-loop = search in
+    let start : tie.Start Inv-loop μ-loop = search in
+    let loop = at-loop .loop in
+    let args = start .args in
+    (lowest-here (args .posts) (loop .q) (loop .inv .1) (bit-on (args .posts) (loop .q) (c .if1 .taken)), omega arith)
 
 add-q : tie.Need-add-q Inv-loop μ-loop
 add-q c = omega arith
@@ -28,10 +33,20 @@ loop-less : tie.Need-loop-less Inv-loop μ-loop
 loop-less c = omega arith
 
 loop-again : tie.Need-loop-again Inv-loop μ-loop
-loop-again c = (omega arith, lowest-more (c .before .before .before .args .posts) (c .before .before .loop .q) (c .before .before .loop .inv .1) (bit-off (c .before .before .before .args .posts) (c .before .before .loop .q) (c .if1 .left)))
+loop-again c =
+    let at-loop : tie.At-loop Inv-loop μ-loop = search in
+    let start : tie.Start Inv-loop μ-loop = search in
+    let loop = at-loop .loop in
+    let args = start .args in
+    (omega arith, lowest-more (args .posts) (loop .q) (loop .inv .1) (bit-off (args .posts) (loop .q) (c .if1 .left)))
 
 returns-2 : tie.Need-returns-2 Inv-loop μ-loop
-returns-2 c = (lowest-last (c .before .before .args .posts) (c .before .loop .q) (omega (arith, c .before .before .fits .posts)) (c .before .before .pre) (c .loop-test .left) (c .before .loop .inv .0) (c .before .loop .inv .1), omega arith)
+returns-2 c =
+    let start : tie.Start Inv-loop μ-loop = search in (
+      lowest-last (start .args .posts) (c .before .loop .q) (omega (arith, start .fits .posts)) (start .pre)
+          (c .loop-test .left) (c .before .loop .inv .0) (c .before .loop .inv .1),
+      omega arith,
+    )
 
 pub lowest-spec : {M : Type 1} → statement M
 lowest-spec =

@@ -14,7 +14,13 @@ number-requires : tie.Need-number-requires
 number-requires c κs = search needs
 
 returns : tie.Need-returns
-returns c = set-number (c .before .before .before .args .k) (c .before .before .before .args .setting) (c .before .before .before .args .value) (c .before .before .before .pre .0) (c .before .before .before .pre .1) (c .before .before .from-number .ensures) (c .before .after-set .ensures) (c .number .ensures)
+returns c =
+    let after-from-number : tie.After-from-number = search in
+    let start : tie.Start = search in
+    let args = start .args in
+    let pre = start .pre in
+    set-number (args .k) (args .setting) (args .value) (pre .0) (pre .1) (after-from-number .from-number .ensures)
+    (c .before .after-set .ensures) (c .number .ensures)
 
 pub set-to-spec : {M : Type 1} → statement M
 set-to-spec = tie.close (tie.spec from-number-requires after-set-requires number-requires returns)

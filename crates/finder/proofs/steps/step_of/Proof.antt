@@ -5,25 +5,47 @@ use Rattle.finder.proofs.steps.step_of.Statement.{statement}
 use Rattle.finder.proofs.steps.step_of.Tie as tie
 
 returns : tie.Need-returns
-returns c = λ S t. pair-past t (c .before .before .args .k) (c .before .before .args .pair) (c .if1 .taken)
+returns c =
+    let start : tie.Start = search in
+    let args = start .args in
+    λ S t. pair-past t (args .k) (args .pair) (c .if1 .taken)
 
 set-step-requires : tie.Need-set-step-requires
-set-step-requires c κs = (c .before .before .before .pre .0, c .before .before .before .pre .1, c .before .before .before .pre .2, c .before .before .before .pre .3, omega arith)
+set-step-requires c κs =
+    let start : tie.Start = search in
+    let pre = start .pre in
+    (pre .0, pre .1, pre .2, pre .3, omega arith)
 
 returns-2 : tie.Need-returns-2
-returns-2 c = λ S t. family-false S (c .before .before .before .before .args .ranks .now) (c .before .before .before .before .args .k) (c .before .before .before .before .args .pair) (c .set-step .result) (c .before .if2 .taken) (c .set-step .ensures S t)
+returns-2 c =
+    let start : tie.Start = search in
+    let args = start .args in
+    λ S t. family-false S (args .ranks .now) (args .k) (args .pair) (c .set-step .result) (c .before .if2 .taken) (c .set-step .ensures S t)
 
 set-step-requires-2 : tie.Need-set-step-requires-2
-set-step-requires-2 c κs = (c .before .before .before .before .pre .0, c .before .before .before .before .pre .1, c .before .before .before .before .pre .2, c .before .before .before .before .pre .3, omega arith)
+set-step-requires-2 c κs =
+    let start : tie.Start = search in
+    let pre = start .pre in
+    (pre .0, pre .1, pre .2, pre .3, omega arith)
 
 returns-3 : tie.Need-returns-3
-returns-3 c = λ S t. family-true S (c .before .before .before .before .before .args .ranks .now) (c .before .before .before .before .before .args .k) (c .before .before .before .before .before .args .pair) (c .set-step2 .result) (c .before .before .if2 .left) (c .before .if3 .taken) (c .set-step2 .ensures S t)
+returns-3 c =
+    let else2 : tie.Else2 = search in
+    let start : tie.Start = search in
+    let args = start .args in
+    λ S t. family-true S (args .ranks .now) (args .k) (args .pair) (c .set-step2 .result) (else2 .if2 .left) (c .before .if3 .taken) (c .set-step2 .ensures S t)
 
 look-step-requires : tie.Need-look-step-requires
-look-step-requires c κs = (c .before .before .before .before .pre .0, c .before .before .before .before .pre .1, c .before .before .before .before .pre .2, c .before .before .before .before .pre .3, omega arith)
+look-step-requires c κs =
+    let start : tie.Start = search in
+    let pre = start .pre in
+    (pre .0, pre .1, pre .2, pre .3, omega arith)
 
 returns-4 : tie.Need-returns-4
-returns-4 c = λ S t. family-look S (c .before .before .before .before .before .args .ranks .now) (c .before .before .before .before .before .args .k) (c .before .before .before .before .before .args .pair) (c .look-step .result) (c .before .if3 .left) (c .before .before .before .before .before .pre .4) (c .look-step .ensures S t)
+returns-4 c =
+    let start : tie.Start = search in
+    let args = start .args in
+    λ S t. family-look S (args .ranks .now) (args .k) (args .pair) (c .look-step .result) (c .before .if3 .left) (start .pre .4) (c .look-step .ensures S t)
 
 pub step-of-spec : {M : Type 1} → statement M
 step-of-spec =

@@ -68,19 +68,27 @@ set-chosen : (t : ℕ) (c : ToSet t) (S : System) → Tells t (set-begun t c) S
     → Chosen S (set-begun t c .args .k) (Set (c .before .act2 .given .0 .0) (c .before .act2 .given .0 .1 .0) (c .before .act2 .given .0 .1 .1 .0))
 set-chosen t c S u =
     let start = set-begun t c in
-    subst (Chooses S (start .args .ranks .now) (start .args .k)) (c .before .before .before .before .act .given .1 ∙ ap Do (c .before .act2 .given .1)) (c .before .before .before .before .before .before .choose .ensures S u)
+    subst (Chooses S (start .args .ranks .now) (start .args .k))
+    (c .before .before .before .before .act .given .1 ∙ ap Do (c .before .act2 .given .1))
+    (c .before .before .before .before .before .before .choose .ensures S u)
 
 look-chosen : (t : ℕ) (c : ToLook t) (S : System) → Tells t (look-begun t c) S
     → Chosen S (look-begun t c .args .k) (Look (c .before .act3 .given .0 .0) (c .before .act3 .given .0 .1 .0))
 look-chosen t c S u =
     let start = look-begun t c in
-    subst (Chooses S (start .args .ranks .now) (start .args .k)) (c .before .before .before .before .act .given .1 ∙ ap Do (c .before .act3 .given .1)) (c .before .before .before .before .before .before .choose .ensures S u)
+    subst (Chooses S (start .args .ranks .now) (start .args .k))
+    (c .before .before .before .before .act .given .1 ∙ ap Do (c .before .act3 .given .1))
+    (c .before .before .before .before .before .before .choose .ensures S u)
 
 -- and in the system that the tables tell
-set-here : (t : ℕ) (c : ToSet t) → Chosen (set-begun t c .pre .1 .system) (set-begun t c .args .k) (Set (c .before .act2 .given .0 .0) (c .before .act2 .given .0 .1 .0) (c .before .act2 .given .0 .1 .1 .0))
+set-here : (t : ℕ) (c : ToSet t) →
+    Chosen (set-begun t c .pre .1 .system) (set-begun t c .args .k)
+    (Set (c .before .act2 .given .0 .0) (c .before .act2 .given .0 .1 .0) (c .before .act2 .given .0 .1 .1 .0))
 set-here t c = let from = set-begun t c .pre .1 in set-chosen t c (from .system) (from .told)
 
-look-here : (t : ℕ) (c : ToLook t) → Chosen (look-begun t c .pre .1 .system) (look-begun t c .args .k) (Look (c .before .act3 .given .0 .0) (c .before .act3 .given .0 .1 .0))
+look-here : (t : ℕ) (c : ToLook t) →
+    Chosen (look-begun t c .pre .1 .system) (look-begun t c .args .k)
+    (Look (c .before .act3 .given .0 .0) (c .before .act3 .given .0 .1 .0))
 look-here t c = let from = look-begun t c .pre .1 in look-chosen t c (from .system) (from .told)
 
 -- what a set or a look at the state asks for
@@ -128,24 +136,33 @@ length-length-requires-2 t c κs =
     next-here (start .pre .1) (c .look-at .ensures) (start .pre .0) (next-look (start .pre .1) _ _ false (look-here t told))
 
 length-look-at-requires-2 : (t : ℕ) → length-lts.Need-look-at-requires-2 (length-claims t) (length-at t) length.Post
-length-look-at-requires-2 t c κs = look-asks t (c .before .before)
+length-look-at-requires-2 t c κs =
+    let after-known-told3 : length-lts.After-known-told3 (length-claims t) (length-at t) length.Post = search in
+    look-asks t after-known-told3
 
 length-length-requires-3 : (t : ℕ) → length-lts.Need-length-requires-3 (length-claims t) (length-at t) length.Post
 length-length-requires-3 t c κs =
-    let told = c .before .before .before in
+    let after-known-told3 : length-lts.After-known-told3 (length-claims t) (length-at t) length.Post = search in
+    let told = after-known-told3 in
     let start = look-begun t told in
     next-here (start .pre .1) (c .look-at2 .ensures) (start .pre .0) (next-look (start .pre .1) _ _ true (look-here t told))
 
 length-add-result-2 : (t : ℕ) → length-lts.Need-add-result-2 (length-claims t) (length-at t) length.Post
-length-add-result-2 t c = omega (arith, c .before .before .length2 .ensures .0)
+length-add-result-2 t c =
+    let after-length2 : length-lts.After-length2 (length-claims t) (length-at t) length.Post = search in
+    omega (arith, after-length2 .length2 .ensures .0)
 
 length-add-result-3 : (t : ℕ) → length-lts.Need-add-result-3 (length-claims t) (length-at t) length.Post
-length-add-result-3 t c = omega (arith, c .before .before .length2 .ensures .0, c .length3 .ensures .0)
+length-add-result-3 t c =
+    let after-length2 : length-lts.After-length2 (length-claims t) (length-at t) length.Post = search in
+    omega (arith, after-length2 .length2 .ensures .0, c .length3 .ensures .0)
 
 length-returns : (t : ℕ) → length-lts.Need-returns (length-claims t) (length-at t) length.Post
 length-returns t c =
-    let chose = c .before .before in
-    let start = chose .before .before in (
+    let after-choose : length-lts.After-choose (length-claims t) (length-at t) length.Post = search in
+    let the-start : length-lts.Start (length-claims t) (length-at t) length.Post = search in
+    let chose = after-choose in
+    let start = the-start in (
       omega arith,
       λ S u. (
         stop,
@@ -156,15 +173,17 @@ length-returns t c =
 
 length-returns-2 : (t : ℕ) → length-lts.Need-returns-2 (length-claims t) (length-at t) length.Post
 length-returns-2 t c =
-    let told = c .before .before in
+    let after-known-told2 : length-lts.After-known-told2 (length-claims t) (length-at t) length.Post = search in
+    let told = after-known-told2 in
     let f = set-plan (set-chosen t told) (c .before .set-to .ensures) (c .length .ensures .1) in
     (most (set-begun t told .pre .1) f, f)
 
 length-returns-3 : (t : ℕ) → length-lts.Need-returns-3 (length-claims t) (length-at t) length.Post
 length-returns-3 t c =
+    let after-known-told3 : length-lts.After-known-told3 (length-claims t) (length-at t) length.Post = search in
     let seen = c .before in
     let first = seen .before in
-    let told = first .before .before in
+    let told = after-known-told3 in
     let f = look-plan (look-chosen t told) (first .before .look-at .ensures) (seen .look-at2 .ensures) (first .length2 .ensures .1) (c .length3 .ensures .1) in
     (most (look-begun t told .pre .1) f, f)
 

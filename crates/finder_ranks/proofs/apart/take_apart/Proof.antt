@@ -24,35 +24,54 @@ below c =
     let start : tie.Start Inv-loop μ-loop = search in
     omega (arith, start .pre, c .loop-test .taken)
 
+abbrev at-loop-of-after-digit : tie.After-digit Inv-loop μ-loop → tie.At-loop Inv-loop μ-loop
+at-loop-of-after-digit c = search
+
+abbrev start-of-after-digit : tie.After-digit Inv-loop μ-loop → tie.Start Inv-loop μ-loop
+start-of-after-digit c = search
+
 -- the digit that is handed out is that of the state
-here : (c : tie.After-digit Inv-loop μ-loop) → c .digit .result ≡ digit 7 (c .before .before .before .before .args .k) (c .before .before .loop .i)
+here : (c : tie.After-digit Inv-loop μ-loop) → c .digit .result ≡ digit 7 (start-of-after-digit c .args .k) (at-loop-of-after-digit c .loop .i)
 here c =
+    let at-loop : tie.At-loop Inv-loop μ-loop = search in
     let from : tie.After-from-number Inv-loop μ-loop = search in
-    digit-here (from .before .args .k) (c .before .before .loop .i) (from .from-number .ensures) (below (c .before)) (c .digit .ensures)
+    digit-here (from .before .args .k) (at-loop .loop .i) (from .from-number .ensures) (below (c .before)) (c .digit .ensures)
 
 here-lt : (c : tie.After-digit Inv-loop μ-loop) → c .digit .result < 7
-here-lt c = rw (here c) (digit-lt seven (c .before .before .before .before .args .k) (c .before .before .loop .i))
+here-lt c =
+    let at-loop : tie.At-loop Inv-loop μ-loop = search in
+    let start : tie.Start Inv-loop μ-loop = search in
+    rw (here c) (digit-lt seven (start .args .k) (at-loop .loop .i))
+
+abbrev at-loop-of-after-now-of : tie.After-now-of Inv-loop μ-loop → tie.At-loop Inv-loop μ-loop
+at-loop-of-after-now-of c = search
 
 -- the sides grow within the table
-now-fits : (c : tie.After-now-of Inv-loop μ-loop) → c .before .before .before .loop .now + c .now-of .result * c .before .before .before .loop .three < 2187
+now-fits : (c : tie.After-now-of Inv-loop μ-loop) → at-loop-of-after-now-of c .loop .now + c .now-of .result * at-loop-of-after-now-of c .loop .three < 2187
 now-fits c =
+    let in-loop : tie.In-loop Inv-loop μ-loop = search in
     let at : tie.At-loop Inv-loop μ-loop = search in
     let from : tie.After-from-number Inv-loop μ-loop = search in
     omega (
       arith,
       now-up (at .loop .inv .2) (at .loop .inv .1) (here (c .before)) (c .now-of .result) (c .now-of .ensures),
-      below-sides (at .loop .i + 1) (from .before .args .k) (omega (arith, below (c .before .before))),
+      below-sides (at .loop .i + 1) (from .before .args .k) (omega (arith, below in-loop)),
     )
 
+abbrev at-loop-of-after-start-of : tie.After-start-of Inv-loop μ-loop → tie.At-loop Inv-loop μ-loop
+at-loop-of-after-start-of c = search
+
 start-fits : (c : tie.After-start-of Inv-loop μ-loop)
-    → c .before .before .before .before .loop .start + c .start-of .result * c .before .before .before .before .loop .three < 2187
+    → at-loop-of-after-start-of c .loop .start + c .start-of .result * at-loop-of-after-start-of c .loop .three < 2187
 start-fits c =
+    let after-digit : tie.After-digit Inv-loop μ-loop = search in
+    let in-loop : tie.In-loop Inv-loop μ-loop = search in
     let at : tie.At-loop Inv-loop μ-loop = search in
     let from : tie.After-from-number Inv-loop μ-loop = search in
     omega (
       arith,
-      start-up (at .loop .inv .2) (at .loop .inv .1) (here (c .before .before)) (c .start-of .result) (c .start-of .ensures),
-      below-starts (at .loop .i + 1) (from .before .args .k) (omega (arith, below (c .before .before .before))),
+      start-up (at .loop .inv .2) (at .loop .inv .1) (here after-digit) (c .start-of .result) (c .start-of .ensures),
+      below-starts (at .loop .i + 1) (from .before .args .k) (omega (arith, below in-loop)),
     )
 
 from-number-requires : tie.Need-from-number-requires Inv-loop μ-loop
@@ -68,7 +87,9 @@ digit-requires : tie.Need-digit-requires Inv-loop μ-loop
 digit-requires c κs = search needs
 
 array-write-digits : tie.Need-array-write-digits Inv-loop μ-loop
-array-write-digits c = omega (arith, below (c .before), c .before .before .loop .inv .2 .long)
+array-write-digits c =
+    let at-loop : tie.At-loop Inv-loop μ-loop = search in
+    omega (arith, below (c .before), at-loop .loop .inv .2 .long)
 
 now-of-requires : tie.Need-now-of-requires Inv-loop μ-loop
 now-of-requires c κs = here-lt c

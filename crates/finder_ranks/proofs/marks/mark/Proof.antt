@@ -15,10 +15,14 @@ Inv-loop n made learnt ranks₀ rests rest₀ ranks rest = (rest ≤ rests) × S
 abbrev μ-loop : tie.MeasureT-loop
 μ-loop n made learnt ranks₀ rests rest₀ ranks rest = rests - rest
 
+abbrev start-of-after-numbers : tie.After-numbers Inv-loop μ-loop → tie.Start Inv-loop μ-loop
+start-of-after-numbers c = search
+
 -- as many sevens of states as one setting fewer has states
-rests-are : (c : tie.After-numbers Inv-loop μ-loop) → c .numbers .result ≡ 7 ^ (c .before .before .args .n - 1)
+rests-are : (c : tie.After-numbers Inv-loop μ-loop) → c .numbers .result ≡ 7 ^ (start-of-after-numbers c .args .n - 1)
 rests-are c =
-    let pre = c .before .before .pre in
+    let start : tie.Start Inv-loop μ-loop = search in
+    let pre = start .pre in
     c .numbers .ensures ∙ ap (λ k. 7 ^ k) (min-eq-left (omega (arith, pre .0, pre .1)))
 
 sub-numbers : tie.Need-sub-numbers Inv-loop μ-loop

@@ -14,10 +14,18 @@ same-length : tie.Need-same-length
 same-length c = search needs
 
 returns : tie.Need-returns
-returns c = offer-yes (c .before .before .before .args .ranks .now) (c .before .before .before .args .at) (c .before .before .before .args .h) (c .before .before .if1 .taken) (c .if2 .taken)
+returns c =
+    let then1 : tie.Then1 = search in
+    let start : tie.Start = search in
+    let args = start .args in
+    offer-yes (args .ranks .now) (args .at) (args .h) (then1 .if1 .taken) (c .if2 .taken)
 
 returns-2 : tie.Need-returns-2
-returns-2 c = offer-full (c .before .before .before .args .ranks .now) (c .before .before .before .args .at) (c .before .before .before .args .h) (c .before .before .if1 .taken) (c .if2 .left)
+returns-2 c =
+    let then1 : tie.Then1 = search in
+    let start : tie.Start = search in
+    let args = start .args in
+    offer-full (args .ranks .now) (args .at) (args .h) (then1 .if1 .taken) (c .if2 .left)
 
 returns-3 : tie.Need-returns-3
 returns-3 c = offer-no (c .before .args .ranks .now) (c .before .args .at) (c .before .args .h) (c .if1 .left)

@@ -12,13 +12,23 @@ by-set-requires : tie.Need-by-set-requires
 by-set-requires c κs = search needs
 
 by-look-requires : tie.Need-by-look-requires
-by-look-requires c κs = (c .before .before .before .before .before .spot-of .ensures, pushing-on (c .before .before .before .before .before .before .before .pre .0) (c .before .before .before .by-set .ensures .grew []), c .before .before .before .before .before .before .before .pre .5)
+by-look-requires c κs =
+    let after-by-set : tie.After-by-set = search in
+    let after-spot-of : tie.After-spot-of = search in
+    let start : tie.Start = search in
+    let pre = start .pre in
+    (after-spot-of .spot-of .ensures, pushing-on (pre .0) (after-by-set .by-set .ensures .grew []), pre .5)
 
 same-length : tie.Need-same-length
 same-length c = search needs
 
 returns : tie.Need-returns
-returns c = along (c .before .before .before .before .before .before .before .before .before .before .pre .2) (c .before .before .before .before .before .before .before .before .before .before .pre .4) (c .before .before .before .before .before .before .before .before .before .before .pre .0 .high) (c .before .before .before .before .before .before .by-set .ensures) (c .before .before .by-look .ensures)
+returns c =
+    let after-by-look : tie.After-by-look = search in
+    let after-by-set : tie.After-by-set = search in
+    let start : tie.Start = search in
+    let pre = start .pre in
+    along (pre .2) (pre .4) (pre .0 .high) (after-by-set .by-set .ensures) (after-by-look .by-look .ensures)
 
 pub push-spec : {M : Type 1} → statement M
 push-spec =

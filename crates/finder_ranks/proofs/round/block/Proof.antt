@@ -14,7 +14,10 @@ same-length : tie.Need-same-length
 same-length c = search needs
 
 returns : tie.Need-returns
-returns c = swept-bare (c .before .before .before .before .pre .1) (c .before .before .before .before .pre .0 .low) (c .before .is-bare .ensures (c .if1 .taken))
+returns c =
+    let start : tie.Start = search in
+    let pre = start .pre in
+    swept-bare (pre .1) (pre .0 .low) (c .before .is-bare .ensures (c .if1 .taken))
 
 sweep-requires : tie.Need-sweep-requires
 sweep-requires c κs = search needs

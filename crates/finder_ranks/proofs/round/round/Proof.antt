@@ -20,16 +20,46 @@ end-of-requires : tie.Need-end-of-requires Inv-loop μ-loop
 end-of-requires c κs = c .loop-test .taken
 
 block-requires : tie.Need-block-requires Inv-loop μ-loop
-block-requires c κs = (sweeping-on (c .before .before .before .before .before .pre .0) (c .before .before .before .loop .inv .1 .grew), omega (arith, c .before .end-of .ensures .0), c .before .end-of .ensures .1, omega (arith, c .before .end-of .ensures .2, c .before .before .before .before .before .pre .1))
+block-requires c κs =
+    let at-loop : tie.At-loop Inv-loop μ-loop = search in
+    let start : tie.Start Inv-loop μ-loop = search in
+    let pre = start .pre in (
+      sweeping-on (pre .0) (at-loop .loop .inv .1 .grew),
+      omega (arith, c .before .end-of .ensures .0),
+      c .before .end-of .ensures .1,
+      omega (arith, c .before .end-of .ensures .2, pre .1),
+    )
 
 add-found : tie.Need-add-found Inv-loop μ-loop
-add-found c = omega (arith, c .before .before .before .before .before .before .loop .inv .1 .few, c .before .before .block .ensures .few, c .before .before .before .before .end-of .ensures .2, c .before .before .before .before .before .before .before .before .pre .1, states-most (c .before .before .before .before .before .before .before .before .args .n) (c .before .before .before .before .before .before .before .before .pre .0 .few))
+add-found c =
+    let after-block : tie.After-block Inv-loop μ-loop = search in
+    let after-end-of : tie.After-end-of Inv-loop μ-loop = search in
+    let at-loop : tie.At-loop Inv-loop μ-loop = search in
+    let start : tie.Start Inv-loop μ-loop = search in
+    let pre = start .pre in
+    omega (
+      arith,
+      at-loop .loop .inv .1 .few,
+      after-block .block .ensures .few,
+      after-end-of .end-of .ensures .2,
+      pre .1,
+      states-most (start .args .n) (pre .0 .few),
+    )
 
 loop-less : tie.Need-loop-less Inv-loop μ-loop
-loop-less c = omega (arith, c .before .before .before .before .end-of .ensures .0, c .before .before .before .before .end-of .ensures .2, c .before .before .before .before .before .loop-test .taken)
+loop-less c =
+    let after-end-of : tie.After-end-of Inv-loop μ-loop = search in
+    let in-loop : tie.In-loop Inv-loop μ-loop = search in
+    let end-of = after-end-of .end-of in
+    omega (arith, end-of .ensures .0, end-of .ensures .2, in-loop .loop-test .taken)
 
 loop-again : tie.Need-loop-again Inv-loop μ-loop
-loop-again c = (c .before .before .before .before .end-of .ensures .2, swept-on (c .before .before .before .before .before .before .before .before .pre .0 .high) (c .before .before .before .before .before .before .loop .inv .1) (c .before .before .block .ensures))
+loop-again c =
+    let after-block : tie.After-block Inv-loop μ-loop = search in
+    let after-end-of : tie.After-end-of Inv-loop μ-loop = search in
+    let at-loop : tie.At-loop Inv-loop μ-loop = search in
+    let start : tie.Start Inv-loop μ-loop = search in
+    (after-end-of .end-of .ensures .2, swept-on (start .pre .0 .high) (at-loop .loop .inv .1) (after-block .block .ensures))
 
 same-length : tie.Need-same-length Inv-loop μ-loop
 same-length c = c .before .loop .inv .1 .grew .same-length

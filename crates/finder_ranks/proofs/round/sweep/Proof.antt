@@ -17,19 +17,48 @@ loop-holds : tie.Need-loop-holds Inv-loop μ-loop
 loop-holds c = (omega arith, c .before .pre .1, swept-bare (omega arith) (c .before .pre .0 .low) (λ k a b. absurd (omega arith)))
 
 visit-if-requires : tie.Need-visit-if-requires Inv-loop μ-loop
-visit-if-requires c κs = (sweeping-on (c .before .before .before .before .pre .0) (c .before .before .loop .inv .2 .grew), omega (arith, c .before .before .before .before .pre .2, c .before .loop-test .taken))
+visit-if-requires c κs =
+    let at-loop : tie.At-loop Inv-loop μ-loop = search in
+    let start : tie.Start Inv-loop μ-loop = search in
+    let pre = start .pre in
+    (sweeping-on (pre .0) (at-loop .loop .inv .2 .grew), omega (arith, pre .2, c .before .loop-test .taken))
 
 add-found : tie.Need-add-found Inv-loop μ-loop
-add-found c = omega (arith, c .before .before .before .before .before .loop .inv .2 .few, c .before .before .visit-if .ensures .few, c .before .before .before .before .before .before .before .pre .2, states-most (c .before .before .before .before .before .before .before .args .n) (c .before .before .before .before .before .before .before .pre .0 .few), c .before .before .before .before .loop-test .taken)
+add-found c =
+    let after-visit-if : tie.After-visit-if Inv-loop μ-loop = search in
+    let in-loop : tie.In-loop Inv-loop μ-loop = search in
+    let at-loop : tie.At-loop Inv-loop μ-loop = search in
+    let start : tie.Start Inv-loop μ-loop = search in
+    let pre = start .pre in
+    omega (
+      arith,
+      at-loop .loop .inv .2 .few,
+      after-visit-if .visit-if .ensures .few,
+      pre .2,
+      states-most (start .args .n) (pre .0 .few),
+      in-loop .loop-test .taken,
+    )
 
 add-k : tie.Need-add-k Inv-loop μ-loop
-add-k c = omega (arith, c .before .before .before .before .before .before .before .pre .2, states-most (c .before .before .before .before .before .before .before .args .n) (c .before .before .before .before .before .before .before .pre .0 .few), c .before .before .before .before .loop-test .taken)
+add-k c =
+    let in-loop : tie.In-loop Inv-loop μ-loop = search in
+    let start : tie.Start Inv-loop μ-loop = search in
+    let pre = start .pre in
+    omega (arith, pre .2, states-most (start .args .n) (pre .0 .few), in-loop .loop-test .taken)
 
 loop-less : tie.Need-loop-less Inv-loop μ-loop
-loop-less c = omega (arith, c .before .before .before .before .loop-test .taken)
+loop-less c =
+    let in-loop : tie.In-loop Inv-loop μ-loop = search in
+    omega (arith, in-loop .loop-test .taken)
 
 loop-again : tie.Need-loop-again Inv-loop μ-loop
-loop-again c = (omega (arith, c .before .before .before .before .before .loop .inv .0), omega (arith, c .before .before .before .before .loop-test .taken), swept-on (c .before .before .before .before .before .before .before .pre .0 .high) (c .before .before .before .before .before .loop .inv .2) (c .before .before .visit-if .ensures))
+loop-again c =
+    let after-visit-if : tie.After-visit-if Inv-loop μ-loop = search in
+    let in-loop : tie.In-loop Inv-loop μ-loop = search in
+    let at-loop : tie.At-loop Inv-loop μ-loop = search in
+    let start : tie.Start Inv-loop μ-loop = search in
+    let loop = at-loop .loop in
+    (omega (arith, loop .inv .0), omega (arith, in-loop .loop-test .taken), swept-on (start .pre .0 .high) (loop .inv .2) (after-visit-if .visit-if .ensures))
 
 same-length : tie.Need-same-length Inv-loop μ-loop
 same-length c = c .before .loop .inv .2 .grew .same-length

@@ -13,7 +13,10 @@ sub-if1 : tie.Need-sub-if1
 sub-if1 c = search needs
 
 returns : tie.Need-returns
-returns c = swept-bare (omega arith) (c .before .before .before .pre .0 .low) (bare-one (c .before .before .before .args .h - 1) (c .before .before .before .args .k) (c .before .before .before .args .ranks .now) (c .if1 .taken))
+returns c =
+    let start : tie.Start = search in
+    let args = start .args in
+    swept-bare (omega arith) (start .pre .0 .low) (bare-one (args .h - 1) (args .k) (args .ranks .now) (c .if1 .taken))
 
 visit-requires : tie.Need-visit-requires
 visit-requires c κs = search needs
@@ -22,7 +25,10 @@ same-length : tie.Need-same-length
 same-length c = search needs
 
 returns-2 : tie.Need-returns-2
-returns-2 c = swept-one (c .before .before .before .before .if1 .left) (c .before .before .visit .ensures)
+returns-2 c =
+    let after-visit : tie.After-visit = search in
+    let else1 : tie.Else1 = search in
+    swept-one (else1 .if1 .left) (after-visit .visit .ensures)
 
 pub visit-if-spec : {M : Type 1} → statement M
 visit-if-spec =

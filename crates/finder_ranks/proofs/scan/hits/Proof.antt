@@ -28,7 +28,11 @@ cast-count : tie.Need-cast-count Inv-loop μ-loop
 cast-count c = tt
 
 add-count-2 : tie.Need-add-count-2 Inv-loop μ-loop
-add-count-2 c = omega (arith, hit-most (eqb (getD (c .before .before .before .args .ranks .now) (c .before .before .before .args .at + c .before .before .loop .j) 0) (c .before .before .before .args .rank)))
+add-count-2 c =
+    let at-loop : tie.At-loop Inv-loop μ-loop = search in
+    let start : tie.Start Inv-loop μ-loop = search in
+    let args = start .args in
+    omega (arith, hit-most (eqb (getD (args .ranks .now) (args .at + at-loop .loop .j) 0) (args .rank)))
 
 add-j : tie.Need-add-j Inv-loop μ-loop
 add-j c = omega arith
@@ -37,7 +41,15 @@ loop-less : tie.Need-loop-less Inv-loop μ-loop
 loop-less c = omega arith
 
 loop-again : tie.Need-loop-again Inv-loop μ-loop
-loop-again c = (omega arith, omega (arith, hit-most (eqb (getD (c .before .before .before .args .ranks .now) (c .before .before .before .args .at + c .before .before .loop .j) 0) (c .before .before .before .args .rank))), bare-more (c .before .before .before .args .rank) (c .before .before .before .args .at) (c .before .before .loop .j) (c .before .before .loop .count) (c .before .before .before .args .ranks .now) (c .before .before .loop .inv .2))
+loop-again c =
+    let at-loop : tie.At-loop Inv-loop μ-loop = search in
+    let start : tie.Start Inv-loop μ-loop = search in
+    let loop = at-loop .loop in
+    let args = start .args in (
+      omega arith,
+      omega (arith, hit-most (eqb (getD (args .ranks .now) (args .at + loop .j) 0) (args .rank))),
+      bare-more (args .rank) (args .at) (loop .j) (loop .count) (args .ranks .now) (loop .inv .2),
+    )
 
 returns : tie.Need-returns Inv-loop μ-loop
 returns c = λ e k a b. c .before .loop .inv .2 e k a (omega arith)

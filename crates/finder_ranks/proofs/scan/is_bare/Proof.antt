@@ -16,7 +16,9 @@ hits-requires : tie.Need-hits-requires
 hits-requires c κs = search needs
 
 returns-2 : tie.Need-returns-2
-returns-2 c = λ e k a b. c .hits .ensures (eqb-true (c .hits .result) 0 e) k a (omega (arith, b, c .before .before .before .pre .1))
+returns-2 c =
+    let start : tie.Start = search in
+    λ e k a b. c .hits .ensures (eqb-true (c .hits .result) 0 e) k a (omega (arith, b, start .pre .1))
 
 pub is-bare-spec : {M : Type 1} → statement M
 is-bare-spec = tie.close (tie.spec sub-if1 returns hits-requires returns-2)

@@ -15,9 +15,14 @@ Inv-loop n set look ranks₀ settings size h₀ ranks h = (0 < h) × (h ≤ 255)
 abbrev μ-loop : tie.MeasureT-loop
 μ-loop n set look ranks₀ settings size h₀ ranks h = 255 - h
 
+abbrev start-of-after-numbers : tie.After-numbers Inv-loop μ-loop → tie.Start Inv-loop μ-loop
+start-of-after-numbers c = search
+
 -- the table has all knowledge numbers of the n settings
-size-is : (c : tie.After-numbers Inv-loop μ-loop) → c .numbers .result ≡ 7 ^ c .before .before .args .n
-size-is c = c .numbers .ensures ∙ ap (λ k. 7 ^ k) (min-eq-left (c .before .before .pre .few))
+size-is : (c : tie.After-numbers Inv-loop μ-loop) → c .numbers .result ≡ 7 ^ start-of-after-numbers c .args .n
+size-is c =
+    let start : tie.Start Inv-loop μ-loop = search in
+    c .numbers .ensures ∙ ap (λ k. 7 ^ k) (min-eq-left (start .pre .few))
 
 numbers-requires : tie.Need-numbers-requires Inv-loop μ-loop
 numbers-requires c κs = search needs

@@ -44,8 +44,9 @@ loop-less c = omega arith
 
 loop-again : tie.Need-loop-again Inv-loop μ-loop
 loop-again c =
+    let at-loop : tie.At-loop Inv-loop μ-loop = search in
     let args = (let start : tie.Start Inv-loop μ-loop = search in start .args) in
-    let loop = c .before .before .loop in
+    let loop = at-loop .loop in
     let found = c .found-at in (
       loop .inv .0,
       loop .inv .1,

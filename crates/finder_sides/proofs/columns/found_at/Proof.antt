@@ -25,10 +25,14 @@ returns : tie.Need-returns
 returns c = rw (c .before .enum-told .given .1) (c .made-at .ensures)
 
 returns-2 : tie.Need-returns-2
-returns-2 c = rw (c .before .before .judged .given .1) (c .learnt-at .ensures)
+returns-2 c =
+    let after-judged : tie.After-judged = search in
+    rw (after-judged .judged .given .1) (c .learnt-at .ensures)
 
 returns-3 : tie.Need-returns-3
-returns-3 c = rw (c .before .before .judged2 .given .1) (c .posts-at .ensures)
+returns-3 c =
+    let after-judged2 : tie.After-judged2 = search in
+    rw (after-judged2 .judged2 .given .1) (c .posts-at .ensures)
 
 pub found-at-spec : {M : Type 1} → statement M
 found-at-spec =

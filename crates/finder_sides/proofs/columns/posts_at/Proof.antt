@@ -29,13 +29,19 @@ post-at-requires : tie.Need-post-at-requires Inv-loop μ-loop
 post-at-requires c κs = let start : tie.Start Inv-loop μ-loop = search in start .pre
 
 push-requires : tie.Need-push-requires Inv-loop μ-loop
-push-requires c κs = let h : 8 - c .before .before .loop .post ≤ 7 = omega (arith, c .before .loop-test .taken) in omega (arith, c .before .before .loop .inv .small, pow-mono h)
+push-requires c κs =
+    let at-loop : tie.At-loop Inv-loop μ-loop = search in
+    let loop = at-loop .loop in
+    let h : 8 - loop .post ≤ 7 = omega (arith, c .before .loop-test .taken) in omega (arith, loop .inv .small, pow-mono h)
 
 loop-less : tie.Need-loop-less Inv-loop μ-loop
 loop-less c = omega arith
 
 loop-again : tie.Need-loop-again Inv-loop μ-loop
-loop-again c = rw (c .push .ensures) (bits-more (c .before .before .before .loop .inv) (c .before .before .loop-test .taken) (c .before .post-at .result) (c .before .post-at .ensures))
+loop-again c =
+    let in-loop : tie.In-loop Inv-loop μ-loop = search in
+    let at-loop : tie.At-loop Inv-loop μ-loop = search in
+    rw (c .push .ensures) (bits-more (at-loop .loop .inv) (in-loop .loop-test .taken) (c .before .post-at .result) (c .before .post-at .ensures))
 
 returns : tie.Need-returns Inv-loop μ-loop
 returns c = let w = bits-all (c .before .loop .inv) (omega arith) in record { byte = w .0; posts = w .1 }

@@ -10,7 +10,8 @@ use Rattle.finder_sides.proofs.filled.fill.Statement.{statement}
 use Rattle.finder_sides.proofs.filled.fill.Tie as tie
 
 abbrev Inv-loop : tie.InvT-loop
-Inv-loop n columns table₀ side₀ table side = (side ≤ 3 ^ n) × (length table ≡ 2187) × FilledFrom n columns side table × ((s : ℕ) → 3 ^ n ≤ s → getD table s 0 ≡ 0)
+Inv-loop n columns table₀ side₀ table side =
+    (side ≤ 3 ^ n) × (length table ≡ 2187) × FilledFrom n columns side table × ((s : ℕ) → 3 ^ n ≤ s → getD table s 0 ≡ 0)
 
 abbrev μ-loop : tie.MeasureT-loop
 μ-loop n columns table₀ side₀ table side = side
@@ -25,16 +26,31 @@ sub-side : tie.Need-sub-side Inv-loop μ-loop
 sub-side c = omega arith
 
 entry-of-requires : tie.Need-entry-of-requires Inv-loop μ-loop
-entry-of-requires c κs = (c .before .before .before .before .pre, omega arith, λ s h l. c .before .before .loop .inv .2 s (omega arith) l)
+entry-of-requires c κs =
+    let at-loop : tie.At-loop Inv-loop μ-loop = search in
+    let start : tie.Start Inv-loop μ-loop = search in
+    (start .pre, omega arith, λ s h l. at-loop .loop .inv .2 s (omega arith) l)
 
 array-write-table : tie.Need-array-write-table Inv-loop μ-loop
-array-write-table c = omega (arith, sides-most (c .before .before .before .before .before .args .n) (c .before .before .before .before .before .pre))
+array-write-table c =
+    let start : tie.Start Inv-loop μ-loop = search in
+    omega (arith, sides-most (start .args .n) (start .pre))
 
 loop-less : tie.Need-loop-less Inv-loop μ-loop
 loop-less c = omega arith
 
 loop-again : tie.Need-loop-again Inv-loop μ-loop
-loop-again c = (omega arith, length-set (c .before .before .before .loop .table) (c .before .before .before .loop .side - 1) (c .entry-of .result) ∙ c .before .before .before .loop .inv .1, filled-more (c .before .before .before .loop .table) (omega arith) (omega (arith, sides-most (c .before .before .before .before .before .args .n) (c .before .before .before .before .before .pre), c .before .before .before .loop .inv .1)) (c .before .before .before .loop .inv .2) (c .entry-of .ensures), past-more (c .before .before .before .before .before .args .n) (c .before .before .before .loop .table) (c .entry-of .result) (omega arith) (c .before .before .before .loop .inv .3))
+loop-again c =
+    let at-loop : tie.At-loop Inv-loop μ-loop = search in
+    let start : tie.Start Inv-loop μ-loop = search in
+    let loop = at-loop .loop in
+    let args = start .args in (
+      omega arith,
+      length-set (loop .table) (loop .side - 1) (c .entry-of .result) ∙ loop .inv .1,
+      filled-more (loop .table) (omega arith) (omega (arith, sides-most (args .n) (start .pre), loop .inv .1))
+          (loop .inv .2) (c .entry-of .ensures),
+      past-more (args .n) (loop .table) (c .entry-of .result) (omega arith) (loop .inv .3),
+    )
 
 returns : tie.Need-returns Inv-loop μ-loop
 returns c = filled-all (c .before .loop .table) (c .loop-test .left) (c .before .loop .inv .1) (c .before .loop .inv .2) (c .before .loop .inv .3)

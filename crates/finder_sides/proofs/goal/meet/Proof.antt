@@ -37,7 +37,16 @@ loop-less : tie.Need-loop-less Inv-loop μ-loop
 loop-less c = omega arith
 
 loop-again : tie.Need-loop-again Inv-loop μ-loop
-loop-again c = (omega arith, length-set (c .before .before .before .before .loop .table) (c .before .before .before .before .loop .side) (c .both .result) ∙ c .before .before .before .before .loop .inv .1, each-more 0 (λ s e. e ≡ bothOf (getD (c .before .before .before .before .before .args .a .now) s 0) (getD (c .before .before .before .before .before .args .b .now) s 0)) (c .before .before .before .before .loop .table) (c .before .before .before .before .loop .side) (c .both .result) (omega (arith, c .before .before .before .before .loop .inv .1)) (c .before .before .before .before .loop .inv .2) (c .both .ensures))
+loop-again c =
+    let at-loop : tie.At-loop Inv-loop μ-loop = search in
+    let start : tie.Start Inv-loop μ-loop = search in
+    let loop = at-loop .loop in
+    let args = start .args in (
+      omega arith,
+      length-set (loop .table) (loop .side) (c .both .result) ∙ loop .inv .1,
+      each-more 0 (λ s e. e ≡ bothOf (getD (args .a .now) s 0) (getD (args .b .now) s 0)) (loop .table) (loop .side)
+          (c .both .result) (omega (arith, loop .inv .1)) (loop .inv .2) (c .both .ensures),
+    )
 
 returns : tie.Need-returns Inv-loop μ-loop
 returns c = record { long = c .before .loop .inv .1; each = λ s h. c .before .loop .inv .2 s (omega arith) }

@@ -17,22 +17,37 @@ loop-holds : tie.Need-loop-holds Inv-loop μ-loop
 loop-holds c = (omega arith, nothing-told (c .args .side))
 
 returns : tie.Need-returns Inv-loop μ-loop
-returns c = (c .before .before .loop .i, c .before .loop-test .taken, sym (the-digit (c .before .before .loop .inv .1)) ∙ c .if1 .taken, c .before .before .loop .inv .1 .place)
+returns c =
+    let at-loop : tie.At-loop Inv-loop μ-loop = search in
+    let loop = at-loop .loop in
+    (loop .i, c .before .loop-test .taken, sym (the-digit (loop .inv .1)) ∙ c .if1 .taken, loop .inv .1 .place)
 
 sub-value : tie.Need-sub-value Inv-loop μ-loop
 sub-value c = omega arith
 
 mul-value : tie.Need-mul-value Inv-loop μ-loop
-mul-value c = omega (arith, value-most (c .before .before .loop .inv .1) (c .if1 .left) (c .before .before .before .args .n) (c .before .loop-test .taken) (c .before .before .before .pre .0))
+mul-value c =
+    let at-loop : tie.At-loop Inv-loop μ-loop = search in
+    let start : tie.Start Inv-loop μ-loop = search in
+    omega (arith, value-most (at-loop .loop .inv .1) (c .if1 .left) (start .args .n) (c .before .loop-test .taken) (start .pre .0))
 
 add-value : tie.Need-add-value Inv-loop μ-loop
-add-value c = omega (arith, value-most (c .before .before .loop .inv .1) (c .if1 .left) (c .before .before .before .args .n) (c .before .loop-test .taken) (c .before .before .before .pre .0))
+add-value c =
+    let at-loop : tie.At-loop Inv-loop μ-loop = search in
+    let start : tie.Start Inv-loop μ-loop = search in
+    omega (arith, value-most (at-loop .loop .inv .1) (c .if1 .left) (start .args .n) (c .before .loop-test .taken) (start .pre .0))
 
 mul-power : tie.Need-mul-power Inv-loop μ-loop
-mul-power c = omega (arith, power-most (c .before .before .before .pre .0) (c .before .loop-test .taken) (c .before .before .loop .inv .1 .place))
+mul-power c =
+    let at-loop : tie.At-loop Inv-loop μ-loop = search in
+    let start : tie.Start Inv-loop μ-loop = search in
+    omega (arith, power-most (start .pre .0) (c .before .loop-test .taken) (at-loop .loop .inv .1 .place))
 
 mul-weight : tie.Need-mul-weight Inv-loop μ-loop
-mul-weight c = omega (arith, weight-most (c .before .before .loop .inv .1) (c .before .before .before .args .n) (c .before .loop-test .taken) (c .before .before .before .pre .0))
+mul-weight c =
+    let at-loop : tie.At-loop Inv-loop μ-loop = search in
+    let start : tie.Start Inv-loop μ-loop = search in
+    omega (arith, weight-most (at-loop .loop .inv .1) (start .args .n) (c .before .loop-test .taken) (start .pre .0))
 
 add-i : tie.Need-add-i Inv-loop μ-loop
 add-i c = omega arith
@@ -41,10 +56,14 @@ loop-less : tie.Need-loop-less Inv-loop μ-loop
 loop-less c = omega arith
 
 loop-again : tie.Need-loop-again Inv-loop μ-loop
-loop-again c = (omega arith, one-more-told (c .before .before .loop .inv .1) (c .if1 .left))
+loop-again c =
+    let at-loop : tie.At-loop Inv-loop μ-loop = search in
+    (omega arith, one-more-told (at-loop .loop .inv .1) (c .if1 .left))
 
 returns-2 : tie.Need-returns-2 Inv-loop μ-loop
-returns-2 c = told-all (c .before .loop .inv .1) (c .before .before .args .n) (c .before .loop .inv .0) (c .loop-test .left)
+returns-2 c =
+    let start : tie.Start Inv-loop μ-loop = search in
+    told-all (c .before .loop .inv .1) (start .args .n) (c .before .loop .inv .0) (c .loop-test .left)
 
 pub told-by-spec : {M : Type 1} → statement M
 told-by-spec =

@@ -6,7 +6,8 @@ use native.Mathlib.Omega.{arith}
 use Prim.Native.Nat.{_+_, _-_, _*_}
 use lib.ListN.{length}
 use Rattle.formula_grammar.specs.Grammar as G
-use Rattle.formula_grammar.proofs.PartLaws.{as-read, as-broken, inside, negated-read, negated-broken, bracketed-read, bracketed-broken, unclosed, product-one, product-more, product-broken, sum-one, sum-more, sum-broken}
+use Rattle.formula_grammar.proofs.PartLaws.{as-read, as-broken, inside, negated-read, negated-broken, bracketed-read, bracketed-broken}
+use Rattle.formula_grammar.proofs.PartLaws.{unclosed, product-one, product-more, product-broken, sum-one, sum-more, sum-broken}
 use Prim.Native.Nat.{ℕ, _<_}
 use borrow.Fn.Kinds.{In}
 use borrow.Fn.PlainCycle.{Measures, is, falls, and}
@@ -64,7 +65,18 @@ sum-claims t = (product-below t, product.Post, peek-reads.Asked, peek-reads.Lear
 
 -- what unit may use of those that it calls
 abbrev unit-claims : ℕ → unit-lts.Claims
-unit-claims t = (peek-reads.Asked, peek-reads.Learnt, unit-below t, unit.Post, negated-reads.Asked, negated-reads.Learnt, sum-below t, sum.Post, atom-reads.Asked, atom-reads.Learnt)
+unit-claims t = (
+  peek-reads.Asked,
+  peek-reads.Learnt,
+  unit-below t,
+  unit.Post,
+  negated-reads.Asked,
+  negated-reads.Learnt,
+  sum-below t,
+  sum.Post,
+  atom-reads.Asked,
+  atom-reads.Learnt,
+)
 
 product-unit-requires : (t : ℕ) → product-lts.Need-unit-requires (product-claims t) (product-at t) product.Post
 product-unit-requires t c κs = (omega (arith, c .before .pre .0), tt)
@@ -79,13 +91,35 @@ product-peek-requires : (t : ℕ) → product-lts.Need-peek-requires (product-cl
 product-peek-requires t c κs = search needs
 
 product-returns : (t : ℕ) → product-lts.Need-returns (product-claims t) (product-at t) product.Post
-product-returns t c = product-one (as-read G.unit (c .before .before .before .before .before .before .before .args .text .now) (c .before .before .before .before .before .before .before .args .at) (c .before .before .before .w .given .1) (c .before .before .before .before .before .unit .ensures)) (λ q. c .if1 .taken (c .before .peek .ensures ∙ q))
+product-returns t c =
+    let after-w : product-lts.After-w (product-claims t) (product-at t) product.Post = search in
+    let after-unit : product-lts.After-unit (product-claims t) (product-at t) product.Post = search in
+    let start : product-lts.Start (product-claims t) (product-at t) product.Post = search in
+    let args = start .args in
+    product-one (as-read G.unit (args .text .now) (args .at) (after-w .w .given .1) (after-unit .unit .ensures))
+    (λ q. c .if1 .taken (c .before .peek .ensures ∙ q))
 
 product-add-product : (t : ℕ) → product-lts.Need-add-product (product-claims t) (product-at t) product.Post
-product-add-product t c = omega (arith, inside (c .before .before .before .before .before .before .before .args .text .now) (c .before .before .before .w .given .0 .1 .0) 37 (sym (c .before .peek .ensures) ∙ c .if1 .left))
+product-add-product t c =
+    let after-w : product-lts.After-w (product-claims t) (product-at t) product.Post = search in
+    let start : product-lts.Start (product-claims t) (product-at t) product.Post = search in
+    omega (arith, inside (start .args .text .now) (after-w .w .given .0 .1 .0) 37 (sym (c .before .peek .ensures) ∙ c .if1 .left))
 
 product-product-requires : (t : ℕ) → product-lts.Need-product-requires (product-claims t) (product-at t) product.Post
-product-product-requires t c κs = (omega (arith, c .before .before .before .before .before .before .before .pre .0, inside (c .before .before .before .before .before .before .before .args .text .now) (c .before .before .before .w .given .0 .1 .0) 37 (sym (c .before .peek .ensures) ∙ c .if1 .left), (as-read G.unit (c .before .before .before .before .before .before .before .args .text .now) (c .before .before .before .before .before .before .before .args .at) (c .before .before .before .w .given .1) (c .before .before .before .before .before .unit .ensures)) .until), tt)
+product-product-requires t c κs =
+    let after-w : product-lts.After-w (product-claims t) (product-at t) product.Post = search in
+    let after-unit : product-lts.After-unit (product-claims t) (product-at t) product.Post = search in
+    let start : product-lts.Start (product-claims t) (product-at t) product.Post = search in
+    let w = after-w .w in
+    let args = start .args in (
+      omega (
+        arith,
+        start .pre .0,
+        inside (args .text .now) (w .given .0 .1 .0) 37 (sym (c .before .peek .ensures) ∙ c .if1 .left),
+        (as-read G.unit (args .text .now) (args .at) (w .given .1) (after-unit .unit .ensures)) .until,
+      ),
+      tt,
+    )
 
 product-enum-known-i-2 : (t : ℕ) → product-lts.Need-enum-known-i-2 (product-claims t) (product-at t) product.Post
 product-enum-known-i-2 t c = c .match2 .keys1
@@ -97,13 +131,43 @@ product-and-requires : (t : ℕ) → product-lts.Need-and-requires (product-clai
 product-and-requires t c κs = search needs
 
 product-returns-2 : (t : ℕ) → product-lts.Need-returns-2 (product-claims t) (product-at t) product.Post
-product-returns-2 t c = (as-broken G.unit (c .before .before .before .before .before .args .text .now) (c .before .before .before .before .before .args .at) (c .before .i .given .1) (c .before .before .before .unit .ensures))
+product-returns-2 t c =
+    let after-unit : product-lts.After-unit (product-claims t) (product-at t) product.Post = search in
+    let start : product-lts.Start (product-claims t) (product-at t) product.Post = search in
+    let args = start .args in
+    as-broken G.unit (args .text .now) (args .at) (c .before .i .given .1) (after-unit .unit .ensures)
 
 product-returns-3 : (t : ℕ) → product-lts.Need-returns-3 (product-claims t) (product-at t) product.Post
-product-returns-3 t c = product-broken (as-read G.unit (c .before .before .before .before .before .before .before .before .before .before .before .args .text .now) (c .before .before .before .before .before .before .before .before .before .before .before .args .at) (c .before .before .before .before .before .before .before .w .given .1) (c .before .before .before .before .before .before .before .before .before .unit .ensures)) (sym (c .before .before .before .before .before .peek .ensures) ∙ c .before .before .before .before .if1 .left) (as-broken G.product (c .before .before .before .before .before .before .before .before .before .before .before .args .text .now) (c .before .before .before .before .before .before .before .w .given .0 .1 .0 + 1) (c .before .i2 .given .1) (c .before .before .before .product .ensures))
+product-returns-3 t c =
+    let after-product : product-lts.After-product (product-claims t) (product-at t) product.Post = search in
+    let else1 : product-lts.Else1 (product-claims t) (product-at t) product.Post = search in
+    let after-peek : product-lts.After-peek (product-claims t) (product-at t) product.Post = search in
+    let after-w : product-lts.After-w (product-claims t) (product-at t) product.Post = search in
+    let after-unit : product-lts.After-unit (product-claims t) (product-at t) product.Post = search in
+    let start : product-lts.Start (product-claims t) (product-at t) product.Post = search in
+    let w = after-w .w in
+    let args = start .args in
+    product-broken (as-read G.unit (args .text .now) (args .at) (w .given .1) (after-unit .unit .ensures))
+    (sym (after-peek .peek .ensures) ∙ else1 .if1 .left)
+    (as-broken G.product (args .text .now) (w .given .0 .1 .0 + 1) (c .before .i2 .given .1)
+    (after-product .product .ensures))
 
 product-returns-4 : (t : ℕ) → product-lts.Need-returns-4 (product-claims t) (product-at t) product.Post
-product-returns-4 t c = product-more (c .and .result) (as-read G.unit (c .before .before .before .before .before .before .before .before .before .before .before .before .args .text .now) (c .before .before .before .before .before .before .before .before .before .before .before .before .args .at) (c .before .before .before .before .before .before .before .before .w .given .1) (c .before .before .before .before .before .before .before .before .before .before .unit .ensures)) (sym (c .before .before .before .before .before .before .peek .ensures) ∙ c .before .before .before .before .before .if1 .left) (as-read G.product (c .before .before .before .before .before .before .before .before .before .before .before .before .args .text .now) (c .before .before .before .before .before .before .before .before .w .given .0 .1 .0 + 1) (c .before .before .more .given .1) (c .before .before .before .before .product .ensures)) (c .and .ensures)
+product-returns-4 t c =
+    let after-more : product-lts.After-more (product-claims t) (product-at t) product.Post = search in
+    let after-product : product-lts.After-product (product-claims t) (product-at t) product.Post = search in
+    let else1 : product-lts.Else1 (product-claims t) (product-at t) product.Post = search in
+    let after-peek : product-lts.After-peek (product-claims t) (product-at t) product.Post = search in
+    let after-w : product-lts.After-w (product-claims t) (product-at t) product.Post = search in
+    let after-unit : product-lts.After-unit (product-claims t) (product-at t) product.Post = search in
+    let start : product-lts.Start (product-claims t) (product-at t) product.Post = search in
+    let w = after-w .w in
+    let args = start .args in
+    product-more (c .and .result)
+    (as-read G.unit (args .text .now) (args .at) (w .given .1) (after-unit .unit .ensures))
+    (sym (after-peek .peek .ensures) ∙ else1 .if1 .left)
+    (as-read G.product (args .text .now) (w .given .0 .1 .0 + 1) (after-more .more .given .1)
+    (after-product .product .ensures)) (c .and .ensures)
 
 sum-product-requires : (t : ℕ) → sum-lts.Need-product-requires (sum-claims t) (sum-at t) sum.Post
 sum-product-requires t c κs = (omega (arith, c .before .pre .0), tt)
@@ -118,13 +182,35 @@ sum-peek-requires : (t : ℕ) → sum-lts.Need-peek-requires (sum-claims t) (sum
 sum-peek-requires t c κs = search needs
 
 sum-returns : (t : ℕ) → sum-lts.Need-returns (sum-claims t) (sum-at t) sum.Post
-sum-returns t c = sum-one (as-read G.product (c .before .before .before .before .before .before .before .args .text .now) (c .before .before .before .before .before .before .before .args .at) (c .before .before .before .w .given .1) (c .before .before .before .before .before .product .ensures)) (λ q. c .if1 .taken (c .before .peek .ensures ∙ q))
+sum-returns t c =
+    let after-w : sum-lts.After-w (sum-claims t) (sum-at t) sum.Post = search in
+    let after-product : sum-lts.After-product (sum-claims t) (sum-at t) sum.Post = search in
+    let start : sum-lts.Start (sum-claims t) (sum-at t) sum.Post = search in
+    let args = start .args in
+    sum-one (as-read G.product (args .text .now) (args .at) (after-w .w .given .1) (after-product .product .ensures))
+    (λ q. c .if1 .taken (c .before .peek .ensures ∙ q))
 
 sum-add-sum : (t : ℕ) → sum-lts.Need-add-sum (sum-claims t) (sum-at t) sum.Post
-sum-add-sum t c = omega (arith, inside (c .before .before .before .before .before .before .before .args .text .now) (c .before .before .before .w .given .0 .1 .0) 123 (sym (c .before .peek .ensures) ∙ c .if1 .left))
+sum-add-sum t c =
+    let after-w : sum-lts.After-w (sum-claims t) (sum-at t) sum.Post = search in
+    let start : sum-lts.Start (sum-claims t) (sum-at t) sum.Post = search in
+    omega (arith, inside (start .args .text .now) (after-w .w .given .0 .1 .0) 123 (sym (c .before .peek .ensures) ∙ c .if1 .left))
 
 sum-sum-requires : (t : ℕ) → sum-lts.Need-sum-requires (sum-claims t) (sum-at t) sum.Post
-sum-sum-requires t c κs = (omega (arith, c .before .before .before .before .before .before .before .pre .0, inside (c .before .before .before .before .before .before .before .args .text .now) (c .before .before .before .w .given .0 .1 .0) 123 (sym (c .before .peek .ensures) ∙ c .if1 .left), (as-read G.product (c .before .before .before .before .before .before .before .args .text .now) (c .before .before .before .before .before .before .before .args .at) (c .before .before .before .w .given .1) (c .before .before .before .before .before .product .ensures)) .until), tt)
+sum-sum-requires t c κs =
+    let after-w : sum-lts.After-w (sum-claims t) (sum-at t) sum.Post = search in
+    let after-product : sum-lts.After-product (sum-claims t) (sum-at t) sum.Post = search in
+    let start : sum-lts.Start (sum-claims t) (sum-at t) sum.Post = search in
+    let w = after-w .w in
+    let args = start .args in (
+      omega (
+        arith,
+        start .pre .0,
+        inside (args .text .now) (w .given .0 .1 .0) 123 (sym (c .before .peek .ensures) ∙ c .if1 .left),
+        (as-read G.product (args .text .now) (args .at) (w .given .1) (after-product .product .ensures)) .until,
+      ),
+      tt,
+    )
 
 sum-enum-known-i-2 : (t : ℕ) → sum-lts.Need-enum-known-i-2 (sum-claims t) (sum-at t) sum.Post
 sum-enum-known-i-2 t c = c .match2 .keys1
@@ -136,22 +222,57 @@ sum-or-requires : (t : ℕ) → sum-lts.Need-or-requires (sum-claims t) (sum-at 
 sum-or-requires t c κs = search needs
 
 sum-returns-2 : (t : ℕ) → sum-lts.Need-returns-2 (sum-claims t) (sum-at t) sum.Post
-sum-returns-2 t c = (as-broken G.product (c .before .before .before .before .before .args .text .now) (c .before .before .before .before .before .args .at) (c .before .i .given .1) (c .before .before .before .product .ensures))
+sum-returns-2 t c =
+    let after-product : sum-lts.After-product (sum-claims t) (sum-at t) sum.Post = search in
+    let start : sum-lts.Start (sum-claims t) (sum-at t) sum.Post = search in
+    let args = start .args in
+    as-broken G.product (args .text .now) (args .at) (c .before .i .given .1) (after-product .product .ensures)
 
 sum-returns-3 : (t : ℕ) → sum-lts.Need-returns-3 (sum-claims t) (sum-at t) sum.Post
-sum-returns-3 t c = sum-broken (as-read G.product (c .before .before .before .before .before .before .before .before .before .before .before .args .text .now) (c .before .before .before .before .before .before .before .before .before .before .before .args .at) (c .before .before .before .before .before .before .before .w .given .1) (c .before .before .before .before .before .before .before .before .before .product .ensures)) (sym (c .before .before .before .before .before .peek .ensures) ∙ c .before .before .before .before .if1 .left) (as-broken G.sum (c .before .before .before .before .before .before .before .before .before .before .before .args .text .now) (c .before .before .before .before .before .before .before .w .given .0 .1 .0 + 1) (c .before .i2 .given .1) (c .before .before .before .sum .ensures))
+sum-returns-3 t c =
+    let after-sum : sum-lts.After-sum (sum-claims t) (sum-at t) sum.Post = search in
+    let else1 : sum-lts.Else1 (sum-claims t) (sum-at t) sum.Post = search in
+    let after-peek : sum-lts.After-peek (sum-claims t) (sum-at t) sum.Post = search in
+    let after-w : sum-lts.After-w (sum-claims t) (sum-at t) sum.Post = search in
+    let after-product : sum-lts.After-product (sum-claims t) (sum-at t) sum.Post = search in
+    let start : sum-lts.Start (sum-claims t) (sum-at t) sum.Post = search in
+    let w = after-w .w in
+    let args = start .args in
+    sum-broken (as-read G.product (args .text .now) (args .at) (w .given .1) (after-product .product .ensures))
+    (sym (after-peek .peek .ensures) ∙ else1 .if1 .left)
+    (as-broken G.sum (args .text .now) (w .given .0 .1 .0 + 1) (c .before .i2 .given .1) (after-sum .sum .ensures))
 
 sum-returns-4 : (t : ℕ) → sum-lts.Need-returns-4 (sum-claims t) (sum-at t) sum.Post
-sum-returns-4 t c = sum-more (c .or .result) (as-read G.product (c .before .before .before .before .before .before .before .before .before .before .before .before .args .text .now) (c .before .before .before .before .before .before .before .before .before .before .before .before .args .at) (c .before .before .before .before .before .before .before .before .w .given .1) (c .before .before .before .before .before .before .before .before .before .before .product .ensures)) (sym (c .before .before .before .before .before .before .peek .ensures) ∙ c .before .before .before .before .before .if1 .left) (as-read G.sum (c .before .before .before .before .before .before .before .before .before .before .before .before .args .text .now) (c .before .before .before .before .before .before .before .before .w .given .0 .1 .0 + 1) (c .before .before .more .given .1) (c .before .before .before .before .sum .ensures)) (c .or .ensures)
+sum-returns-4 t c =
+    let after-more : sum-lts.After-more (sum-claims t) (sum-at t) sum.Post = search in
+    let after-sum : sum-lts.After-sum (sum-claims t) (sum-at t) sum.Post = search in
+    let else1 : sum-lts.Else1 (sum-claims t) (sum-at t) sum.Post = search in
+    let after-peek : sum-lts.After-peek (sum-claims t) (sum-at t) sum.Post = search in
+    let after-w : sum-lts.After-w (sum-claims t) (sum-at t) sum.Post = search in
+    let after-product : sum-lts.After-product (sum-claims t) (sum-at t) sum.Post = search in
+    let start : sum-lts.Start (sum-claims t) (sum-at t) sum.Post = search in
+    let w = after-w .w in
+    let args = start .args in
+    sum-more (c .or .result)
+    (as-read G.product (args .text .now) (args .at) (w .given .1) (after-product .product .ensures))
+    (sym (after-peek .peek .ensures) ∙ else1 .if1 .left)
+    (as-read G.sum (args .text .now) (w .given .0 .1 .0 + 1) (after-more .more .given .1) (after-sum .sum .ensures))
+    (c .or .ensures)
 
 unit-peek-requires : (t : ℕ) → unit-lts.Need-peek-requires (unit-claims t) (unit-at t) unit.Post
 unit-peek-requires t c κs = search needs
 
 unit-add-unit : (t : ℕ) → unit-lts.Need-add-unit (unit-claims t) (unit-at t) unit.Post
-unit-add-unit t c = omega (arith, inside (c .before .before .before .args .text .now) (c .before .before .before .args .at) 125 (sym (c .before .peek .ensures) ∙ c .if1 .taken))
+unit-add-unit t c =
+    let start : unit-lts.Start (unit-claims t) (unit-at t) unit.Post = search in
+    let args = start .args in
+    omega (arith, inside (args .text .now) (args .at) 125 (sym (c .before .peek .ensures) ∙ c .if1 .taken))
 
 unit-unit-requires : (t : ℕ) → unit-lts.Need-unit-requires (unit-claims t) (unit-at t) unit.Post
-unit-unit-requires t c κs = (omega (arith, c .before .before .before .pre .0, inside (c .before .before .before .args .text .now) (c .before .before .before .args .at) 125 (sym (c .before .peek .ensures) ∙ c .if1 .taken)), tt)
+unit-unit-requires t c κs =
+    let start : unit-lts.Start (unit-claims t) (unit-at t) unit.Post = search in
+    let args = start .args in
+    (omega (arith, start .pre .0, inside (args .text .now) (args .at) 125 (sym (c .before .peek .ensures) ∙ c .if1 .taken)), tt)
 
 unit-enum-known-w : (t : ℕ) → unit-lts.Need-enum-known-w (unit-claims t) (unit-at t) unit.Post
 unit-enum-known-w t c = c .match .keys1
@@ -163,16 +284,40 @@ unit-enum-known-i : (t : ℕ) → unit-lts.Need-enum-known-i (unit-claims t) (un
 unit-enum-known-i t c = c .match .keys2
 
 unit-returns : (t : ℕ) → unit-lts.Need-returns (unit-claims t) (unit-at t) unit.Post
-unit-returns t c = negated-read (c .negated .result) (sym (c .before .before .before .before .before .before .peek .ensures) ∙ c .before .before .before .before .before .if1 .taken) (as-read G.unit (c .before .before .before .before .before .before .before .before .args .text .now) (c .before .before .before .before .before .before .before .before .args .at + 1) (c .before .before .w .given .1) (c .before .before .before .before .unit .ensures)) (c .negated .ensures)
+unit-returns t c =
+    let after-w : unit-lts.After-w (unit-claims t) (unit-at t) unit.Post = search in
+    let after-unit : unit-lts.After-unit (unit-claims t) (unit-at t) unit.Post = search in
+    let then1 : unit-lts.Then1 (unit-claims t) (unit-at t) unit.Post = search in
+    let after-peek : unit-lts.After-peek (unit-claims t) (unit-at t) unit.Post = search in
+    let start : unit-lts.Start (unit-claims t) (unit-at t) unit.Post = search in
+    let args = start .args in
+    negated-read (c .negated .result) (sym (after-peek .peek .ensures) ∙ then1 .if1 .taken)
+    (as-read G.unit (args .text .now) (args .at + 1) (after-w .w .given .1) (after-unit .unit .ensures))
+    (c .negated .ensures)
 
 unit-returns-2 : (t : ℕ) → unit-lts.Need-returns-2 (unit-claims t) (unit-at t) unit.Post
-unit-returns-2 t c = negated-broken (c .before .before .before .before .before .before .before .args .text .now) (c .before .before .before .before .before .before .before .args .at) (sym (c .before .before .before .before .before .peek .ensures) ∙ c .before .before .before .before .if1 .taken) (as-broken G.unit (c .before .before .before .before .before .before .before .args .text .now) (c .before .before .before .before .before .before .before .args .at + 1) (c .before .i .given .1) (c .before .before .before .unit .ensures))
+unit-returns-2 t c =
+    let after-unit : unit-lts.After-unit (unit-claims t) (unit-at t) unit.Post = search in
+    let then1 : unit-lts.Then1 (unit-claims t) (unit-at t) unit.Post = search in
+    let after-peek : unit-lts.After-peek (unit-claims t) (unit-at t) unit.Post = search in
+    let start : unit-lts.Start (unit-claims t) (unit-at t) unit.Post = search in
+    let args = start .args in
+    negated-broken (args .text .now) (args .at) (sym (after-peek .peek .ensures) ∙ then1 .if1 .taken)
+    (as-broken G.unit (args .text .now) (args .at + 1) (c .before .i .given .1) (after-unit .unit .ensures))
 
 unit-add-sum : (t : ℕ) → unit-lts.Need-add-sum (unit-claims t) (unit-at t) unit.Post
-unit-add-sum t c = omega (arith, inside (c .before .before .before .before .args .text .now) (c .before .before .before .before .args .at) 39 (sym (c .before .before .peek .ensures) ∙ c .if2 .taken))
+unit-add-sum t c =
+    let after-peek : unit-lts.After-peek (unit-claims t) (unit-at t) unit.Post = search in
+    let start : unit-lts.Start (unit-claims t) (unit-at t) unit.Post = search in
+    let args = start .args in
+    omega (arith, inside (args .text .now) (args .at) 39 (sym (after-peek .peek .ensures) ∙ c .if2 .taken))
 
 unit-sum-requires : (t : ℕ) → unit-lts.Need-sum-requires (unit-claims t) (unit-at t) unit.Post
-unit-sum-requires t c κs = (omega (arith, c .before .before .before .before .pre .0, inside (c .before .before .before .before .args .text .now) (c .before .before .before .before .args .at) 39 (sym (c .before .before .peek .ensures) ∙ c .if2 .taken)), tt)
+unit-sum-requires t c κs =
+    let after-peek : unit-lts.After-peek (unit-claims t) (unit-at t) unit.Post = search in
+    let start : unit-lts.Start (unit-claims t) (unit-at t) unit.Post = search in
+    let args = start .args in
+    (omega (arith, start .pre .0, inside (args .text .now) (args .at) 39 (sym (after-peek .peek .ensures) ∙ c .if2 .taken)), tt)
 
 unit-enum-known-w-2 : (t : ℕ) → unit-lts.Need-enum-known-w-2 (unit-claims t) (unit-at t) unit.Post
 unit-enum-known-w-2 t c = c .match2 .keys1
@@ -181,22 +326,53 @@ unit-peek-requires-2 : (t : ℕ) → unit-lts.Need-peek-requires-2 (unit-claims 
 unit-peek-requires-2 t c κs = search needs
 
 unit-add-t21 : (t : ℕ) → unit-lts.Need-add-t21 (unit-claims t) (unit-at t) unit.Post
-unit-add-t21 t c = omega (arith, inside (c .before .before .before .before .before .before .before .before .before .before .args .text .now) (c .before .before .before .w2 .given .0 .1 .0) 40 (sym (c .before .peek2 .ensures) ∙ c .if3 .taken))
+unit-add-t21 t c =
+    let after-w2 : unit-lts.After-w2 (unit-claims t) (unit-at t) unit.Post = search in
+    let start : unit-lts.Start (unit-claims t) (unit-at t) unit.Post = search in
+    omega (arith, inside (start .args .text .now) (after-w2 .w2 .given .0 .1 .0) 40 (sym (c .before .peek2 .ensures) ∙ c .if3 .taken))
 
 unit-enum-known-i-2 : (t : ℕ) → unit-lts.Need-enum-known-i-2 (unit-claims t) (unit-at t) unit.Post
 unit-enum-known-i-2 t c = c .match2 .keys2
 
 unit-returns-3 : (t : ℕ) → unit-lts.Need-returns-3 (unit-claims t) (unit-at t) unit.Post
-unit-returns-3 t c = bracketed-read (sym (c .before .before .before .before .before .before .before .before .peek .ensures) ∙ c .before .before .before .before .before .before .if2 .taken) (as-read G.sum (c .before .before .before .before .before .before .before .before .before .before .args .text .now) (c .before .before .before .before .before .before .before .before .before .before .args .at + 1) (c .before .before .before .w2 .given .1) (c .before .before .before .before .before .sum .ensures)) (sym (c .before .peek2 .ensures) ∙ c .if3 .taken)
+unit-returns-3 t c =
+    let after-w2 : unit-lts.After-w2 (unit-claims t) (unit-at t) unit.Post = search in
+    let after-sum : unit-lts.After-sum (unit-claims t) (unit-at t) unit.Post = search in
+    let then2 : unit-lts.Then2 (unit-claims t) (unit-at t) unit.Post = search in
+    let after-peek : unit-lts.After-peek (unit-claims t) (unit-at t) unit.Post = search in
+    let start : unit-lts.Start (unit-claims t) (unit-at t) unit.Post = search in
+    let args = start .args in
+    bracketed-read (sym (after-peek .peek .ensures) ∙ then2 .if2 .taken)
+    (as-read G.sum (args .text .now) (args .at + 1) (after-w2 .w2 .given .1) (after-sum .sum .ensures))
+    (sym (c .before .peek2 .ensures) ∙ c .if3 .taken)
 
 unit-returns-4 : (t : ℕ) → unit-lts.Need-returns-4 (unit-claims t) (unit-at t) unit.Post
-unit-returns-4 t c = unclosed (c .before .before .before .before .before .before .before .before .before .before .args .text .now) (c .before .before .before .before .before .before .before .before .before .before .args .at) (sym (c .before .before .before .before .before .before .before .before .peek .ensures) ∙ c .before .before .before .before .before .before .if2 .taken) (as-read G.sum (c .before .before .before .before .before .before .before .before .before .before .args .text .now) (c .before .before .before .before .before .before .before .before .before .before .args .at + 1) (c .before .before .before .w2 .given .1) (c .before .before .before .before .before .sum .ensures)) (λ q. c .if3 .left (c .before .peek2 .ensures ∙ q))
+unit-returns-4 t c =
+    let after-w2 : unit-lts.After-w2 (unit-claims t) (unit-at t) unit.Post = search in
+    let after-sum : unit-lts.After-sum (unit-claims t) (unit-at t) unit.Post = search in
+    let then2 : unit-lts.Then2 (unit-claims t) (unit-at t) unit.Post = search in
+    let after-peek : unit-lts.After-peek (unit-claims t) (unit-at t) unit.Post = search in
+    let start : unit-lts.Start (unit-claims t) (unit-at t) unit.Post = search in
+    let args = start .args in
+    unclosed (args .text .now) (args .at) (sym (after-peek .peek .ensures) ∙ then2 .if2 .taken)
+    (as-read G.sum (args .text .now) (args .at + 1) (after-w2 .w2 .given .1) (after-sum .sum .ensures))
+    (λ q. c .if3 .left (c .before .peek2 .ensures ∙ q))
 
 unit-returns-5 : (t : ℕ) → unit-lts.Need-returns-5 (unit-claims t) (unit-at t) unit.Post
-unit-returns-5 t c = bracketed-broken (c .before .before .before .before .before .before .before .before .args .text .now) (c .before .before .before .before .before .before .before .before .args .at) (sym (c .before .before .before .before .before .before .peek .ensures) ∙ c .before .before .before .before .if2 .taken) (as-broken G.sum (c .before .before .before .before .before .before .before .before .args .text .now) (c .before .before .before .before .before .before .before .before .args .at + 1) (c .before .i2 .given .1) (c .before .before .before .sum .ensures))
+unit-returns-5 t c =
+    let after-sum : unit-lts.After-sum (unit-claims t) (unit-at t) unit.Post = search in
+    let then2 : unit-lts.Then2 (unit-claims t) (unit-at t) unit.Post = search in
+    let after-peek : unit-lts.After-peek (unit-claims t) (unit-at t) unit.Post = search in
+    let start : unit-lts.Start (unit-claims t) (unit-at t) unit.Post = search in
+    let args = start .args in
+    bracketed-broken (args .text .now) (args .at) (sym (after-peek .peek .ensures) ∙ then2 .if2 .taken)
+    (as-broken G.sum (args .text .now) (args .at + 1) (c .before .i2 .given .1) (after-sum .sum .ensures))
 
 unit-atom-requires : (t : ℕ) → unit-lts.Need-atom-requires (unit-claims t) (unit-at t) unit.Post
-unit-atom-requires t c κs = (λ q. c .before .if1 .left (c .before .before .peek .ensures ∙ q), λ q. c .if2 .left (c .before .before .peek .ensures ∙ q))
+unit-atom-requires t c κs =
+    let after-peek : unit-lts.After-peek (unit-claims t) (unit-at t) unit.Post = search in
+    let peek = after-peek .peek in
+    (λ q. c .before .if1 .left (peek .ensures ∙ q), λ q. c .if2 .left (peek .ensures ∙ q))
 
 unit-returns-6 : (t : ℕ) → unit-lts.Need-returns-6 (unit-claims t) (unit-at t) unit.Post
 unit-returns-6 t c = c .atom .ensures

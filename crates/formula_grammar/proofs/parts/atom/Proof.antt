@@ -15,37 +15,75 @@ constant-requires : tie.Need-constant-requires
 constant-requires c κs = search needs
 
 add-t6 : tie.Need-add-t6
-add-t6 c = omega (arith, inside (c .before .before .before .before .args .text .now) (c .before .before .before .before .args .at) 47 (sym (c .before .before .peek .ensures) ∙ c .before .if1 .taken))
+add-t6 c =
+    let after-peek : tie.After-peek = search in
+    let start : tie.Start = search in
+    let args = start .args in
+    omega (arith, inside (args .text .now) (args .at) 47 (sym (after-peek .peek .ensures) ∙ c .before .if1 .taken))
 
 returns : tie.Need-returns
-returns c = nought-read (c .constant .result) (sym (c .before .before .peek .ensures) ∙ c .before .if1 .taken) (c .constant .ensures)
+returns c =
+    let after-peek : tie.After-peek = search in
+    nought-read (c .constant .result) (sym (after-peek .peek .ensures) ∙ c .before .if1 .taken) (c .constant .ensures)
 
 constant-requires-2 : tie.Need-constant-requires-2
 constant-requires-2 c κs = search needs
 
 add-t8 : tie.Need-add-t8
-add-t8 c = omega (arith, inside (c .before .before .before .before .before .args .text .now) (c .before .before .before .before .before .args .at) 48 (sym (c .before .before .before .peek .ensures) ∙ c .before .if2 .taken))
+add-t8 c =
+    let after-peek : tie.After-peek = search in
+    let start : tie.Start = search in
+    let args = start .args in
+    omega (arith, inside (args .text .now) (args .at) 48 (sym (after-peek .peek .ensures) ∙ c .before .if2 .taken))
 
 returns-2 : tie.Need-returns-2
-returns-2 c = one-read (c .constant2 .result) (sym (c .before .before .before .peek .ensures) ∙ c .before .if2 .taken) (c .constant2 .ensures)
+returns-2 c =
+    let after-peek : tie.After-peek = search in
+    one-read (c .constant2 .result) (sym (after-peek .peek .ensures) ∙ c .before .if2 .taken) (c .constant2 .ensures)
 
 is-letter-requires : tie.Need-is-letter-requires
 is-letter-requires c κs = search needs
 
 sub-letter : tie.Need-sub-letter
-sub-letter c = letter-low (c .before .before .before .before .peek .result) (sym (c .if3 .taken) ∙ c .before .is-letter .ensures)
+sub-letter c =
+    let after-peek : tie.After-peek = search in
+    letter-low (after-peek .peek .result) (sym (c .if3 .taken) ∙ c .before .is-letter .ensures)
 
 letter-requires : tie.Need-letter-requires
 letter-requires c κs = search needs
 
 add-t12 : tie.Need-add-t12
-add-t12 c = let low = letter-low (c .before .before .before .before .before .peek .result) (sym (c .before .if3 .taken) ∙ c .before .before .is-letter .ensures) in omega (arith, beyond (c .before .before .before .before .before .before .before .args .text .now) (c .before .before .before .before .before .before .before .args .at) (c .before .before .before .before .before .peek .result) (c .before .before .before .before .before .peek .ensures) low)
+add-t12 c =
+    let after-is-letter : tie.After-is-letter = search in
+    let after-peek : tie.After-peek = search in
+    let start : tie.Start = search in
+    let peek = after-peek .peek in
+    let args = start .args in
+    let low = letter-low (peek .result) (sym (c .before .if3 .taken) ∙ after-is-letter .is-letter .ensures) in
+    omega (arith, beyond (args .text .now) (args .at) (peek .result) (peek .ensures) low)
 
 returns-3 : tie.Need-returns-3
-returns-3 c = letter-read (c .letter .result) (c .before .before .before .before .before .peek .result) (sym (c .before .before .before .before .before .peek .ensures)) (letter-low (c .before .before .before .before .before .peek .result) (sym (c .before .if3 .taken) ∙ c .before .before .is-letter .ensures)) (letter-small (c .before .before .before .before .before .peek .result) (sym (c .before .if3 .taken) ∙ c .before .before .is-letter .ensures)) (c .letter .ensures)
+returns-3 c =
+    let after-is-letter : tie.After-is-letter = search in
+    let after-peek : tie.After-peek = search in
+    let is-letter = after-is-letter .is-letter in
+    let peek = after-peek .peek in
+    letter-read (c .letter .result) (peek .result) (sym (peek .ensures))
+    (letter-low (peek .result) (sym (c .before .if3 .taken) ∙ is-letter .ensures))
+    (letter-small (peek .result) (sym (c .before .if3 .taken) ∙ is-letter .ensures)) (c .letter .ensures)
 
 returns-4 : tie.Need-returns-4
-returns-4 c = no-atom (c .before .before .before .before .before .before .args .text .now) (c .before .before .before .before .before .before .args .at) (c .before .before .before .before .before .before .pre .0) (c .before .before .before .before .before .before .pre .1) (λ q. c .before .before .before .if1 .left (c .before .before .before .before .peek .ensures ∙ q)) (λ q. c .before .before .if2 .left (c .before .before .before .before .peek .ensures ∙ q)) (ap isLetter (sym (c .before .before .before .before .peek .ensures)) ∙ sym (c .before .is-letter .ensures) ∙ c .if3 .left)
+returns-4 c =
+    let else2 : tie.Else2 = search in
+    let else1 : tie.Else1 = search in
+    let after-peek : tie.After-peek = search in
+    let start : tie.Start = search in
+    let peek = after-peek .peek in
+    let args = start .args in
+    let pre = start .pre in
+    no-atom (args .text .now) (args .at) (pre .0) (pre .1) (λ q. else1 .if1 .left (peek .ensures ∙ q))
+    (λ q. else2 .if2 .left (peek .ensures ∙ q))
+    (ap isLetter (sym (peek .ensures)) ∙ sym (c .before .is-letter .ensures) ∙ c .if3 .left)
 
 pub atom-spec : {M : Type 1} → statement M
 atom-spec =

@@ -24,13 +24,25 @@ is-stray-requires : tie.Need-is-stray-requires Inv-loop μ-loop
 is-stray-requires c κs = search needs
 
 returns : tie.Need-returns Inv-loop μ-loop
-returns c = stray-first (c .before .before .before .before .before .before .args .n) (c .before .before .before .before .before .before .args .text .now) (c .before .before .before .before .loop .i) (c .before .before .before .loop-test .taken) (c .before .before .before .before .loop .inv) (sym (c .before .is-stray .ensures) ∙ c .if1 .taken)
+returns c =
+    let in-loop : tie.In-loop Inv-loop μ-loop = search in
+    let at-loop : tie.At-loop Inv-loop μ-loop = search in
+    let start : tie.Start Inv-loop μ-loop = search in
+    let loop = at-loop .loop in
+    let args = start .args in
+    stray-first (args .n) (args .text .now) (loop .i) (in-loop .loop-test .taken) (loop .inv) (sym (c .before .is-stray .ensures) ∙ c .if1 .taken)
 
 is-past-requires : tie.Need-is-past-requires Inv-loop μ-loop
 is-past-requires c κs = search needs
 
 returns-2 : tie.Need-returns-2 Inv-loop μ-loop
-returns-2 c = past-first (c .before .before .before .before .before .before .before .before .args .n) (c .before .before .before .before .before .before .before .before .args .text .now) (c .before .before .before .before .before .before .loop .i) (c .before .before .before .before .before .loop-test .taken) (c .before .before .before .before .before .before .loop .inv) (sym (c .before .is-past .ensures) ∙ c .if2 .taken)
+returns-2 c =
+    let in-loop : tie.In-loop Inv-loop μ-loop = search in
+    let at-loop : tie.At-loop Inv-loop μ-loop = search in
+    let start : tie.Start Inv-loop μ-loop = search in
+    let loop = at-loop .loop in
+    let args = start .args in
+    past-first (args .n) (args .text .now) (loop .i) (in-loop .loop-test .taken) (loop .inv) (sym (c .before .is-past .ensures) ∙ c .if2 .taken)
 
 add-i : tie.Need-add-i Inv-loop μ-loop
 add-i c = omega arith
@@ -39,7 +51,15 @@ loop-less : tie.Need-loop-less Inv-loop μ-loop
 loop-less c = omega arith
 
 loop-again : tie.Need-loop-again Inv-loop μ-loop
-loop-again c = clean-more (c .before .before .before .before .before .before .before .before .args .n) (c .before .before .before .before .before .before .before .before .args .text .now) (c .before .before .before .before .before .before .loop .i) (c .before .before .before .before .before .before .loop .inv) (sym (c .before .before .before .is-stray .ensures) ∙ c .before .before .if1 .left) (sym (c .before .is-past .ensures) ∙ c .if2 .left)
+loop-again c =
+    let else1 : tie.Else1 Inv-loop μ-loop = search in
+    let after-is-stray : tie.After-is-stray Inv-loop μ-loop = search in
+    let at-loop : tie.At-loop Inv-loop μ-loop = search in
+    let start : tie.Start Inv-loop μ-loop = search in
+    let loop = at-loop .loop in
+    let args = start .args in
+    clean-more (args .n) (args .text .now) (loop .i) (loop .inv)
+    (sym (after-is-stray .is-stray .ensures) ∙ else1 .if1 .left) (sym (c .before .is-past .ensures) ∙ c .if2 .left)
 
 returns-3 : tie.Need-returns-3 Inv-loop μ-loop
 returns-3 c = λ j x. c .before .loop .inv j (omega (arith, x .0)) x

@@ -31,7 +31,14 @@ loop-less : tie.Need-loop-less Inv-loop μ-loop
 loop-less c = omega arith
 
 loop-again : tie.Need-loop-again Inv-loop μ-loop
-loop-again c = (length-set (c .before .before .loop .table) (c .before .before .loop .j) (c .byte .result) ∙ c .before .before .loop .inv .0, stored (c .before .before .before .args .self) (c .before .before .loop .table) (c .before .before .loop .j) (c .byte .result) (c .before .before .loop .inv .0) (c .before .loop-test .taken) (c .before .before .loop .inv .1) (c .byte .ensures))
+loop-again c =
+    let at-loop : tie.At-loop Inv-loop μ-loop = search in
+    let start : tie.Start Inv-loop μ-loop = search in
+    let loop = at-loop .loop in (
+      length-set (loop .table) (loop .j) (c .byte .result) ∙ loop .inv .0,
+      stored (start .args .self) (loop .table) (loop .j) (c .byte .result) (loop .inv .0) (c .before .loop-test .taken)
+          (loop .inv .1) (c .byte .ensures),
+    )
 
 returns : tie.Need-returns Inv-loop μ-loop
 returns c = record { sixteen = c .before .loop .inv .0; each = λ j h. c .before .loop .inv .1 j (omega arith) }

@@ -4,7 +4,10 @@ use Rattle.formula_table.proofs.Truths.or.Statement.{statement}
 use Rattle.formula_table.proofs.Truths.or.Tie as tie
 
 returns : tie.Need-returns
-returns c = or-holds (c .before .before .before .before .args .self) (c .before .before .before .before .args .other)
+returns c =
+    let start : tie.Start = search in
+    let args = start .args in
+    or-holds (args .self) (args .other)
 
 pub or-spec : {M : Type 1} → statement M
 or-spec = tie.close (tie.spec returns)

@@ -18,7 +18,8 @@ part-of-requires-2 c κs = search needs
 
 copy-run-requires : tie.Need-copy-run-requires
 copy-run-requires c κs =
-    let there = c .before .before .part-of .ensures in
+    let after-part-of : tie.After-part-of = search in
+    let there = after-part-of .part-of .ensures in
     (omega (arith, c .before .part-of2 .ensures, there), omega (arith, c .before .part-of2 .ensures))
 
 same-length : tie.Need-same-length
@@ -26,10 +27,13 @@ same-length c = search needs
 
 returns : tie.Need-returns
 returns c =
-    let second = c .before .before .before .before in
+    let after-copy-run : tie.After-copy-run = search in
+    let after-part-of2 : tie.After-part-of2 = search in
+    let start : tie.Start = search in
+    let second = after-part-of2 in
     let first = second .before in
-    let a = first .before .before .before .args in
-    c .before .before .copy-run .ensures
+    let a = start .args in
+    after-copy-run .copy-run .ensures
     ∙ ap (λ (k : ℕ). sets (now (a .room)) (a .to) (take k (drop (a .from) (now (a .source)))))
     (second .part-of2 .ensures ∙ ap (λ (k : ℕ). min k (length (now (a .room)) - a .to)) (first .part-of .ensures))
     ∙ copy-clipped (now (a .source)) (now (a .room)) (a .from) (a .count) (a .to)

@@ -39,12 +39,14 @@ loop-less c = omega arith
 
 loop-again : tie.Need-loop-again Inv-loop μ-loop
 loop-again c =
-    let a = c .before .before .before .args in
-    let r = c .before .before .loop in (
+    let at-loop : tie.At-loop Inv-loop μ-loop = search in
+    let start : tie.Start Inv-loop μ-loop = search in
+    let a = start .args in
+    let r = at-loop .loop in (
       omega arith,
       simp length-set (r .inv .1),
       write-step _ (r .room) (take (a .count) (drop (a .from) (now (a .source)))) (a .to) (r .i) _
-          (rw (length-part-there (now (a .source)) (a .from) (a .count) (c .before .before .before .pre .0)) (c .before .loop-test .taken))
+          (rw (length-part-there (now (a .source)) (a .from) (a .count) (start .pre .0)) (c .before .loop-test .taken))
           (getD-part (now (a .source)) (a .from) (a .count) (r .i) (c .before .loop-test .taken))
           (r .inv .2),
     )
@@ -54,10 +56,11 @@ same-length c = omega arith
 
 returns : tie.Need-returns Inv-loop μ-loop
 returns c =
-    let a = c .before .before .args in
+    let start : tie.Start Inv-loop μ-loop = search in
+    let a = start .args in
     let r = c .before .loop in
     write-done _ (r .room) (take (a .count) (drop (a .from) (now (a .source)))) (a .to) (r .i)
-    (rw (length-part-there (now (a .source)) (a .from) (a .count) (c .before .before .pre .0)) (c .loop-test .left))
+    (rw (length-part-there (now (a .source)) (a .from) (a .count) (start .pre .0)) (c .loop-test .left))
     (r .inv .2)
 
 pub copy-run-spec : {M : Type 1} → statement M

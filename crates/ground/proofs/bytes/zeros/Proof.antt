@@ -21,9 +21,12 @@ same-length c = search needs
 
 returns : tie.Need-returns
 returns c =
-    let fits = c .before .before .before .before in
-    let a = fits .before .before .args in
-    c .before .before .zeros-run .ensures
+    let after-zeros-run : tie.After-zeros-run = search in
+    let after-part-of : tie.After-part-of = search in
+    let start : tie.Start = search in
+    let fits = after-part-of in
+    let a = start .args in
+    after-zeros-run .zeros-run .ensures
     ∙ ap (λ (k : ℕ). sets (now (a .room)) (a .to) (replicate {A = ℕ} k 0)) (fits .part-of .ensures)
     ∙ zeros-clipped (now (a .room)) (a .count) (a .to)
 

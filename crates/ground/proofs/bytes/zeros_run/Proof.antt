@@ -32,7 +32,8 @@ loop-less c = omega arith
 
 loop-again : tie.Need-loop-again Inv-loop μ-loop
 loop-again c =
-    let a = c .before .before .args in
+    let start : tie.Start Inv-loop μ-loop = search in
+    let a = start .args in
     let r = c .before .loop in (
       omega arith,
       simp length-set (r .inv .1),
@@ -45,7 +46,8 @@ same-length c = omega arith
 
 returns : tie.Need-returns Inv-loop μ-loop
 returns c =
-    let a = c .before .before .args in
+    let start : tie.Start Inv-loop μ-loop = search in
+    let a = start .args in
     let r = c .before .loop in
     write-done _ (r .room) (replicate (a .count) 0) (a .to) (r .i) (rw length-replicate (c .loop-test .left)) (r .inv .2)
 

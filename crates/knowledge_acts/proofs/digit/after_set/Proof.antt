@@ -41,11 +41,15 @@ array-read-result-2 c = search needs
 
 returns-2 : tie.Need-returns-2
 unfolding table
-returns-2 c = rw (c .if2 .taken) (set-true _ (c .before .before .if1 .left))
+returns-2 c =
+    let else1 : tie.Else1 = search in
+    rw (c .if2 .taken) (set-true _ (else1 .if1 .left))
 
 returns-3 : tie.Need-returns-3
 unfolding table
-returns-3 c = rw (c .if2 .left) (set-false _ (c .before .before .if1 .left))
+returns-3 c =
+    let else1 : tie.Else1 = search in
+    rw (c .if2 .left) (set-false _ (else1 .if1 .left))
 
 pub after-set-spec : {M : Type 1} → statement M
 after-set-spec =

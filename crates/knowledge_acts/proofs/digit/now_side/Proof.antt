@@ -16,7 +16,9 @@ returns-3 : tie.Need-returns-3
 returns-3 c = sym (now-odd _ (c .before .if2 .left) (c .if3 .taken))
 
 returns-4 : tie.Need-returns-4
-returns-4 c = sym (now-even _ (c .before .if2 .left) (c .before .before .if1 .left) (c .if3 .left))
+returns-4 c =
+    let else1 : tie.Else1 = search in
+    sym (now-even _ (c .before .if2 .left) (else1 .if1 .left) (c .if3 .left))
 
 pub now-side-spec : {M : Type 1} → statement M
 now-side-spec = tie.close (tie.spec returns returns-2 returns-3 returns-4)

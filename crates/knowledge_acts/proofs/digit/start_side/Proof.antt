@@ -9,10 +9,14 @@ returns : tie.Need-returns
 returns c = sym (start-low _ (c .if1 .taken))
 
 returns-2 : tie.Need-returns-2
-returns-2 c = sym (start-middle (c .before .before .args .digit) (omega arith) (omega arith))
+returns-2 c =
+    let start : tie.Start = search in
+    sym (start-middle (start .args .digit) (omega arith) (omega arith))
 
 returns-3 : tie.Need-returns-3
-returns-3 c = sym (start-high (c .before .before .before .args .digit) (omega arith) (omega arith))
+returns-3 c =
+    let start : tie.Start = search in
+    sym (start-high (start .args .digit) (omega arith) (omega arith))
 
 returns-4 : tie.Need-returns-4
 returns-4 c = sym (start-past _ (c .if3 .left))

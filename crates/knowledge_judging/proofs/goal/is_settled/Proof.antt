@@ -16,9 +16,12 @@ known-to-hold-requires c κs = search needs
 
 returns-2 : tie.Need-returns-2
 returns-2 c =
-    let e = c .before .before .before in
-    let a = e .before .before .before .args in
-    goal-not (a .n) (a .k) (e .if1 .left) (c .before .before .from-number .ensures) (a .make .now) (a .learn .now) (c .before .known-to-hold .ensures)
+    let after-from-number : tie.After-from-number = search in
+    let else1 : tie.Else1 = search in
+    let start : tie.Start = search in
+    let e = else1 in
+    let a = start .args in
+    goal-not (a .n) (a .k) (e .if1 .left) (after-from-number .from-number .ensures) (a .make .now) (a .learn .now) (c .before .known-to-hold .ensures)
     (not-true _ (c .if2 .taken))
 
 learnt-requires : tie.Need-learnt-requires
@@ -26,10 +29,14 @@ learnt-requires c κs = search needs
 
 returns-3 : tie.Need-returns-3
 returns-3 c =
-    let e = c .before .before .before .before in
-    let a = e .before .before .before .args in
-    goal-learnt (a .n) (a .k) (e .if1 .left) (c .before .before .before .from-number .ensures) (a .make .now) (a .learn .now)
-    (c .before .before .known-to-hold .ensures) (not-false _ (c .before .if2 .left)) (c .learnt .ensures)
+    let after-known-to-hold : tie.After-known-to-hold = search in
+    let after-from-number : tie.After-from-number = search in
+    let else1 : tie.Else1 = search in
+    let start : tie.Start = search in
+    let e = else1 in
+    let a = start .args in
+    goal-learnt (a .n) (a .k) (e .if1 .left) (after-from-number .from-number .ensures) (a .make .now) (a .learn .now)
+    (after-known-to-hold .known-to-hold .ensures) (not-false _ (c .before .if2 .left)) (c .learnt .ensures)
 
 pub is-settled-spec : {M : Type 1} → statement M
 is-settled-spec =

@@ -29,20 +29,31 @@ mul-learn-settled c = omega arith
 learn-settled-requires : tie.Need-learn-settled-requires Inv-loop μ-loop
 learn-settled-requires c κs = search needs
 
+abbrev at-loop-of-after-learn-settled : tie.After-learn-settled Inv-loop μ-loop → tie.At-loop Inv-loop μ-loop
+at-loop-of-after-learn-settled c = search
+
+abbrev start-of-after-learn-settled : tie.After-learn-settled Inv-loop μ-loop → tie.Start Inv-loop μ-loop
+start-of-after-learn-settled c = search
+
 -- what the test of the table with index j tells
 tested : (c : tie.After-learn-settled Inv-loop μ-loop) →
-    let a = c .before .before .before .before .args in
-    c .learn-settled .result ≡ learnSettled (a .n) (digitIn (a .state .digits)) (learnTable (a .learn .now) (c .before .before .loop .j))
+    let a = start-of-after-learn-settled c .args in
+    c .learn-settled .result ≡ learnSettled (a .n) (digitIn (a .state .digits)) (learnTable (a .learn .now) (at-loop-of-after-learn-settled c .loop .j))
 tested c =
-    let a = c .before .before .before .before .args in
-    let r = c .before .before .loop in
+    let at-loop : tie.At-loop Inv-loop μ-loop = search in
+    let start : tie.Start Inv-loop μ-loop = search in
+    let a = start .args in
+    let r = at-loop .loop in
     c .learn-settled .ensures ∙ learn-at (a .n) (digitIn (a .state .digits)) (a .learn .now) (r .inv .0) (r .j)
 
 returns : tie.Need-returns Inv-loop μ-loop
 returns c =
-    let a = c .before .before .before .before .before .args in
-    let r = c .before .before .before .loop in
-    learnt-not (a .n) (digitIn (a .state .digits)) (a .learn .now) (r .inv .0) (r .j) (c .before .before .loop-test .taken)
+    let in-loop : tie.In-loop Inv-loop μ-loop = search in
+    let at-loop : tie.At-loop Inv-loop μ-loop = search in
+    let start : tie.Start Inv-loop μ-loop = search in
+    let a = start .args in
+    let r = at-loop .loop in
+    learnt-not (a .n) (digitIn (a .state .digits)) (a .learn .now) (r .inv .0) (r .j) (in-loop .loop-test .taken)
     (sym (tested (c .before)) ∙ not-true _ (c .if1 .taken))
 
 add-j : tie.Need-add-j Inv-loop μ-loop
@@ -53,12 +64,14 @@ loop-less c = omega arith
 
 loop-again : tie.Need-loop-again Inv-loop μ-loop
 loop-again c =
-    let inv = c .before .before .before .loop .inv in
+    let at-loop : tie.At-loop Inv-loop μ-loop = search in
+    let inv = at-loop .loop .inv in
     (inv .0, omega arith, below-more _ _ (inv .2) (true→T (sym (tested (c .before)) ∙ not-false _ (c .if1 .left))))
 
 returns-2 : tie.Need-returns-2 Inv-loop μ-loop
 returns-2 c =
-    let a = c .before .before .before .args in
+    let start : tie.Start Inv-loop μ-loop = search in
+    let a = start .args in
     let r = c .before .loop in
     learnt-all (a .n) (digitIn (a .state .digits)) (a .learn .now) (r .inv .0) (r .j) (r .inv .2) (c .loop-test .left)
 

@@ -24,12 +24,21 @@ Inv-loop state n side bytes from value size v₀ v =
 abbrev μ-loop : tie.MeasureT-loop
 μ-loop state n side bytes from value size v₀ v = size - v
 
+abbrev at-loop-of-after-has-if-fits : tie.After-has-if-fits Inv-loop μ-loop → tie.At-loop Inv-loop μ-loop
+at-loop-of-after-has-if-fits c = search
+
+abbrev start-of-after-has-if-fits : tie.After-has-if-fits Inv-loop μ-loop → tie.Start Inv-loop μ-loop
+start-of-after-has-if-fits c = search
+
 -- what the test of the valuation v tells
 tested : (c : tie.After-has-if-fits Inv-loop μ-loop) →
-    let a = c .before .before .before .before .before .before .args in
-    c .has-if-fits .result ≡ has (a .value) (a .n) (toldOf (a .side) (digitIn (a .state .digits))) (drop (a .from) (now (a .bytes))) (c .before .before .before .loop .v)
+    let a = start-of-after-has-if-fits c .args in
+    c .has-if-fits .result
+    ≡ has (a .value) (a .n) (toldOf (a .side) (digitIn (a .state .digits))) (drop (a .from) (now (a .bytes)))
+    (at-loop-of-after-has-if-fits c .loop .v)
 tested c =
-    let a = c .before .before .before .before .before .before .args in
+    let start : tie.Start Inv-loop μ-loop = search in
+    let a = start .args in
     let x = c .before .valuation in
     has-at (a .value) (a .n) (digitIn (a .state .digits)) (drop (a .from) (now (a .bytes))) (x .result) (x .ensures .0) (x .ensures .1)
     (c .has-if-fits .ensures)
@@ -39,7 +48,8 @@ valuations-requires c κs = search needs
 
 loop-holds : tie.Need-loop-holds Inv-loop μ-loop
 loop-holds c =
-    let few = c .before .before .pre in
+    let start : tie.Start Inv-loop μ-loop = search in
+    let few = start .pre in
     (omega arith, size-is few (c .valuations .ensures), size-most few (c .valuations .ensures), none-yet _)
 
 valuation-requires : tie.Need-valuation-requires Inv-loop μ-loop
@@ -51,7 +61,9 @@ has-if-fits-requires c κs = search needs
 returns : tie.Need-returns Inv-loop μ-loop
 unfolding always
 returns c =
-    fails _ (omega (arith, c .before .before .before .loop-test .taken, c .before .before .before .before .loop .inv .1))
+    let in-loop : tie.In-loop Inv-loop μ-loop = search in
+    let at-loop : tie.At-loop Inv-loop μ-loop = search in
+    fails _ (omega (arith, in-loop .loop-test .taken, at-loop .loop .inv .1))
     (sym (tested (c .before)) ∙ not-true _ (c .if1 .taken))
 
 add-v : tie.Need-add-v Inv-loop μ-loop
@@ -62,7 +74,8 @@ loop-less c = omega arith
 
 loop-again : tie.Need-loop-again Inv-loop μ-loop
 loop-again c =
-    let inv = c .before .before .before .before .loop .inv in
+    let at-loop : tie.At-loop Inv-loop μ-loop = search in
+    let inv = at-loop .loop .inv in
     (omega arith, inv .1, inv .2, one-more _ (inv .3) (sym (tested (c .before)) ∙ not-false _ (c .if1 .left)))
 
 returns-2 : tie.Need-returns-2 Inv-loop μ-loop

@@ -17,7 +17,9 @@ finds-requires c κs = search needs
 
 returns-2 : tie.Need-returns-2
 returns-2 c =
-    rw (sym (c .before .before .before .fits2 .ensures) ∙ not-false _ (c .before .before .if1 .left), c .before .if2 .taken)
+    let else1 : tie.Else1 = search in
+    let after-fits2 : tie.After-fits2 = search in
+    rw (sym (after-fits2 .fits2 .ensures) ∙ not-false _ (else1 .if1 .left), c .before .if2 .taken)
     (c .finds .ensures)
 
 finds-requires-2 : tie.Need-finds-requires-2
@@ -25,7 +27,9 @@ finds-requires-2 c κs = search needs
 
 returns-3 : tie.Need-returns-3
 returns-3 c =
-    rw (sym (c .before .before .before .fits2 .ensures) ∙ not-false _ (c .before .before .if1 .left), c .before .if2 .left)
+    let else1 : tie.Else1 = search in
+    let after-fits2 : tie.After-fits2 = search in
+    rw (sym (after-fits2 .fits2 .ensures) ∙ not-false _ (else1 .if1 .left), c .before .if2 .left)
     (ap not (c .finds2 .ensures))
 
 pub has-if-fits-spec : {M : Type 1} → statement M

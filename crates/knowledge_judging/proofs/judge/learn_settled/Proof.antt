@@ -15,7 +15,8 @@ always-requires c κs = search needs
 returns-2 : tie.Need-returns-2
 unfolding learnSettled
 returns-2 c =
-    rw (le-leb _ _ (c .before .before .if1 .left), sym (c .before .always .ensures) ∙ c .if2 .taken)
+    let else1 : tie.Else1 = search in
+    rw (le-leb _ _ (else1 .if1 .left), sym (c .before .always .ensures) ∙ c .if2 .taken)
 
 always-requires-2 : tie.Need-always-requires-2
 always-requires-2 c κs = search needs
@@ -23,7 +24,9 @@ always-requires-2 c κs = search needs
 returns-3 : tie.Need-returns-3
 unfolding learnSettled
 returns-3 c =
-    rw (le-leb _ _ (c .before .before .before .if1 .left), sym (c .before .before .always .ensures) ∙ c .before .if2 .left)
+    let after-always : tie.After-always = search in
+    let else1 : tie.Else1 = search in
+    rw (le-leb _ _ (else1 .if1 .left), sym (after-always .always .ensures) ∙ c .before .if2 .left)
     (c .always2 .ensures)
 
 pub learn-settled-spec : {M : Type 1} → statement M

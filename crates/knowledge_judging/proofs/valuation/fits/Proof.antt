@@ -29,7 +29,9 @@ agrees-at-requires c κs = search needs
 
 returns : tie.Need-returns Inv-loop μ-loop
 unfolding fits
-returns c = fails _ (c .before .before .loop-test .taken) (sym (c .before .agrees-at .ensures) ∙ not-true _ (c .if1 .taken))
+returns c =
+    let in-loop : tie.In-loop Inv-loop μ-loop = search in
+    fails _ (in-loop .loop-test .taken) (sym (c .before .agrees-at .ensures) ∙ not-true _ (c .if1 .taken))
 
 add-i : tie.Need-add-i Inv-loop μ-loop
 add-i c = omega arith
@@ -38,7 +40,9 @@ loop-less : tie.Need-loop-less Inv-loop μ-loop
 loop-less c = omega arith
 
 loop-again : tie.Need-loop-again Inv-loop μ-loop
-loop-again c = (omega arith, one-more _ (c .before .before .before .loop .inv .1) (sym (c .before .agrees-at .ensures) ∙ not-false _ (c .if1 .left)))
+loop-again c =
+    let at-loop : tie.At-loop Inv-loop μ-loop = search in
+    (omega arith, one-more _ (at-loop .loop .inv .1) (sym (c .before .agrees-at .ensures) ∙ not-false _ (c .if1 .left)))
 
 returns-2 : tie.Need-returns-2 Inv-loop μ-loop
 unfolding fits

@@ -23,8 +23,10 @@ digit-requires c κs = search needs
 
 returns : tie.Need-returns
 returns c =
-    let a = c .before .before .before .before .before .before .args in
-    let told = c .before .before .before .act2 .given in
+    let after-act2 : tie.After-act2 = search in
+    let start : tie.Start = search in
+    let a = start .args in
+    let told = after-act2 .act2 .given in
     rw (told .1)
     (look-refused (a .n) (a .book .now) (digitIn (a .state .digits)) (told .0 .0) (told .0 .1 .0)
     (λ e. c .if1 .taken (c .before .digit .ensures ∙ e)))
@@ -37,20 +39,26 @@ known-to-hold-requires-2 c κs = search needs
 
 returns-2 : tie.Need-returns-2
 returns-2 c =
-    let a = c .before .before .before .before .before .before .args in
-    let told = c .before .before .before .act .given in
+    let after-act : tie.After-act = search in
+    let start : tie.Start = search in
+    let a = start .args in
+    let told = after-act .act .given in
     rw (told .1)
     (rw (c .before .rule-at .ensures) at (c .known-to-hold .ensures)
     ∙ set-permitted (a .n) (a .book .now) (digitIn (a .state .digits)) (told .0 .0) (told .0 .1 .0) (told .0 .1 .1 .0))
 
 returns-3 : tie.Need-returns-3
 returns-3 c =
-    let a = c .before .before .before .before .before .before .before .before .args in
-    let told = c .before .before .before .before .before .act2 .given in
+    let else1 : tie.Else1 = search in
+    let after-digit : tie.After-digit = search in
+    let after-act2 : tie.After-act2 = search in
+    let start : tie.Start = search in
+    let a = start .args in
+    let told = after-act2 .act2 .given in
     rw (told .1)
     (rw (c .before .rule-at2 .ensures) at (c .known-to-hold2 .ensures)
     ∙ look-permitted (a .n) (a .book .now) (digitIn (a .state .digits)) (told .0 .0) (told .0 .1 .0)
-    (sym (c .before .before .before .digit .ensures) ∙ c .before .before .if1 .left))
+    (sym (after-digit .digit .ensures) ∙ else1 .if1 .left))
 
 pub permits-spec : {M : Type 1} → statement M
 permits-spec =

@@ -41,7 +41,9 @@ returns c =
     let F = a .text .now in
     let read = read-point .read in
     let why = answer-point .answer .given in
-    λ sheet f. faulty (why .0 .0) (c .at-fault .result .desk) (formula-refused n F (read .result .table) (read .result .answer) (read .ensures) (next (dueAfter (a .place)) sheet) (why .0 .0) (why .1)) (c .at-fault .ensures)
+    λ sheet f. faulty (why .0 .0) (c .at-fault .result .desk)
+    (formula-refused n F (read .result .table) (read .result .answer) (read .ensures)
+    (next (dueAfter (a .place)) sheet) (why .0 .0) (why .1)) (c .at-fault .ensures)
 
 returns-2 : tie.Need-returns-2
 returns-2 c =
@@ -52,7 +54,8 @@ returns-2 c =
     let n = a .desk .rules .settings in
     let F = a .text .now in
     let read = read-point .read in
-    λ sheet f. formula-taken n F (read .result .table) (read .result .answer) (read .ensures) (a .desk) (a .place) sheet (enum-told-point .enum-told .given .1) (c .placed .ensures) f
+    λ sheet f. formula-taken n F (read .result .table) (read .result .answer) (read .ensures) (a .desk) (a .place) sheet
+    (enum-told-point .enum-told .given .1) (c .placed .ensures) f
 
 pub formula-line-spec : {M : Type 1} → statement M
 formula-line-spec =

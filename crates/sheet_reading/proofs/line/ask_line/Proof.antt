@@ -25,7 +25,9 @@ returns c =
     let begins-point : tie.After-begins = search in
     let yes1 : tie.Then1 = search in
     let a = start .args in
-    λ sheet h. faulty (Malformed (a .number)) (c .at-fault .result .desk) (ask-other sheet (a .desk) h (a .line .now) (a .number) (sym (begins-point .begins .ensures) ∙ not-true _ (yes1 .if1 .taken))) (c .at-fault .ensures)
+    λ sheet h. faulty (Malformed (a .number)) (c .at-fault .result .desk)
+    (ask-other sheet (a .desk) h (a .line .now) (a .number)
+    (sym (begins-point .begins .ensures) ∙ not-true _ (yes1 .if1 .taken))) (c .at-fault .ensures)
 
 cast-if2 : tie.Need-cast-if2
 cast-if2 c = search needs
@@ -40,7 +42,9 @@ returns-2 c =
     let no1 : tie.Else1 = search in
     let yes2 : tie.Then2 = search in
     let a = start .args in
-    λ sheet h. faulty (Malformed (a .number)) (c .at-fault2 .result .desk) (ask-fifth sheet (a .desk) h (a .line .now) (a .number) (sym (begins-point .begins .ensures) ∙ not-false _ (no1 .if1 .left)) (yes2 .if2 .taken)) (c .at-fault2 .ensures)
+    λ sheet h. faulty (Malformed (a .number)) (c .at-fault2 .result .desk)
+    (ask-fifth sheet (a .desk) h (a .line .now) (a .number)
+    (sym (begins-point .begins .ensures) ∙ not-false _ (no1 .if1 .left)) (yes2 .if2 .taken)) (c .at-fault2 .ensures)
 
 sub-formula-line : tie.Need-sub-formula-line
 sub-formula-line c =
@@ -69,7 +73,9 @@ returns-3 c =
     let no1 : tie.Else1 = search in
     let no2 : tie.Else2 = search in
     let a = start .args in
-    λ sheet h. ask-read sheet (a .desk) h (a .line .now) (a .number) (c .formula-line .result .taken) (c .formula-line .result .desk) (sym (begins-point .begins .ensures) ∙ not-false _ (no1 .if1 .left)) (no2 .if2 .left) (c .formula-line .ensures)
+    λ sheet h. ask-read sheet (a .desk) h (a .line .now) (a .number) (c .formula-line .result .taken)
+    (c .formula-line .result .desk) (sym (begins-point .begins .ensures) ∙ not-false _ (no1 .if1 .left))
+    (no2 .if2 .left) (c .formula-line .ensures)
 
 pub ask-line-spec : {M : Type 1} → statement M
 ask-line-spec =

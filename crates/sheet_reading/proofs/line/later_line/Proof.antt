@@ -36,28 +36,35 @@ returns c =
     let start : tie.Start = search in
     let enum-told-point : tie.After-enum-told = search in
     let a = start .args in
-    λ sheet h. subst (λ (x : Due). Steps (step (a .number) x sheet (a .text .now)) (c .rights-line .result .taken) (c .rights-line .result .desk)) (sym (enum-told-point .enum-told .given .1)) (c .rights-line .ensures sheet h)
+    λ sheet h. subst (λ (x : Due). Steps (step (a .number) x sheet (a .text .now)) (c .rights-line .result .taken)
+    (c .rights-line .result .desk)) (sym (enum-told-point .enum-told .given .1)) (c .rights-line .ensures sheet h)
 
 returns-2 : tie.Need-returns-2
 returns-2 c =
     let start : tie.Start = search in
     let enum-told2-point : tie.After-enum-told2 = search in
     let a = start .args in
-    λ sheet h. subst (λ (x : Due). Steps (step (a .number) x sheet (a .text .now)) (c .known-line .result .taken) (c .known-line .result .desk)) (sym (enum-told2-point .enum-told2 .given .1)) (c .known-line .ensures sheet h)
+    λ sheet h. subst (λ (x : Due).
+    Steps (step (a .number) x sheet (a .text .now)) (c .known-line .result .taken) (c .known-line .result .desk))
+    (sym (enum-told2-point .enum-told2 .given .1)) (c .known-line .ensures sheet h)
 
 returns-3 : tie.Need-returns-3
 returns-3 c =
     let start : tie.Start = search in
     let enum-told3-point : tie.After-enum-told3 = search in
     let a = start .args in
-    λ sheet h. subst (λ (x : Due). Steps (step (a .number) x sheet (a .text .now)) (c .make-line .result .taken) (c .make-line .result .desk)) (sym (enum-told3-point .enum-told3 .given .1)) (c .make-line .ensures sheet h)
+    λ sheet h. subst (λ (x : Due).
+    Steps (step (a .number) x sheet (a .text .now)) (c .make-line .result .taken) (c .make-line .result .desk))
+    (sym (enum-told3-point .enum-told3 .given .1)) (c .make-line .ensures sheet h)
 
 returns-4 : tie.Need-returns-4
 returns-4 c =
     let start : tie.Start = search in
     let enum-told4-point : tie.After-enum-told4 = search in
     let a = start .args in
-    λ sheet h. subst (λ (x : Due). Steps (step (a .number) x sheet (a .text .now)) (c .ask-line .result .taken) (c .ask-line .result .desk)) (sym (enum-told4-point .enum-told4 .given .1)) (c .ask-line .ensures sheet h)
+    λ sheet h. subst (λ (x : Due).
+    Steps (step (a .number) x sheet (a .text .now)) (c .ask-line .result .taken) (c .ask-line .result .desk))
+    (sym (enum-told4-point .enum-told4 .given .1)) (c .ask-line .ensures sheet h)
 
 pub later-line-spec : {M : Type 1} → statement M
 later-line-spec =

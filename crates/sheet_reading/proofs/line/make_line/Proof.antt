@@ -25,7 +25,9 @@ returns c =
     let begins-point : tie.After-begins = search in
     let yes1 : tie.Then1 = search in
     let a = start .args in
-    λ sheet h. faulty (Malformed (a .number)) (c .at-fault .result .desk) (make-other sheet (a .desk) h (a .line .now) (a .number) (sym (begins-point .begins .ensures) ∙ not-true _ (yes1 .if1 .taken))) (c .at-fault .ensures)
+    λ sheet h. faulty (Malformed (a .number)) (c .at-fault .result .desk)
+    (make-other sheet (a .desk) h (a .line .now) (a .number)
+    (sym (begins-point .begins .ensures) ∙ not-true _ (yes1 .if1 .taken))) (c .at-fault .ensures)
 
 sub-formula-line : tie.Need-sub-formula-line
 sub-formula-line c =
@@ -50,7 +52,9 @@ returns-2 c =
     let begins-point : tie.After-begins = search in
     let no1 : tie.Else1 = search in
     let a = start .args in
-    λ sheet h. make-read sheet (a .desk) h (a .line .now) (a .number) (c .formula-line .result .taken) (c .formula-line .result .desk) (sym (begins-point .begins .ensures) ∙ not-false _ (no1 .if1 .left)) (c .formula-line .ensures)
+    λ sheet h. make-read sheet (a .desk) h (a .line .now) (a .number) (c .formula-line .result .taken)
+    (c .formula-line .result .desk) (sym (begins-point .begins .ensures) ∙ not-false _ (no1 .if1 .left))
+    (c .formula-line .ensures)
 
 pub make-line-spec : {M : Type 1} → statement M
 make-line-spec =

@@ -32,7 +32,9 @@ returns c =
     let is-rule-point : tie.After-is-rule = search in
     let yes1 : tie.Then1 = search in
     let a = start .args in
-    λ sheet h. subst (λ (s : Step). Steps s (c .rule-line .result .taken) (c .rule-line .result .desk)) (sym (rights-of sheet (a .desk) h (a .line .now) (a .number) true _ (sym (is-rule-point .is-rule .ensures) ∙ yes1 .if1 .taken) refl)) (c .rule-line .ensures sheet h)
+    λ sheet h. subst (λ (s : Step). Steps s (c .rule-line .result .taken) (c .rule-line .result .desk))
+    (sym (rights-of sheet (a .desk) h (a .line .now) (a .number) true _
+    (sym (is-rule-point .is-rule .ensures) ∙ yes1 .if1 .taken) refl)) (c .rule-line .ensures sheet h)
 
 slice-aggregate-is-rule-2 : tie.Need-slice-aggregate-is-rule-2
 slice-aggregate-is-rule-2 c = search needs
@@ -58,7 +60,10 @@ returns-2 c =
     let is-rule2-point : tie.After-is-rule2 = search in
     let yes2 : tie.Then2 = search in
     let a = start .args in
-    λ sheet h. subst (λ (s : Step). Steps s (c .rule-line2 .result .taken) (c .rule-line2 .result .desk)) (sym (rights-of sheet (a .desk) h (a .line .now) (a .number) false true (sym (is-rule-point .is-rule .ensures) ∙ no1 .if1 .left) (sym (is-rule2-point .is-rule2 .ensures) ∙ yes2 .if2 .taken))) (c .rule-line2 .ensures sheet h)
+    λ sheet h. subst (λ (s : Step). Steps s (c .rule-line2 .result .taken) (c .rule-line2 .result .desk))
+    (sym (rights-of sheet (a .desk) h (a .line .now) (a .number) false true
+    (sym (is-rule-point .is-rule .ensures) ∙ no1 .if1 .left)
+    (sym (is-rule2-point .is-rule2 .ensures) ∙ yes2 .if2 .taken))) (c .rule-line2 .ensures sheet h)
 
 team-line-requires : tie.Need-team-line-requires
 team-line-requires c κs = search needs
@@ -71,7 +76,10 @@ returns-3 c =
     let is-rule2-point : tie.After-is-rule2 = search in
     let no2 : tie.Else2 = search in
     let a = start .args in
-    λ sheet h. subst (λ (s : Step). Steps s (c .team-line .result .taken) (c .team-line .result .desk)) (sym (rights-of sheet (a .desk) h (a .line .now) (a .number) false false (sym (is-rule-point .is-rule .ensures) ∙ no1 .if1 .left) (sym (is-rule2-point .is-rule2 .ensures) ∙ no2 .if2 .left))) (c .team-line .ensures sheet h)
+    λ sheet h. subst (λ (s : Step). Steps s (c .team-line .result .taken) (c .team-line .result .desk))
+    (sym (rights-of sheet (a .desk) h (a .line .now) (a .number) false false
+    (sym (is-rule-point .is-rule .ensures) ∙ no1 .if1 .left)
+    (sym (is-rule2-point .is-rule2 .ensures) ∙ no2 .if2 .left))) (c .team-line .ensures sheet h)
 
 pub rights-line-spec : {M : Type 1} → statement M
 rights-line-spec =

@@ -57,7 +57,9 @@ returns-2 c =
     let yes2 : tie.Then2 = search in
     let line = start .args .line .now in
     let is = is-size-point .is-size .ensures in
-    faulty SheetSettings (c .at-fault2 .result .desk) (size-large line (sym is ∙ not-false _ (no1 .if1 .left)) (subst (λ (x : ℕ). 5 < x) (digit-of line 5 (peek-point .peek .ensures)) (yes2 .if2 .taken))) (c .at-fault2 .ensures)
+    faulty SheetSettings (c .at-fault2 .result .desk)
+    (size-large line (sym is ∙ not-false _ (no1 .if1 .left))
+    (subst (λ (x : ℕ). 5 < x) (digit-of line 5 (peek-point .peek .ensures)) (yes2 .if2 .taken))) (c .at-fault2 .ensures)
 
 peek-requires-2 : tie.Need-peek-requires-2
 peek-requires-2 c κs = search needs
@@ -99,7 +101,8 @@ returns-3 c =
     let five = digit-of line 5 (n .ensures) in
     let seven = digit-of line 7 (peek2-point .peek2 .ensures) in
     taken (size-next line (sym is ∙ not-false _ (no1 .if1 .left)) (omega (arith, five, no2 .if2 .left)))
-    (subst (λ (x : ℕ). OnDesk (sized x (digitAt line 7)) (c .sized .result)) five (subst (λ (x : ℕ). OnDesk (sized (n .result - 48) x) (c .sized .result)) seven (c .sized .ensures)))
+    (subst (λ (x : ℕ). OnDesk (sized x (digitAt line 7)) (c .sized .result)) five
+    (subst (λ (x : ℕ). OnDesk (sized (n .result - 48) x) (c .sized .result)) seven (c .sized .ensures)))
 
 pub size-line-spec : {M : Type 1} → statement M
 size-line-spec =

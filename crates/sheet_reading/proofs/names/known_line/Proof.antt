@@ -32,7 +32,9 @@ returns c =
     let a = start .args in
     let n = names-line-point .names-line in
     let why = named-point .named .given in
-    λ sheet h. faulty (why .0 .0) (c .at-fault .result .desk) (known-not (a .number) sheet (a .desk) h (a .line .now) (n .result) (n .ensures) (why .0 .0) (why .1)) (c .at-fault .ensures)
+    λ sheet h. faulty (why .0 .0) (c .at-fault .result .desk)
+    (known-not (a .number) sheet (a .desk) h (a .line .now) (n .result) (n .ensures) (why .0 .0) (why .1))
+    (c .at-fault .ensures)
 
 returns-2 : tie.Need-returns-2
 returns-2 c =

@@ -32,7 +32,8 @@ returns-2 c =
     let a = start .args in
     let w = a .word .now in
     let line = a .line .now in
-    names-alone w (a .alone) (a .signed) (a .first) (a .count) line (sym (begins-point .begins .ensures) ∙ not-false _ (no1 .if1 .left)) (yes2 .if2 .taken) (yes3 .if3 .taken)
+    names-alone w (a .alone) (a .signed) (a .first) (a .count) line
+    (sym (begins-point .begins .ensures) ∙ not-false _ (no1 .if1 .left)) (yes2 .if2 .taken) (yes3 .if3 .taken)
 
 returns-3 : tie.Need-returns-3
 returns-3 c =
@@ -44,7 +45,8 @@ returns-3 c =
     let a = start .args in
     let w = a .word .now in
     let line = a .line .now in
-    names-unaccompanied w (a .alone) (a .signed) (a .first) (a .count) line (sym (begins-point .begins .ensures) ∙ not-false _ (no1 .if1 .left)) (yes2 .if2 .taken) (no3 .if3 .left)
+    names-unaccompanied w (a .alone) (a .signed) (a .first) (a .count) line
+    (sym (begins-point .begins .ensures) ∙ not-false _ (no1 .if1 .left)) (yes2 .if2 .taken) (no3 .if3 .left)
 
 peek-requires : tie.Need-peek-requires
 peek-requires c κs = search needs
@@ -60,7 +62,9 @@ returns-4 c =
     let a = start .args in
     let w = a .word .now in
     let line = a .line .now in
-    names-spaceless w (a .alone) (a .signed) (a .first) (a .count) line (sym (begins-point .begins .ensures) ∙ not-false _ (no1 .if1 .left)) (no2 .if2 .left) (λ e. yes4 .if4 .taken (peek-point .peek .ensures ∙ e))
+    names-spaceless w (a .alone) (a .signed) (a .first) (a .count) line
+    (sym (begins-point .begins .ensures) ∙ not-false _ (no1 .if1 .left)) (no2 .if2 .left)
+    (λ e. yes4 .if4 .taken (peek-point .peek .ensures ∙ e))
 
 add-from : tie.Need-add-from
 add-from c =
@@ -104,7 +108,9 @@ returns-5 c =
     let a = start .args in
     let w = a .word .now in
     let line = a .line .now in
-    names-some w (a .alone) (a .signed) (a .first) (a .count) line (sym (begins-point .begins .ensures) ∙ not-false _ (no1 .if1 .left)) (no2 .if2 .left) (sym (peek-point .peek .ensures) ∙ no4 .if4 .left) (start .pre) (c .marks-of .result) (c .marks-of .ensures)
+    names-some w (a .alone) (a .signed) (a .first) (a .count) line
+    (sym (begins-point .begins .ensures) ∙ not-false _ (no1 .if1 .left)) (no2 .if2 .left)
+    (sym (peek-point .peek .ensures) ∙ no4 .if4 .left) (start .pre) (c .marks-of .result) (c .marks-of .ensures)
 
 pub names-in-spec : {M : Type 1} → statement M
 names-in-spec =

@@ -53,7 +53,8 @@ array-read-if1 c =
     let p = peek-point .peek in
     let q = peek2-point .peek2 in
     let slot = slot-of-point .slot-of in
-    slot-fits (start .pre .0 .0) (a .desk) (start .pre .0 .1) (a .right) w line b (p .result - 97) (q .result - 49) (ap (λ (x : ℕ). x - 97) (p .ensures)) (ap (λ (x : ℕ). x - 49) (q .ensures)) (slot .result) (slot .ensures)
+    slot-fits (start .pre .0 .0) (a .desk) (start .pre .0 .1) (a .right) w line b (p .result - 97) (q .result - 49)
+    (ap (λ (x : ℕ). x - 97) (p .ensures)) (ap (λ (x : ℕ). x - 49) (q .ensures)) (slot .result) (slot .ensures)
 
 at-fault-requires : tie.Need-at-fault-requires
 at-fault-requires c κs = search needs
@@ -72,7 +73,10 @@ returns c =
     let p = peek-point .peek in
     let q = peek2-point .peek2 in
     let slot = slot-of-point .slot-of in
-    λ sheet h. faulty (Twice (a .number)) (c .at-fault .result .desk) (line-twice sheet (a .desk) h (a .right) w line b (p .result - 97) (q .result - 49) (ap (λ (x : ℕ). x - 97) (p .ensures)) (ap (λ (x : ℕ). x - 49) (q .ensures)) (slot .result) (slot .ensures) (a .number) (yes1 .if1 .taken)) (c .at-fault .ensures)
+    λ sheet h. faulty (Twice (a .number)) (c .at-fault .result .desk)
+    (line-twice sheet (a .desk) h (a .right) w line b (p .result - 97) (q .result - 49)
+    (ap (λ (x : ℕ). x - 97) (p .ensures)) (ap (λ (x : ℕ). x - 49) (q .ensures)) (slot .result) (slot .ensures)
+    (a .number) (yes1 .if1 .taken)) (c .at-fault .ensures)
 
 add-from : tie.Need-add-from
 add-from c = search needs
@@ -105,8 +109,12 @@ formula-line-requires c κs =
     let p = peek-point .peek in
     let q = peek2-point .peek2 in
     let slot = slot-of-point .slot-of in
-    let h = start .pre .0 in
-    (slot-fits (h .0) (a .desk) (h .1) (a .right) w line b (p .result - 97) (q .result - 49) (ap (λ (x : ℕ). x - 97) (p .ensures)) (ap (λ (x : ℕ). x - 49) (q .ensures)) (slot .result) (slot .ensures), h .1 .rules .rights-size, h .1 .rules .stated-size)
+    let h = start .pre .0 in (
+      slot-fits (h .0) (a .desk) (h .1) (a .right) w line b (p .result - 97) (q .result - 49)
+          (ap (λ (x : ℕ). x - 97) (p .ensures)) (ap (λ (x : ℕ). x - 49) (q .ensures)) (slot .result) (slot .ensures),
+      h .1 .rules .rights-size,
+      h .1 .rules .stated-size,
+    )
 
 returns-2 : tie.Need-returns-2
 returns-2 c =
@@ -122,7 +130,10 @@ returns-2 c =
     let p = peek-point .peek in
     let q = peek2-point .peek2 in
     let slot = slot-of-point .slot-of in
-    λ sheet h. line-read sheet (a .desk) h (a .right) w line b (p .result - 97) (q .result - 49) (ap (λ (x : ℕ). x - 97) (p .ensures)) (ap (λ (x : ℕ). x - 49) (q .ensures)) (slot .result) (slot .ensures) (a .number) (no1 .if1 .left) (c .formula-line .result .taken) (c .formula-line .result .desk) (c .formula-line .ensures)
+    λ sheet h. line-read sheet (a .desk) h (a .right) w line b (p .result - 97) (q .result - 49)
+    (ap (λ (x : ℕ). x - 97) (p .ensures)) (ap (λ (x : ℕ). x - 49) (q .ensures)) (slot .result) (slot .ensures)
+    (a .number) (no1 .if1 .left) (c .formula-line .result .taken) (c .formula-line .result .desk)
+    (c .formula-line .ensures)
 
 pub rule-line-spec : {M : Type 1} → statement M
 rule-line-spec =

@@ -14,13 +14,21 @@ sub-result : tie.Need-sub-result
 sub-result c = search needs
 
 returns : tie.Need-returns
-returns c = omega (arith, length-bare (c .before .before .before .before .args .word .now) (sym (c .before .before .is-false .ensures) ∙ c .before .if1 .taken))
+returns c =
+    let after-is-false : tie.After-is-false = search in
+    let start : tie.Start = search in
+    omega (arith, length-bare (start .args .word .now) (sym (after-is-false .is-false .ensures) ∙ c .before .if1 .taken))
 
 returns-2 : tie.Need-returns-2
-returns-2 c = sym (length-bare (c .before .before .before .before .args .word .now) (sym (c .before .before .is-false .ensures) ∙ c .before .if1 .taken))
+returns-2 c =
+    let after-is-false : tie.After-is-false = search in
+    let start : tie.Start = search in
+    sym (length-bare (start .args .word .now) (sym (after-is-false .is-false .ensures) ∙ c .before .if1 .taken))
 
 returns-3 : tie.Need-returns-3
-returns-3 c = sym (ap length (bare-true (c .before .before .before .args .word .now) (sym (c .before .is-false .ensures) ∙ c .if1 .left)))
+returns-3 c =
+    let start : tie.Start = search in
+    sym (ap length (bare-true (start .args .word .now) (sym (c .before .is-false .ensures) ∙ c .if1 .left)))
 
 pub bare-length-spec : {M : Type 1} → statement M
 bare-length-spec = tie.close (tie.spec is-false-requires sub-result returns returns-2 returns-3)

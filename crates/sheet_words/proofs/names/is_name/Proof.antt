@@ -15,13 +15,28 @@ either-requires : tie.Need-either-requires
 either-requires c κs = search needs
 
 returns : tie.Need-returns
-returns c = let a = c .before .before .before .before .args in sym (name-unsigned (a .signed) (a .first) (a .count) (a .word .now) (ap (λ (x : Bool). (a .signed) || not x) (sym (c .before .before .is-false .ensures)) ∙ sym (c .before .either .ensures) ∙ not-true _ (c .if1 .taken)))
+returns c =
+    let after-is-false : tie.After-is-false = search in
+    let start : tie.Start = search in
+    let a = start .args in
+    sym (name-unsigned (a .signed) (a .first) (a .count) (a .word .now)
+    (ap (λ (x : Bool). (a .signed) || not x) (sym (after-is-false .is-false .ensures))
+    ∙ sym (c .before .either .ensures) ∙ not-true _ (c .if1 .taken)))
 
 bare-length-requires : tie.Need-bare-length-requires
 bare-length-requires c κs = search needs
 
 returns-2 : tie.Need-returns-2
-returns-2 c = let a = c .before .before .before .before .before .before .args in sym (name-long (a .signed) (a .first) (a .count) (a .word .now) (ap (λ (x : Bool). (a .signed) || not x) (sym (c .before .before .before .before .is-false .ensures)) ∙ sym (c .before .before .before .either .ensures) ∙ not-false _ (c .before .before .if1 .left)) (λ e. c .if2 .taken (c .before .bare-length .ensures ∙ e)))
+returns-2 c =
+    let else1 : tie.Else1 = search in
+    let after-either : tie.After-either = search in
+    let after-is-false : tie.After-is-false = search in
+    let start : tie.Start = search in
+    let a = start .args in
+    sym (name-long (a .signed) (a .first) (a .count) (a .word .now)
+    (ap (λ (x : Bool). (a .signed) || not x) (sym (after-is-false .is-false .ensures))
+    ∙ sym (after-either .either .ensures) ∙ not-false _ (else1 .if1 .left))
+    (λ e. c .if2 .taken (c .before .bare-length .ensures ∙ e)))
 
 sign-of-requires : tie.Need-sign-of-requires
 sign-of-requires c κs = search needs
@@ -30,7 +45,19 @@ among-requires : tie.Need-among-requires
 among-requires c κs = search needs
 
 returns-3 : tie.Need-returns-3
-returns-3 c = let a = c .before .before .before .before .before .before .before .before .args in c .among .ensures ∙ ap (among (a .first) (a .count)) (c .before .sign-of .ensures) ∙ sym (name-sign (a .signed) (a .first) (a .count) (a .word .now) (ap (λ (x : Bool). (a .signed) || not x) (sym (c .before .before .before .before .before .before .is-false .ensures)) ∙ sym (c .before .before .before .before .before .either .ensures) ∙ not-false _ (c .before .before .before .before .if1 .left)) (sym (c .before .before .before .bare-length .ensures) ∙ c .before .before .if2 .left))
+returns-3 c =
+    let else2 : tie.Else2 = search in
+    let after-bare-length : tie.After-bare-length = search in
+    let else1 : tie.Else1 = search in
+    let after-either : tie.After-either = search in
+    let after-is-false : tie.After-is-false = search in
+    let start : tie.Start = search in
+    let a = start .args in
+    c .among .ensures ∙ ap (among (a .first) (a .count)) (c .before .sign-of .ensures)
+    ∙ sym (name-sign (a .signed) (a .first) (a .count) (a .word .now)
+    (ap (λ (x : Bool). (a .signed) || not x) (sym (after-is-false .is-false .ensures))
+    ∙ sym (after-either .either .ensures) ∙ not-false _ (else1 .if1 .left))
+    (sym (after-bare-length .bare-length .ensures) ∙ else2 .if2 .left))
 
 pub is-name-spec : {M : Type 1} → statement M
 is-name-spec =

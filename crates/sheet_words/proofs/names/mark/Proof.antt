@@ -18,11 +18,15 @@ either-requires : tie.Need-either-requires
 either-requires c κs = search needs
 
 returns : tie.Need-returns
-returns c = record {
-  named = c .before .before .before .with-bit .ensures;
-  values = c .before .before .with-value .ensures;
-  again = c .either .ensures ∙ ap (λ (x : Bool). (c .before .before .before .before .args .marks .twice) || x) (c .before .bit-of .ensures);
-}
+returns c =
+    let after-with-value : tie.After-with-value = search in
+    let after-with-bit : tie.After-with-bit = search in
+    let start : tie.Start = search in
+    record {
+      named = after-with-bit .with-bit .ensures;
+      values = after-with-value .with-value .ensures;
+      again = c .either .ensures ∙ ap (λ (x : Bool). (start .args .marks .twice) || x) (c .before .bit-of .ensures);
+    }
 
 pub mark-spec : {M : Type 1} → statement M
 mark-spec =

@@ -18,10 +18,18 @@ peek-requires-2 : tie.Need-peek-requires-2
 peek-requires-2 c κs = search needs
 
 returns : tie.Need-returns
-returns c = c .peek .ensures ∙ sym (sign-false (c .before .before .before .before .args .word .now) (sym (c .before .before .is-false .ensures) ∙ c .before .if1 .taken))
+returns c =
+    let after-is-false : tie.After-is-false = search in
+    let start : tie.Start = search in
+    c .peek .ensures ∙ sym (sign-false (start .args .word .now) (sym (after-is-false .is-false .ensures) ∙ c .before .if1 .taken))
 
 returns-2 : tie.Need-returns-2
-returns-2 c = c .peek2 .ensures ∙ sym (ap (λ (t : List ℕ). getD t 0 0) (bare-true (c .before .before .before .before .args .word .now) (sym (c .before .before .is-false .ensures) ∙ c .before .if1 .left)))
+returns-2 c =
+    let after-is-false : tie.After-is-false = search in
+    let start : tie.Start = search in
+    c .peek2 .ensures
+    ∙ sym (ap (λ (t : List ℕ). getD t 0 0)
+    (bare-true (start .args .word .now) (sym (after-is-false .is-false .ensures) ∙ c .before .if1 .left)))
 
 pub sign-of-spec : {M : Type 1} → statement M
 sign-of-spec =

@@ -21,15 +21,21 @@ byte-of-requires-3 c κs = search needs
 
 returns : tie.Need-returns
 unfolding planByte byteOf
-returns c = rw (c .before .before .before .self .given .1, c .before .if1 .taken) (c .byte-of .ensures)
+returns c =
+    let after-self : tie.After-self = search in
+    rw (after-self .self .given .1, c .before .if1 .taken) (c .byte-of .ensures)
 
 returns-2 : tie.Need-returns-2
 unfolding planByte byteOf
-returns-2 c = rw (c .before .before .before .self .given .1, c .before .if1 .left) (c .byte-of2 .ensures)
+returns-2 c =
+    let after-self : tie.After-self = search in
+    rw (after-self .self .given .1, c .before .if1 .left) (c .byte-of2 .ensures)
 
 returns-3 : tie.Need-returns-3
 unfolding planByte byteOf
-returns-3 c = rw (c .before .before .self2 .given .1) (c .byte-of3 .ensures)
+returns-3 c =
+    let after-self2 : tie.After-self2 = search in
+    rw (after-self2 .self2 .given .1) (c .byte-of3 .ensures)
 
 pub byte-spec : {M : Type 1} → statement M
 byte-spec =

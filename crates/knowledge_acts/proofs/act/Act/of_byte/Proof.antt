@@ -15,7 +15,8 @@ returns c = rw (c .if1 .taken)
 returns-2 : tie.Need-returns-2
 unfolding actOf
 returns-2 c =
-    rw (lt-ltb 0 (c .before .before .args .byte) (omega (arith, c .if2 .taken)), lt-leb _ 168 (c .if2 .taken))
+    let start : tie.Start = search in
+    rw (lt-ltb 0 (start .args .byte) (omega (arith, c .if2 .taken)), lt-leb _ 168 (c .if2 .taken))
 
 sub-place : tie.Need-sub-place
 sub-place c = search needs
@@ -26,7 +27,8 @@ of-kind-requires c κs = search needs
 returns-3 : tie.Need-returns-3
 unfolding actOf
 returns-3 c =
-    rw (lt-ltb 0 (c .before .before .before .args .byte) (omega arith), le-leb _ 168 (c .before .if2 .left)) (ap One (c .of-kind .ensures))
+    let start : tie.Start = search in
+    rw (lt-ltb 0 (start .args .byte) (omega arith), le-leb _ 168 (c .before .if2 .left)) (ap One (c .of-kind .ensures))
 
 pub of-byte-spec : {M : Type 1} → statement M
 of-byte-spec = tie.close (tie.spec returns returns-2 sub-place of-kind-requires returns-3)

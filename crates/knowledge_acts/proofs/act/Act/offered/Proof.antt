@@ -18,11 +18,15 @@ offers-requires-2 c κs = search needs
 
 returns : tie.Need-returns
 unfolding offered
-returns c = rw (c .before .before .self .given .1) (c .offers .ensures)
+returns c =
+    let after-self : tie.After-self = search in
+    rw (after-self .self .given .1) (c .offers .ensures)
 
 returns-2 : tie.Need-returns-2
 unfolding offered
-returns-2 c = rw (c .before .before .self2 .given .1) (c .offers2 .ensures)
+returns-2 c =
+    let after-self2 : tie.After-self2 = search in
+    rw (after-self2 .self2 .given .1) (c .offers2 .ensures)
 
 pub offered-spec : {M : Type 1} → statement M
 offered-spec =

@@ -16,10 +16,14 @@ finds-requires-2 : tie.Need-finds-requires-2
 finds-requires-2 c κs = search needs
 
 returns : tie.Need-returns
-returns c = rw (c .before .before .self .given .1) (c .finds .ensures)
+returns c =
+    let after-self : tie.After-self = search in
+    rw (after-self .self .given .1) (c .finds .ensures)
 
 returns-2 : tie.Need-returns-2
-returns-2 c = rw (c .before .before .self2 .given .1) (c .finds2 .ensures)
+returns-2 c =
+    let after-self2 : tie.After-self2 = search in
+    rw (after-self2 .self2 .given .1) (c .finds2 .ensures)
 
 pub finds-spec : {M : Type 1} → statement M
 finds-spec =

@@ -24,10 +24,14 @@ now-side-requires : tie.Need-now-side-requires
 now-side-requires c κs = search needs
 
 returns : tie.Need-returns
-returns c = rw (c .before .before .enum-told .given .1) (c .start-side .ensures ∙ ap startTold (c .before .digit .ensures))
+returns c =
+    let after-enum-told : tie.After-enum-told = search in
+    rw (after-enum-told .enum-told .given .1) (c .start-side .ensures ∙ ap startTold (c .before .digit .ensures))
 
 returns-2 : tie.Need-returns-2
-returns-2 c = rw (c .before .before .enum-told2 .given .1) (c .now-side .ensures ∙ ap nowTold (c .before .digit2 .ensures))
+returns-2 c =
+    let after-enum-told2 : tie.After-enum-told2 = search in
+    rw (after-enum-told2 .enum-told2 .given .1) (c .now-side .ensures ∙ ap nowTold (c .before .digit2 .ensures))
 
 pub told-spec : {M : Type 1} → statement M
 told-spec =
