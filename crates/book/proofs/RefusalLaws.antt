@@ -16,7 +16,7 @@ use Rattle.refusal.proofs.OrderLaws.{first-when, first-lowest, first-past, firs
 use Rattle.book_block.specs.Kinds.{Tables}
 use Rattle.book_block.proofs.BlockLaws.{tables-same}
 use Rattle.book_sound.specs.Sound.{Sound, tablesOf}
-use Rattle.book_sound.specs.Refusals.{bookRows}
+use Rattle.book_sound.specs.Rows.{bookRows}
 use Rattle.book_sound.proofs.BlockRows.{least-block, none-block, down}
 use Rattle.book_sound.proofs.SoundLaws.{sound-settings, sound-clear}
 use Rattle.book.specs.Rows.{readRows, writeRows}

@@ -23,7 +23,7 @@ use Rattle.ground.proofs.Bools.{lt-or-ge}
 use Rattle.book.specs.Rows.{readRows, writeRows}
 use Rattle.book.specs.Promise.{ReadsBook, WritesBook}
 use Rattle.book_sound.proofs.RightsLaws.{length-rights}
-use Rattle.book_sound.specs.Refusals.{bookRows}
+use Rattle.book_sound.specs.Rows.{bookRows}
 use Rattle.book_sound.proofs.Theorems.{sound-one, book-places}
 use Rattle.book.proofs.RefusalLaws.{read-clear}
 use Rattle.book.proofs.WriteLaws.{length-book}

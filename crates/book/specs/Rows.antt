@@ -8,7 +8,7 @@ use Rattle.refusal.specs.declared.Refusal.the-variants.{Settings, BookLength, H
 use Rattle.refusal.specs.Order.{Row, when, lowest}
 use Rattle.book_block.specs.Kinds.{Tables}
 use Rattle.book_sound.specs.Sound.{tablesOf}
-use Rattle.book_sound.specs.Refusals.{settingsOf, bookRows}
+use Rattle.book_sound.specs.Rows.{settingsOf, bookRows}
 
 -- "Book reading: 6, 7 (lowest block), 8, 9 (lowest), 15."
 unfoldable pub readRows : List ℕ → List ℕ → List Row

@@ -6,7 +6,7 @@ use native.Mathlib.Omega.{arith}
 use lib.Dec.{lit<}
 use lib.ListN.{length, getD}
 use Rattle.book_block.specs.Kinds.{Zeros}
-use Rattle.book_sound.specs.Refusals.{blocks, Whole, settingsOf, postsOf, RightHead}
+use Rattle.book_sound.specs.Rows.{blocks, Whole, settingsOf, postsOf, RightHead}
 use Rattle.book_block.specs.Check.{block}
 use Rattle.book_block.proofs.CheckLaws.{block-byte}
 

@@ -11,7 +11,7 @@ use Rattle.refusal.specs.Order.{First}
 use Rattle.refusal.proofs.OrderLaws.{first-when, first-lowest, first-past, first-later-lowest}
 use Rattle.book_block.specs.Check.{block, RightCheck}
 use Rattle.book_block.specs.Kinds.{SettingBlock}
-use Rattle.book_sound.specs.Refusals.{blocks, Whole, settingsOf, postsOf, RightHead, bookRows}
+use Rattle.book_sound.specs.Rows.{blocks, Whole, settingsOf, postsOf, RightHead, bookRows}
 use Rattle.book_sound.specs.Sound.{Sound}
 use Rattle.book_sound.proofs.BookLaws.{whole-length, first-byte, head-settings}
 use Rattle.book_sound.proofs.BlockRows.{least-block}

@@ -10,7 +10,7 @@ use Rattle.book_block.specs.Check.{block}
 use Rattle.book_block.specs.Kinds.{SettingBlock}
 use Rattle.book_sound.specs.declared.ReadAnswer.{ReadAnswer}
 use Rattle.book_sound.specs.declared.ReadAnswer.the-variants.{Book, Refused}
-use Rattle.book_sound.specs.Refusals.{blocks, Whole, settingsOf, postsOf, RightHead, bookRows}
+use Rattle.book_sound.specs.Rows.{blocks, Whole, settingsOf, postsOf, RightHead, bookRows}
 use Rattle.book_sound.specs.Sound.{Sound}
 use Rattle.book_sound.specs.Promise.{Judges}
 use Rattle.book_sound.proofs.BlockRows.{none-block}

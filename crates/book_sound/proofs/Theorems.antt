@@ -14,7 +14,7 @@ use Rattle.refusal.proofs.OrderLaws.{first-unique, first-clear, when-never, Pla
 use Rattle.book_sound.specs.declared.ReadAnswer.{ReadAnswer}
 use Rattle.book_sound.specs.declared.ReadAnswer.the-variants.{Book, Refused}
 use Rattle.book_sound.specs.Sound.{Sound}
-use Rattle.book_sound.specs.Refusals.{blocks, Whole, settingsOf, bookRows}
+use Rattle.book_sound.specs.Rows.{blocks, Whole, settingsOf, bookRows}
 use Rattle.book_sound.specs.Promise.{Judges}
 use Rattle.book_sound.proofs.SoundLaws.{sound-settings, sound-posts, sound-clear}
 

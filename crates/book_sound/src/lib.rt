@@ -16,7 +16,7 @@ ghost use Rattle.ground.specs.Tells.{Tells};
 ghost use Rattle.ground.specs.Search.{Lowest};
 ghost use Rattle.book_block.specs.Check.{block, RightCheck};
 ghost use Rattle.book_block.specs.Kinds.{SettingBlock};
-ghost use Rattle.book_sound.specs.Refusals.{Whole, RightHead};
+ghost use Rattle.book_sound.specs.Rows.{Whole, RightHead};
 ghost use Rattle.book_sound.specs.Promise.{Judges};
 
 // The fewest and most blocks of a book: the head and 1 to 7 settings.

@@ -46,7 +46,7 @@ use Rattle.print_answer.specs.Printed.{refusedText, cannotText, reachText, Prin
 use Rattle.sheet_reading.specs.Sheet.{Sheet}
 use Rattle.sheet_reading.specs.Reading.{Meaning, sheetMeaning, refused, stated}
 use Rattle.sheet_reading.specs.Place.{MalformedAt}
-use Rattle.sheet_reading.proofs.Place.{malformed-line, malformed-refused}
+use Rattle.sheet_reading.proofs.Place.{malformed-numbered, malformed-refused}
 use Rattle.sheet.specs.Answer.{sheetBook, PrintsMeaning, AnswersSheet, SheetAsks}
 use Rattle.sheet.proofs.Theorems.{answer-unique, answer-most, reach-printed, cannot-printed}
 use Rattle.sheet.proofs.Theorems as Printed
@@ -107,8 +107,8 @@ refused-plan book q goal plan r x = x
 pub refused-sheet : (s old : List ℕ) (r : ℕ) (new : List ℕ) (w : Refusal) (L : ℕ) → sheetMeaning s ≡ refused w L → AnswersSheet s old r new → Prints old (refusedText (number w) L) r new
 refused-sheet s old r new w L m a = subst (λ (o : Meaning). PrintsMeaning o old r new) m a
 
-pub malformed : (s : List ℕ) (L : ℕ) → sheetMeaning s ≡ refused (Malformed L) L → MalformedAt s L
-malformed = malformed-line
+pub malformed : (s : List ℕ) (w : Refusal) (L : ℕ) → sheetMeaning s ≡ refused w L → number w ≡ 22 → MalformedAt s L
+malformed = malformed-numbered
 
 pub malformed-where : (s : List ℕ) (L : ℕ) → MalformedAt s L
     → (sheetMeaning s ≡ refused (Malformed L) L) ⊎ ((w : Refusal) × (p : ℕ) × (sheetMeaning s ≡ refused w p) × (number w ≡ 22 → ⊥) × (p < L))

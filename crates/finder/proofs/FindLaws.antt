@@ -8,7 +8,7 @@ use Rattle.refusal.specs.declared.Refusal.{Refusal}
 use Rattle.refusal.specs.declared.Refusal.the-variants.{RankRoom}
 use Rattle.refusal.specs.Order.{when, First, Clear}
 use Rattle.refusal.proofs.OrderLaws.{first-left, first-right, first-when, clear-append, clear-when, clear-none}
-use Rattle.book_sound.specs.Refusals.{settingsOf}
+use Rattle.book_sound.specs.Rows.{settingsOf}
 use Rattle.book_sound.proofs.SoundLaws.{sound-settings}
 use Rattle.knowledge.specs.Goal.{Goal}
 use Rattle.question.specs.Rows.{questionRows}

@@ -10,7 +10,7 @@ use Rattle.refusal.specs.declared.Refusal.the-variants.{RankRoom}
 use Rattle.refusal.specs.Refusals.{place}
 use Rattle.refusal.specs.Order.{when, First}
 use Rattle.refusal.proofs.OrderLaws.{PlacesBelow, places-append, first-place-below}
-use Rattle.book_sound.specs.Refusals.{settingsOf}
+use Rattle.book_sound.specs.Rows.{settingsOf}
 use Rattle.knowledge.specs.Goal.{Goal}
 use Rattle.plan.specs.Plans.{System, height}
 use Rattle.plan.proofs.Ranks.{rank-small}

@@ -7,7 +7,7 @@ use lib.ListN.{length, getD}
 use Rattle.refusal.specs.declared.Refusal.{Refusal}
 use Rattle.refusal.specs.declared.Refusal.the-variants.{RankRoom}
 use Rattle.refusal.specs.Order.{Row, when, First}
-use Rattle.book_sound.specs.Refusals.{settingsOf}
+use Rattle.book_sound.specs.Rows.{settingsOf}
 use Rattle.knowledge.specs.Goal.{Goal}
 use Rattle.plan.specs.Plans.{System}
 use Rattle.plan.specs.Ranks.{IsRank}

@@ -23,7 +23,7 @@ pub enum Answer {
 
 // The answer at the start, by the ranks; a plan is written only where it fits. For this crate alone: the
 // tables tell some system, and its ranks are filled in.
-pub fn from_start(
+pub(crate) fn from_start(
     n: u8,
     set: &[[u8; SIDES]; SETTINGS_MOST],
     look: &[[u8; SIDES]; SETTINGS_MOST],

@@ -46,7 +46,7 @@ fn lowest(posts: u8) -> u8
 }
 
 // The knowledge number after a set. For this crate alone: k has at most seven digits.
-pub fn set_to(k: u32, setting: u8, value: bool) -> u32
+pub(crate) fn set_to(k: u32, setting: u8, value: bool) -> u32
     requires { ⌜ (k < 7 ^ 7) × (setting < 7) ⌝ }
     ensures { λ r. ⌜ r ≡ setTo k setting value ⌝ }
 {
@@ -54,7 +54,7 @@ pub fn set_to(k: u32, setting: u8, value: bool) -> u32
 }
 
 // The knowledge number after a look that saw the value. For this crate alone, as above.
-pub fn look_at(k: u32, setting: u8, value: bool) -> u32
+pub(crate) fn look_at(k: u32, setting: u8, value: bool) -> u32
     requires { ⌜ (k < 7 ^ 7) × (setting < 7) ⌝ }
     ensures { λ r. ⌜ r ≡ lookAt k setting value ⌝ }
 {
@@ -155,7 +155,7 @@ fn step_of(
 
 // The step that the plan written takes at the state k. For this crate alone: k is a state of n settings,
 // and the rank table holds them all.
-pub fn choose(
+pub(crate) fn choose(
     n: u8,
     set: &[[u8; SIDES]; SETTINGS_MOST],
     look: &[[u8; SIDES]; SETTINGS_MOST],

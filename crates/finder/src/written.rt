@@ -17,7 +17,7 @@ ghost use Rattle.plan.specs.Bytes.{encode};
 ghost use Rattle.finder.specs.Tables.{TablesTell, Ranked, PlanFits};
 
 // How many bytes the plan written from k has. For this crate alone: k has a rank below 255.
-pub fn length(
+pub(crate) fn length(
     n: u8,
     set: &[[u8; SIDES]; SETTINGS_MOST],
     look: &[[u8; SIDES]; SETTINGS_MOST],
@@ -46,7 +46,7 @@ pub fn length(
 
 // Writes the plan from k into the room at `at`, and gives the place after it. For this crate alone: k has
 // a rank below 255, and the plan fits.
-pub fn write(
+pub(crate) fn write(
     n: u8,
     set: &[[u8; SIDES]; SETTINGS_MOST],
     look: &[[u8; SIDES]; SETTINGS_MOST],

@@ -11,7 +11,7 @@ ghost use Rattle.finder_ranks.specs.Apart.{Apart};
 // What a digit tells of the present value: 0 unknown, 1 false, 2 true, as `knowledge_acts::now_side` has
 // it for any byte. The seven answers are packed into one number, so that no branch is taken: this is asked
 // for every setting of every state that is marked or pushed from. For this crate alone.
-pub fn now_of(digit: u8) -> usize
+pub(crate) fn now_of(digit: u8) -> usize
     requires { ⌜ digit < 7 ⌝ }
     ensures { λ r. ⌜ r ≡ nowTold digit ⌝ }
 {
@@ -19,7 +19,7 @@ pub fn now_of(digit: u8) -> usize
 }
 
 // What a digit tells of the value at the start, packed likewise. For this crate alone.
-pub fn start_of(digit: u8) -> usize
+pub(crate) fn start_of(digit: u8) -> usize
     requires { ⌜ digit < 7 ⌝ }
     ensures { λ r. ⌜ r ≡ startTold digit ⌝ }
 {
@@ -35,7 +35,7 @@ pub struct Parts {
 
 // Takes the state k of n settings apart, once for all settings; of a number with more digits, the lowest
 // n. For this crate alone.
-pub fn take_apart(n: usize, k: u32) -> Parts
+pub(crate) fn take_apart(n: usize, k: u32) -> Parts
     requires { ⌜ n ≤ 7 ⌝ }
     ensures { λ r. ⌜ Apart n k (r .now) (r .start) (r .digits) ⌝ }
 {

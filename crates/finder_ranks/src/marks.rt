@@ -42,7 +42,7 @@ fn mark_seven(n: u8, rest: usize, made: &[u8; SIDES], learnt: &[u8; SIDES], rank
 
 // Marks each of the 7^n knowledge numbers: 0 where the goal is settled, else NONE. All later bytes stay as
 // they were. For this crate alone.
-pub fn mark(n: u8, made: &[u8; SIDES], learnt: &[u8; SIDES], ranks: &mut [u8])
+pub(crate) fn mark(n: u8, made: &[u8; SIDES], learnt: &[u8; SIDES], ranks: &mut [u8])
     requires { ⌜ (0 < n) × (n ≤ 7) × (7 ^ n ≤ length (now ranks)) ⌝ }
     ensures { λ r. ⌜ Marks n (now (made .entry)) (now (learnt .entry)) (now (ranks .entry)) (now (ranks .exit)) ⌝ }
 {

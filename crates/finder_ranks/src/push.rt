@@ -148,7 +148,7 @@ fn spot_of(n: usize, k: usize, side: usize, i: usize, d: u8, seven: usize, three
 }
 
 // Pushes from the state k along setting i, where k has the digit d. For this crate alone.
-pub fn push(
+pub(crate) fn push(
     n: usize,
     k: usize,
     side: usize,

@@ -8,7 +8,7 @@ ghost use Rattle.finder_ranks.specs.Spread.{Ready, Spread};
 
 // Spreads from the marks: `ranks` comes with 0 where the goal is settled and with NONE elsewhere. Round h
 // pushes from the states of rank h - 1 to those before them. For this crate alone.
-pub fn spread(
+pub(crate) fn spread(
     n: u8,
     set: &[[u8; SIDES]; SETTINGS_MOST],
     look: &[[u8; SIDES]; SETTINGS_MOST],

@@ -90,7 +90,7 @@ fn found_at(bytes: &[u8], judged: Judged, v: u8) -> u8
 }
 
 // The columns of all valuations of up to seven settings. For this crate alone.
-pub fn columns_of(bytes: &[u8], judged: Judged, n: u8) -> [u8; VALUATIONS]
+pub(crate) fn columns_of(bytes: &[u8], judged: Judged, n: u8) -> [u8; VALUATIONS]
     requires { ⌜ n ≤ 7 ⌝ }
     ensures { λ r. ⌜ EachColumn (FoundAt (now (bytes .entry)) judged) (2 ^ n) r ⌝ }
 {

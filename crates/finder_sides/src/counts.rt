@@ -18,7 +18,7 @@ pub fn up_to_seven(n: u8) -> u8
 }
 
 // The sides of up to seven settings. For this crate alone.
-pub fn sides(n: u8) -> usize
+pub(crate) fn sides(n: u8) -> usize
     requires { ⌜ n ≤ 7 ⌝ }
     ensures { λ r. ⌜ r ≡ 3 ^ n ⌝ }
 {

@@ -23,7 +23,7 @@ fn entry_of(n: u8, columns: &[u8; VALUATIONS], table: &[u8; SIDES], side: usize)
 }
 
 // The table over all sides, in one pass from the highest side down. For this crate alone.
-pub fn fill(n: u8, columns: &[u8; VALUATIONS]) -> [u8; SIDES]
+pub(crate) fn fill(n: u8, columns: &[u8; VALUATIONS]) -> [u8; SIDES]
     requires { ⌜ n ≤ 7 ⌝ }
     ensures { λ r. ⌜ Filled n (now (columns .entry)) r ⌝ }
 {

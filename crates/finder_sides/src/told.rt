@@ -11,7 +11,7 @@ pub enum SideTold {
 }
 
 // What the side tells of the n settings. For this crate alone: it is one of the 3^n sides.
-pub fn told_by(n: u8, side: usize) -> SideTold
+pub(crate) fn told_by(n: u8, side: usize) -> SideTold
     requires { ⌜ (n ≤ 7) × (side < 3 ^ n) ⌝ }
     ensures { λ r. ⌜ SideTells n side r ⌝ }
 {

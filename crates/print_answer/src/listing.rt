@@ -79,7 +79,7 @@ fn act_line(depth: u64, act: Act, out: &mut [u8], to: usize) -> usize
 
 // The lines of the plan whose bytes begin at `at`, each depth counted from this one: such a plan is there,
 // and places stay below 2^64. It is as deep as the plan.
-pub fn lines(plan: &[u8], at: usize, depth: u64, out: &mut [u8], to: usize) -> Next
+pub(crate) fn lines(plan: &[u8], at: usize, depth: u64, out: &mut [u8], to: usize) -> Next
     requires { ⌜ Readable (now plan) at depth to ⌝ }
     ensures { λ r. ⌜ Lines (now (plan .entry)) at depth (now (out .entry)) to r (now (out .exit)) ⌝ }
 {

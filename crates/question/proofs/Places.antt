@@ -6,7 +6,7 @@ use Rattle.refusal.specs.declared.Refusal.{Refusal}
 use Rattle.refusal.specs.Refusals.{place}
 use Rattle.refusal.specs.Order.{First}
 use Rattle.refusal.proofs.OrderLaws.{PlacesBelow, first-place-below, places-append}
-use Rattle.book_sound.specs.Refusals.{bookRows}
+use Rattle.book_sound.specs.Rows.{bookRows}
 use Rattle.book_sound.proofs.Theorems.{book-places}
 use Rattle.knowledge.specs.Goal.{Goal}
 use Rattle.question.specs.Rows.{questionRows}

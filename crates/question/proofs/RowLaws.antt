@@ -7,7 +7,7 @@ use Rattle.refusal.specs.declared.Refusal.the-variants.{Team, Known, Goal as Wr
 use Rattle.refusal.specs.Order.{Row, when, First, Clear}
 use Rattle.refusal.proofs.OrderLaws.{first-when, first-past, first-left, first-right, clear-append, clear-past, clear-none}
 use Rattle.book_sound.specs.Sound.{Sound}
-use Rattle.book_sound.specs.Refusals.{settingsOf, postsOf, bookRows}
+use Rattle.book_sound.specs.Rows.{settingsOf, postsOf, bookRows}
 use Rattle.book_sound.proofs.SoundLaws.{sound-settings, sound-posts, sound-clear}
 use Rattle.knowledge.specs.Goal.{Goal}
 use Rattle.question.specs.Rows.{TeamFits, KnownFits, GoalFits, questionRows}

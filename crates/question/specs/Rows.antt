@@ -9,7 +9,7 @@ use Rattle.ground.specs.Digits.{bit}
 use Rattle.ground.specs.Table.{Within}
 use Rattle.refusal.specs.declared.Refusal.the-variants.{Team, Known, Goal as WrongGoal}
 use Rattle.refusal.specs.Order.{Row, when}
-use Rattle.book_sound.specs.Refusals.{settingsOf, postsOf, bookRows}
+use Rattle.book_sound.specs.Rows.{settingsOf, postsOf, bookRows}
 use Rattle.knowledge.specs.Goal.{Goal, learnCount, learnTable}
 use Rattle.question.specs.declared.Question.{Question}
 

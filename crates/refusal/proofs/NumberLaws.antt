@@ -1,10 +1,9 @@
--- A refusal is known by its numbers, and they are small: for those who pack them. The refusals are listed in the order of their numbers, so that the number
--- finds the refusal again.
+-- A refusal is known by its numbers, and they are small: for those who pack them. The number finds the refusal again in the list of all.
 use mathlib.Core.Path.{_≡_, refl, sym, ap, _∙_}
 use mathlib.Core.List.{List, [], _∷_}
-use Prim.Native.Nat.{ℕ, _-_, _<_}
-use lib.Dec.{T, ltb, ltb→lt}
-use lib.ListN.{getD}
+use Prim.Native.Nat.{ℕ, _<_}
+use lib.Dec.{T, eqb, ltb, ltb→lt}
+use mathlib.Core.Bool.{cond}
 use Rattle.refusal.specs.declared.Refusal.{Refusal}
 use Rattle.refusal.specs.declared.Refusal.the-variants.{FormulaLength, StrayByte, LetterPast, NotSentence, Settings, BookLength, Check, Head}
 use Rattle.refusal.specs.declared.Refusal.the-variants.{StrayBit, Team, Known, Goal, RankRoom, PlanRoom, Room, PlanLength, NoAct, NotPermitted}
@@ -42,13 +41,18 @@ every i =
     ∷ SheetSettings
     ∷ []
 
+-- the first of some refusals with this number
+unfoldable pub numbered-so : ℕ → List Refusal → Refusal
+numbered-so x [] = FormulaLength
+numbered-so x (r ∷ rs) = cond (eqb (number r) x) r (numbered-so x rs)
+
 -- the refusal with these numbers
 unfoldable pub named : Numbers → Refusal
-named x = getD (every (x .place)) (x .number - 1) FormulaLength
+named x = numbered-so (x .number) (every (x .place))
 
 -- of each refusal: its numbers name it, its number is not 0, and neither its number nor its second number is past a byte
 each : (r : Refusal) → (named (numbers r) ≡ r) × T (ltb 0 (number r)) × T (ltb (number r) 256) × T (ltb (second r) 256)
-unfolding named every
+unfolding named numbered-so every
 each FormulaLength = (refl, tt, tt, tt)
 each (StrayByte i) = (refl, tt, tt, tt)
 each (LetterPast i) = (refl, tt, tt, tt)

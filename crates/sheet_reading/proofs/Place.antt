@@ -113,6 +113,16 @@ formed-before : {s : List ℕ} {L : ℕ} → MalformedAt s L → (K : ℕ) → K
 formed-before {s} (at-line {L = L} a) K l b = elim (lt-or-ge K L) [ inl h ↦ h | inr h ↦ absurd (a .here .1 (fewer-lines s L K h b)) ]
 formed-before (at-end f g) K l b = l
 
+-- a refusal with the number 22 names its own line
+pub malformed-only : (s : List ℕ) (r : Refusal) (L : ℕ) → sheetMeaning s ≡ refused r L → number r ≡ 22 → r ≡ Malformed L
+malformed-only s r L e z = elim (refusal s r L e) [
+  | inl k ↦ absurd (omega (arith, z, ap number (k .0)))
+  | inr a ↦ elim (a .formed) [ inl is ↦ is | inr form ↦ absurd (form .0 z) ]
+]
+
+pub malformed-numbered : (s : List ℕ) (r : Refusal) (L : ℕ) → sheetMeaning s ≡ refused r L → number r ≡ 22 → MalformedAt s L
+malformed-numbered s r L e z = malformed-line s L (e ∙ ap (λ (x : Refusal). refused x L) (malformed-only s r L e z))
+
 pub malformed-refused : (s : List ℕ) (L : ℕ) → MalformedAt s L
     → (sheetMeaning s ≡ refused (Malformed L) L) ⊎ ((r : Refusal) × (p : ℕ) × (sheetMeaning s ≡ refused r p) × (number r ≡ 22 → ⊥) × (p < L))
 unfolding firstLines allEnded

@@ -71,7 +71,7 @@ pub struct Turn {
 }
 
 // A desk on which only the size is stated, one that the program takes.
-pub fn sized(settings: u8, posts: u8) -> Desk
+pub(crate) fn sized(settings: u8, posts: u8) -> Desk
     requires { ⌜ (1 ≤ settings) × (settings ≤ 5) × (1 ≤ posts) × (posts ≤ 8) ⌝ }
     ensures { λ r. ⌜ OnDesk (sized settings posts) r ⌝ }
 {

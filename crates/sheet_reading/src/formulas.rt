@@ -102,7 +102,7 @@ fn placed(desk: Desk, place: Place, table: [u8; TABLE]) -> Turn
 
 // Reads the formula of a line and puts its table in its place, which has room on the desk. What the
 // sheet then states is for the caller to say: any sheet that is on the desk with a table of this text.
-pub fn formula_line(desk: Desk, place: Place, text: &[u8]) -> Turn
+pub(crate) fn formula_line(desk: Desk, place: Place, text: &[u8]) -> Turn
     requires { ⌜ Room place desk ⌝ }
     ensures { λ r. ⌜ ((sheet : Sheet) →
         ((t : List ℕ) → Accepts (desk .rules .settings) (now (text .entry)) t →

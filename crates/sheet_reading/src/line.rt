@@ -100,7 +100,7 @@ fn rights_line(desk: Desk, line: &[u8], number: usize) -> Turn
 }
 
 // Any line but the first, with its number; the desk says nothing where it is at fault.
-pub fn later_line(due: Due, desk: Desk, text: &[u8], number: usize) -> Turn
+pub(crate) fn later_line(due: Due, desk: Desk, text: &[u8], number: usize) -> Turn
     requires { ⌜ ((sheet : Sheet) × OnDesk sheet desk) ⌝ }
     ensures { λ r. ⌜ ((sheet : Sheet) → OnDesk sheet desk → Steps (step number due sheet (now (text .entry))) (r .taken) (r .desk)) ⌝ }
 {

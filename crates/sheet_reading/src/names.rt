@@ -80,7 +80,7 @@ fn names_line(
 }
 
 // The line `team G ..`.
-pub fn team_line(desk: Desk, line: &[u8], number: usize) -> Turn
+pub(crate) fn team_line(desk: Desk, line: &[u8], number: usize) -> Turn
     requires { ⌜ ((sheet : Sheet) × OnDesk sheet desk) ⌝ }
     ensures { λ r. ⌜ ((sheet : Sheet) → OnDesk sheet desk → Steps (teamStep number sheet (now (line .entry))) (r .taken) (r .desk)) ⌝ }
 {
@@ -101,7 +101,7 @@ pub fn team_line(desk: Desk, line: &[u8], number: usize) -> Turn
 }
 
 // The line `known`.
-pub fn known_line(desk: Desk, line: &[u8], number: usize) -> Turn
+pub(crate) fn known_line(desk: Desk, line: &[u8], number: usize) -> Turn
     requires { ⌜ ((sheet : Sheet) × OnDesk sheet desk) ⌝ }
     ensures { λ r. ⌜ ((sheet : Sheet) → OnDesk sheet desk → Steps (knownStep number sheet (now (line .entry))) (r .taken) (r .desk)) ⌝ }
 {

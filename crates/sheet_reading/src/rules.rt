@@ -21,7 +21,7 @@ ghost use Rattle.sheet_reading.specs.Rules.{isRule, ruleOf, ruleStep};
 ghost use Rattle.sheet_reading.specs.Desk.{OnDesk, slotOf, Steps};
 
 // Whether the line states a right, where `word` is its first word with the space after it.
-pub fn is_rule(word: &[u8], n: u8, m: u8, line: &[u8]) -> bool
+pub(crate) fn is_rule(word: &[u8], n: u8, m: u8, line: &[u8]) -> bool
     requires { ⌜ length (now word) < 8 ⌝ }
     ensures { λ r. ⌜ r ≡ isRule (now (word .entry)) n m (now (line .entry)) ⌝ }
 {
@@ -49,7 +49,7 @@ fn slot_of(right: Right, setting: u8, post: u8) -> usize
 }
 
 // A line that states a right, as `is_rule` says that it does.
-pub fn rule_line(desk: Desk, right: Right, word: &[u8], line: &[u8], number: usize) -> Turn
+pub(crate) fn rule_line(desk: Desk, right: Right, word: &[u8], line: &[u8], number: usize) -> Turn
     requires { ⌜ ((sheet : Sheet) × OnDesk sheet desk) × (length (now word) < 8) × T (isRule (now word) (desk .rules .settings) (desk .rules .posts) (now line)) ⌝ }
     ensures { λ r. ⌜ ((sheet : Sheet) → OnDesk sheet desk → Steps (ruleStep number sheet (ruleOf (now (word .entry)) right (now (line .entry)))) (r .taken) (r .desk)) ⌝ }
 {

@@ -1,6 +1,6 @@
 -- `is_whole` meets its contract: each test is one field of `Whole`.
 use native.Mathlib.Omega.{arith}
-use Rattle.book_sound.specs.Refusals.{blocks}
+use Rattle.book_sound.specs.Rows.{blocks}
 use Rattle.book_sound.proofs.is_whole.Statement.{statement}
 use Rattle.book_sound.proofs.is_whole.Tie as tie
 

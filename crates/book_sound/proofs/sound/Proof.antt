@@ -7,7 +7,7 @@ use denote.Ref.{now}
 use Rattle.ground.specs.Search.{Lowest}
 use Rattle.ground.proofs.Answers.{told, untold, lowest-all}
 use Rattle.book_block.specs.Check.{block, RightCheck}
-use Rattle.book_sound.specs.Refusals.{blocks, Whole, settingsOf, RightHead}
+use Rattle.book_sound.specs.Rows.{blocks, Whole, settingsOf, RightHead}
 use Rattle.book_sound.proofs.BookLaws.{whole-length}
 use Rattle.book_sound.proofs.RefusalLaws.{Settings, refuse-length, refuse-check, refuse-head, refuse-stray, is-sound}
 use Rattle.book_sound.proofs.RefusalLaws.{stray-blocks, sound-head, head-n, head-n-most}
