@@ -28,7 +28,7 @@ use Rattle.plan.specs.Plans.{Plan, Permitted, Works, height}
 use Rattle.plan.specs.Ranks.{Written as WrittenFrom}
 use Rattle.plan.specs.Bytes.{encode}
 use Rattle.plan.specs.Secret.{Twins}
-use Rattle.knowledge.specs.Goal.{Goal, learnCount, learnTable}
+use Rattle.knowledge.specs.Goal.{Goal, goalOf, learnCount, learnTable}
 use Rattle.question.specs.Question.{systemOf, startOf, NoMaking}
 use Rattle.question.specs.Asks.{ValidQuestion}
 use Rattle.question.specs.declared.Question.{Question}
@@ -203,27 +203,28 @@ module _ (s old : List ℕ) (r : ℕ) (new : List ℕ) {sheet : Sheet} {rights :
       → (t : List ℕ) × Accepts (sheet .size .settings) F t × Twins (sheet .size .settings) t (startOf q) p
   sheet-secret = Printed.cannot-secret s old r new m asks a
 
--- ---- and these contracts are the functions' own: two results that the `ensures` of each allows are equal, and so is what is left in each lent room
--- (`s` and `t` hold what each parameter refers to on return, in order)
+-- ---- and these contracts are the functions' own: the `ensures` of each is, both ways, the contract named above. `a` holds what is handed over, in
+-- order, x the result, and `s` what each parameter refers to on return.
 
-pub tied-read : (κs : _) (a : _) (x y : _) (s t : _) → read-contract.Post κs a x s → read-contract.Post κs a y t → (x .answer ≡ y .answer) × (x .table ≡ y .table)
-tied-read κs a x y s t p q = read-unique _ _ _ _ _ _ p q
+pub tied-read : (κs : _) (a : _) (x : _) (s : _) → read-contract.Post κs a x s ↔ ReadsFormula (a .0) (now (a .1 .0)) (x .answer) (x .table)
+tied-read κs a x s = (λ p. p, λ p. p)
 
-pub tied-book-read : (κs : _) (a : _) (x y : _) (s t : _) → book-read-contract.Post κs a x s → book-read-contract.Post κs a y t
-    → (x ≡ y) × (now (s .1 .0) ≡ now (t .1 .0))
-tied-book-read κs a x y s t p q = reads-one _ _ x y _ _ p q
+pub tied-book-read : (κs : _) (a : _) (x : _) (s : _) → book-read-contract.Post κs a x s
+    ↔ ReadsBook (now (a .0)) (now (a .1 .0)) x (now (s .1 .0))
+tied-book-read κs a x s = (λ p. p, λ p. p)
 
-pub tied-book-write : (κs : _) (a : _) (x y : _) (s t : _) → book-write-contract.Post κs a x s → book-write-contract.Post κs a y t
-    → (x ≡ y) × (now (s .1 .1 .1 .0) ≡ now (t .1 .1 .1 .0))
-tied-book-write κs a x y s t p q = writes-one _ _ _ _ x y _ _ p q
+pub tied-book-write : (κs : _) (a : _) (x : _) (s : _) → book-write-contract.Post κs a x s
+    ↔ WritesBook (a .0) (a .1 .0) (now (a .1 .1 .0)) (now (a .1 .1 .1 .0)) x (now (s .1 .1 .1 .0))
+tied-book-write κs a x s = (λ p. p, λ p. p)
 
-pub tied-find : (κs : _) (a : _) (x y : _) (s t : _) → find-contract.Post κs a x s → find-contract.Post κs a y t
-    → (x ≡ y) × (now (s .1 .1 .1 .1 .0) ≡ now (t .1 .1 .1 .1 .0)) × (now (s .1 .1 .1 .1 .1 .0) ≡ now (t .1 .1 .1 .1 .1 .0))
-tied-find κs a x y s t p q = find-unique _ _ _ _ _ x y _ _ _ _ p q
+pub tied-find : (κs : _) (a : _) (x : _) (s : _) → find-contract.Post κs a x s
+    ↔ Finds (now (a .0)) (a .1 .0) (goalOf (now (a .1 .1 .0)) (now (a .1 .1 .1 .0))) (now (a .1 .1 .1 .1 .0)) (now (a .1 .1 .1 .1 .1 .0))
+    x (now (s .1 .1 .1 .1 .0)) (now (s .1 .1 .1 .1 .1 .0))
+tied-find κs a x s = (λ p. p, λ p. p)
 
-pub tied-check : (κs : _) (a : _) (x y : _) (s t : _) → check-contract.Post κs a x s → check-contract.Post κs a y t → x ≡ y
-tied-check κs a x y s t p q = checks-one _ _ _ _ x y p q
+pub tied-check : (κs : _) (a : _) (x : _) (s : _) → check-contract.Post κs a x s
+    ↔ Checks (now (a .0)) (a .1 .0) (goalOf (now (a .1 .1 .0)) (now (a .1 .1 .1 .0))) (now (a .1 .1 .1 .1 .0)) x
+tied-check κs a x s = (λ p. p, λ p. p)
 
-pub tied-answer : (κs : _) (a : _) (x y : _) (s t : _) → answer-contract.Post κs a x s → answer-contract.Post κs a y t
-    → (x ≡ y) × (now (s .1 .0) ≡ now (t .1 .0))
-tied-answer κs a x y s t p q = answer-unique _ _ x y _ _ p q
+pub tied-answer : (κs : _) (a : _) (x : _) (s : _) → answer-contract.Post κs a x s ↔ AnswersSheet (now (a .0)) (now (a .1 .0)) x (now (s .1 .0))
+tied-answer κs a x s = (λ p. p, λ p. p)

@@ -1,0 +1,140 @@
+-- The page in full strength: each answer of `find` exactly where it is due, for any room; the refusals 6 to 13 exactly; what a yes of the plan check
+-- says of the question; and what is printed for a sheet, in one statement. Each follows from the contract's uniqueness: the answer that is due is
+-- allowed, so it is the one given.
+use mathlib.Core.Path.{_≡_, refl, sym, ap, _∙_, subst}
+use mathlib.Core.Logic.{_⊎_, inl, inr, _↔_}
+use mathlib.Core.List.{List}
+use Prim.Native.Nat.{ℕ, _^_, _≤_, _<_}
+use lib.ListN.{length, drop}
+use Rattle.ground.specs.Search.{Least}
+use Rattle.refusal.specs.declared.Refusal.{Refusal}
+use Rattle.refusal.specs.declared.Refusal.the-variants.{PlanRoom}
+use Rattle.refusal.specs.Order.{First}
+use Rattle.refusal.proofs.OrderLaws.{first-clear}
+use Rattle.book_sound.proofs.Theorems.{sound-one}
+use Rattle.knowledge.specs.Goal.{Goal}
+use Rattle.plan.specs.Plans.{System, Lawful, Plan, Works, height}
+use Rattle.plan.specs.Ranks.{Reach as ReachIn, Cannot as CannotFrom, IsRank, Written}
+use Rattle.plan.specs.Bytes.{encode}
+use Rattle.plan.proofs.Ranks.{has-rank, rank-least}
+use Rattle.plan.proofs.Written.{written-works, written-height}
+use Rattle.question.specs.Question.{systemOf, startOf}
+use Rattle.question.specs.Asks.{ValidQuestion}
+use Rattle.question.specs.declared.Question.{Question}
+use Rattle.question.proofs.SystemLaws.{lawful, few}
+use Rattle.finder.specs.Answers.{AnswersFrom}
+use Rattle.finder.specs.Finds.{Finds, findRows}
+use Rattle.finder.specs.declared.answer.Answer.{Answer}
+use Rattle.finder.specs.declared.answer.Answer.the-variants.{Reach, Cannot, Refused}
+use Rattle.finder.proofs.FindLaws.{find-clear}
+use Rattle.finder.proofs.Unique.{answers-unique, find-unique, find-refused}
+use Rattle.plancheck.specs.Checks.{Checks}
+use Rattle.plancheck.specs.declared.answer.CheckAnswer.the-variants.{Yes}
+use Rattle.plancheck.proofs.Theorems.{yes-exact}
+use Rattle.print_answer.specs.Printed.{cannotText, reachText, Prints}
+use Rattle.sheet_reading.specs.Sheet.{Sheet}
+use Rattle.sheet_reading.specs.Reading.{Meaning, sheetMeaning, stated}
+use Rattle.sheet.specs.Answer.{sheetBook, SheetAsks, PrintsMeaning, AnswersSheet}
+
+-- ---- a plan that is written
+
+module _ {n : ℕ} {S : System} (law : Lawful n S) (k : ℕ) (p : Plan) (w : Written S k p) where
+  least-of : (r : ℕ) → IsRank S k r → Least (ReachIn S k) r
+  least-of r (inl l) = l
+  least-of r (inr none) = absurd (none .1 p (written-works S p k w))
+
+  -- its height is the least
+  written-least : Least (ReachIn S k) (height p)
+  written-least =
+      let r = has-rank law k in
+      subst (Least (ReachIn S k)) (sym (written-height S p k (r .0) w (r .1))) (least-of (r .0) (r .1))
+
+-- ---- the answers of `find` to a valid question, with room for the ranks and any plan room
+
+module _ {book : List ℕ} {q : Question} {goal : Goal} {n m : ℕ} (valid : ValidQuestion book q goal n m) (ranks plan : List ℕ)
+    (a : Answer) (r x : List ℕ) (room : 7 ^ n ≤ length ranks) (finds : Finds book q goal ranks plan a r x) where
+  answers : AnswersFrom (systemOf n book q goal) (startOf q) plan a x
+  answers = by finds
+    where
+      by : Finds book q goal ranks plan a r x → AnswersFrom (systemOf n book q goal) (startOf q) plan a x
+      by (inl u) = first-clear (u .first) (find-clear valid ranks room)
+      by (inr (k, o, w, d, f, g)) =
+          subst (λ (j : ℕ). AnswersFrom (systemOf j book q goal) (startOf q) plan a x) (sound-one (w .sound) (valid .sound) .0) g
+
+  is : (b : Answer) (y : List ℕ) → AnswersFrom (systemOf n book q goal) (startOf q) plan b y → a ≡ b
+  is b y g = answers-unique (lawful valid) (few valid) (startOf q) plan a b x y answers g .0
+
+  -- "reach" exactly where the plan written fits the room, with its height and its length
+  pub reach-exactly : (h size : ℕ) → (a ≡ Reach h size)
+      ↔ ((p : Plan) × Written (systemOf n book q goal) (startOf q) p × (h ≡ height p) × (size ≡ length (encode p)) × (size ≤ length plan))
+  reach-exactly h size = (
+    λ e. let (least, (p, w, s, l, y)) = subst (λ (b : Answer). AnswersFrom (systemOf n book q goal) (startOf q) plan b x) e answers in
+        (p, w, sym (written-height (systemOf n book q goal) p (startOf q) h w (inl least)), s, l),
+    λ (p, w, e, s, l). is (Reach h size) _
+        (subst (Least (ReachIn (systemOf n book q goal) (startOf q))) (sym e) (written-least (lawful valid) (startOf q) p w), (p, w, s, l, refl)),
+  )
+
+  -- "cannot" exactly where no plan works
+  pub cannot-exactly : (a ≡ Cannot) ↔ ((p : Plan) → Works (systemOf n book q goal) (startOf q) p → ⊥)
+  cannot-exactly = (
+    λ e. subst (λ (b : Answer). AnswersFrom (systemOf n book q goal) (startOf q) plan b x) e answers .0,
+    λ none. is Cannot plan (none, refl),
+  )
+
+  -- 14 exactly where the plan written does not fit
+  pub room-exactly : (a ≡ Refused PlanRoom)
+      ↔ ((p : Plan) × Written (systemOf n book q goal) (startOf q) p × (length plan < length (encode p)))
+  room-exactly = (
+    λ e. subst (λ (b : Answer). AnswersFrom (systemOf n book q goal) (startOf q) plan b x) e answers .1,
+    λ p. is (Refused PlanRoom) plan (refl, p, refl),
+  )
+
+-- ---- 6 to 13 of `find`, exactly: a refusal that the rows give is given, and leaves both rooms as they were; and one that is given, but for 14, is theirs
+
+module _ (book : List ℕ) (q : Question) (goal : Goal) (ranks plan : List ℕ) (a : Answer) (r x : List ℕ) (finds : Finds book q goal ranks plan a r x) where
+  pub rows-given : (w : Refusal) → First (findRows book q goal ranks) w → (a ≡ Refused w) × (r ≡ ranks) × (x ≡ plan)
+  rows-given w f =
+      find-unique book q goal ranks plan a (Refused w) r ranks x plan finds
+      (inl (record { why = w; answered = refl; first = f; ranks-kept = refl; plan-kept = refl }))
+
+  pub given-rows : (w : Refusal) → a ≡ Refused w → (w ≡ PlanRoom → ⊥) → First (findRows book q goal ranks) w
+  given-rows w e other =
+      elim (find-refused book q goal ranks plan w r x (subst (λ (b : Answer). Finds book q goal ranks plan b r x) e finds) .1) [
+        | inl f ↦ f .0
+        | inr late ↦ absurd (other (late .0))
+      ]
+
+-- ---- a yes of the plan check says that the question is valid, and that the bytes are those of a plan that works
+pub yes-means : (book : List ℕ) (q : Question) (goal : Goal) (plan : List ℕ) → Checks book q goal plan Yes
+    → (n : ℕ) × (m : ℕ) × ValidQuestion book q goal n m × (length plan ≤ 32640)
+    × ((p : Plan) × Works (systemOf n book q goal) (startOf q) p × (plan ≡ encode p))
+yes-means book q goal plan said =
+    let works = yes-exact (said .valid) plan Yes said .0 refl in
+    (said .n, said .m, said .valid, works .0, works .1)
+
+-- ---- a sheet that is taken asks a question; either a least working plan is printed with its height, or none works and `cannot` is printed
+pub sheet-answered : (s old : List ℕ) (r : ℕ) (new : List ℕ) (sheet : Sheet) → sheetMeaning s ≡ stated sheet → AnswersSheet s old r new
+    → (rights : List ℕ) × (q : Question) × (goal : Goal) × SheetAsks sheet rights q goal
+    × (((p : Plan) × Works (systemOf (sheet .size .settings) (sheetBook sheet rights) q goal) (startOf q) p
+    × ((u : Plan) → Works (systemOf (sheet .size .settings) (sheetBook sheet rights) q goal) (startOf q) u → height p ≤ height u)
+    × Prints old (reachText (height p) p) r new)
+    ⊎ (((p : Plan) → Works (systemOf (sheet .size .settings) (sheetBook sheet rights) q goal) (startOf q) p → ⊥) × Prints old cannotText r new))
+sheet-answered s old r new sheet m a =
+    let (rights, q, goal, asks, found) = subst (λ (o : Meaning). PrintsMeaning o old r new) m a in
+    let T = systemOf (sheet .size .settings) (sheetBook sheet rights) q goal in
+    let k = startOf q in (
+      rights,
+      q,
+      goal,
+      asks,
+      elim found [
+        | inl (h, p, least, w, x) ↦ (let same : height p ≡ h = written-height T p k h w (inl least) in
+            inl (
+              p,
+              written-works T p k w,
+              (λ u v. subst (λ (j : ℕ). j ≤ height u) (sym same) (rank-least T k (inl least) u v)),
+              subst (λ (j : ℕ). Prints old (reachText j p) r new) (sym same) x,
+            ))
+        | inr (none, x) ↦ inr (none, x)
+      ],
+    )
