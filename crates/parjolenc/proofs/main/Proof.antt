@@ -1,53 +1,62 @@
--- `main` hands out no byte that is not there: every answer fits its room.
-use mathlib.Core.Path.{sym}
-use native.Mathlib.Omega.{arith}
+-- `main` hands on no byte that is not there: what is counted of an input is in the room.
+use mathlib.Core.Path.{sym, subst}
 use lib.Seq.{length-take-le}
-use Rattle.sheet.proofs.Theorems.{answer-most}
+use Rattle.program_files.specs.Input.{InRoom}
 use borrow.Author.Needs.{needs}
 use Rattle.parjolenc.proofs.main.Statement.{statement}
 use Rattle.parjolenc.proofs.main.Tie as tie
 
-slice-aggregate-read-full : tie.Need-slice-aggregate-read-full
-slice-aggregate-read-full c = search needs
+slice-aggregate-read-all : tie.Need-slice-aggregate-read-all
+slice-aggregate-read-all c = search needs
 
-read-full-requires : tie.Need-read-full-requires
-read-full-requires c κs = search needs
+read-all-requires : tie.Need-read-all-requires
+read-all-requires c κs = search needs
+
+enum-told : tie.Need-enum-told
+enum-told c = search needs
+
+slice-aggregate-fail : tie.Need-slice-aggregate-fail
+slice-aggregate-fail c = search needs
+
+fail-requires : tie.Need-fail-requires
+fail-requires c κs = search needs
+
+enum-known-length : tie.Need-enum-known-length
+enum-known-length c = search needs
 
 array-share-prefix-sheet : tie.Need-array-share-prefix-sheet
-array-share-prefix-sheet c = search needs
+array-share-prefix-sheet c =
+    let got : tie.After-read-all = search in
+    let counted : tie.After-length = search in
+    subst (λ r. InRoom r (got .read-all .last .1 .0)) (counted .length .given .1) (got .read-all .ensures)
 
-slice-aggregate-answer : tie.Need-slice-aggregate-answer
-slice-aggregate-answer c = search needs
+slice-aggregate-print : tie.Need-slice-aggregate-print
+slice-aggregate-print c =
+    let got : tie.After-read-all = search in
+    let counted : tie.After-length = search in
+    sym (length-take-le _ _ (subst (λ r. InRoom r (got .read-all .last .1 .0)) (counted .length .given .1) (got .read-all .ensures)))
 
-slice-aggregate-answer-2 : tie.Need-slice-aggregate-answer-2
-slice-aggregate-answer-2 c = search needs
-
-answer-requires : tie.Need-answer-requires
-answer-requires c κs = search needs
-
-array-share-prefix-out : tie.Need-array-share-prefix-out
-array-share-prefix-out c = omega (arith, answer-most _ _ _ _ (c .before .answer .ensures))
-
-slice-aggregate-write-all : tie.Need-slice-aggregate-write-all
-slice-aggregate-write-all c = sym (length-take-le _ _ (omega (arith, answer-most _ _ _ _ (c .before .before .answer .ensures))))
-
-write-all-requires : tie.Need-write-all-requires
-write-all-requires c κs = search needs
+print-requires : tie.Need-print-requires
+print-requires c κs = search needs
 
 returns : tie.Need-returns
 returns c = search needs
+
+returns-2 : tie.Need-returns-2
+returns-2 c = search needs
 
 pub main-spec : {M : Type 1} → statement M
 main-spec =
     tie.close
     (tie.spec
-    slice-aggregate-read-full
-    read-full-requires
+    slice-aggregate-read-all
+    read-all-requires
+    enum-told
+    slice-aggregate-fail
+    fail-requires
+    enum-known-length
     array-share-prefix-sheet
-    slice-aggregate-answer
-    slice-aggregate-answer-2
-    answer-requires
-    array-share-prefix-out
-    slice-aggregate-write-all
-    write-all-requires
-    returns)
+    slice-aggregate-print
+    print-requires
+    returns
+    returns-2)

@@ -1,0 +1,2 @@
+-- What is read, counted.
+pub mod Input
