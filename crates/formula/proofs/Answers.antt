@@ -21,6 +21,7 @@ use Rattle.formula_grammar.specs.Automaton.{wants, breaks, verdict, Parsed}
 use Rattle.formula_grammar.specs.Scans.{Scans}
 use Rattle.formula_grammar.specs.declared.signs.Scanned.{Scanned}
 use Rattle.formula_grammar.specs.declared.signs.Scanned.the-variants.{Clean, Stray, Past}
+use Rattle.formula_grammar.proofs.ScanLaws.{not-both}
 use Rattle.formula_grammar.proofs.PartLaws.{sum-whole}
 use Rattle.formula_table.specs.declared.Truths.{Truths}
 use Rattle.formula_table.proofs.TwoWords.{below, table-of}
@@ -28,7 +29,6 @@ use Rattle.formula.specs.Read.{LengthFits, foreignByte, formulaRows, Rea
 use Rattle.formula.specs.declared.Answer.{Answer}
 use Rattle.formula.specs.declared.Answer.the-variants.{Accepted, Refused}
 use Rattle.formula.proofs.Broken.{broken-place}
-use Rattle.formula.proofs.Unique.{not-both}
 
 abbrev CleanText : ℕ → List ℕ → Type 0
 CleanText n s = (j : ℕ) → Foreign n s j → ⊥

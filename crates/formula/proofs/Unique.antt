@@ -1,23 +1,14 @@
 -- What `read` answers is settled: any two results that its contract allows are equal, the answer and the table.
 use mathlib.Core.Path.{_≡_, refl, sym, ap, _∙_}
 use mathlib.Core.List.{List}
-use mathlib.Core.Bool.{_||_}
-use Prim.Native.Nat.{ℕ, _+_}
-use lib.Dec.{T, leb}
-use Rattle.ground.proofs.Bools.{both, and-left, or-left}
+use Prim.Native.Nat.{ℕ}
 use Rattle.ground.proofs.Table.{table-unique}
 use Rattle.refusal.specs.Order.{Clear}
 use Rattle.refusal.proofs.OrderLaws.{clear-none, clear-past, clear-lowest, first-unique, first-clear}
-use Rattle.formula_grammar.specs.Signs.{isLetter, isSign, isStray, isPast}
 use Rattle.formula_grammar.proofs.Meaning.{unambiguous}
 use Rattle.formula.specs.Read.{formulaRows, Accepts, ReadsFormula}
 use Rattle.formula.specs.declared.Answer.{Answer}
 use Rattle.formula.specs.declared.Answer.the-variants.{Accepted, Refused}
-
--- no byte is both stray and a letter
-pub not-both : (n c : ℕ) → T (isStray c) → T (isPast n c) → ⊥
-unfolding isStray isPast
-not-both n c h k = both (isLetter c || isSign c) (or-left (isLetter c) (isSign c) (and-left (isLetter c) (leb (97 + n) c) k)) h
 
 -- a text that is taken is not refused
 pub accepts-clear : {n : ℕ} {s t : List ℕ} → Accepts n s t → Clear (formulaRows n s)

@@ -5,3 +5,5 @@ pub mod Automaton
 pub mod Begins
 pub mod Meaning
 pub mod PartLaws
+pub mod BrokenLaws
+pub mod Unique

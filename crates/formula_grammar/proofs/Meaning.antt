@@ -10,29 +10,29 @@ use Rattle.ground.specs.Digits.{bit}
 use Rattle.formula_grammar.specs.Grammar.{Kind, sum, product, unit, Sentence, letter, nought, one, negated, bracketed, one-unit, unit-and, one-product, product-or, text, meaning}
 
 -- no `&`, no `|` at the head
-abbrev Apart : ℕ → List ℕ → Type 0
+abbrev pub Apart : ℕ → List ℕ → Type 0
 Apart c s = getD s 0 0 ≡ c → ⊥
 
 -- what may follow a part of each kind
-abbrev Ends : Kind → List ℕ → Type 0
+abbrev pub Ends : Kind → List ℕ → Type 0
 Ends unit s = Unit {0}
 Ends product s = Apart 38 s
 Ends sum s = Apart 38 s × Apart 124 s
 
-heads : {a b : ℕ} {s t : List ℕ} → a ∷ s ≡ b ∷ t → a ≡ b
+pub heads : {a b : ℕ} {s t : List ℕ} → a ∷ s ≡ b ∷ t → a ≡ b
 heads e = ap (λ (l : List ℕ). getD l 0 0) e
 
-tails : {a b : ℕ} {s t : List ℕ} → a ∷ s ≡ b ∷ t → s ≡ t
+pub tails : {a b : ℕ} {s t : List ℕ} → a ∷ s ≡ b ∷ t → s ≡ t
 tails e = ap (λ (l : List ℕ). drop 1 l) e
 
-abbrev Same : (k : Kind) → Sentence k → Sentence k → List ℕ → List ℕ → Type 0
+abbrev pub Same : (k : Kind) → Sentence k → Sentence k → List ℕ → List ℕ → Type 0
 Same k a b x y = ((v : ℕ) → meaning a v ≡ meaning b v) × (x ≡ y)
 
 -- with the bracket that closes it put to what follows
 closing : (a b : Sentence sum) (x y : List ℕ) → (text a ++ 41 ∷ []) ++ x ≡ (text b ++ 41 ∷ []) ++ y → text a ++ 41 ∷ x ≡ text b ++ 41 ∷ y
 closing a b x y e = sym (append-assoc (text a) (41 ∷ []) x) ∙ e ∙ append-assoc (text b) (41 ∷ []) y
 
-same : {k : Kind} (a b : Sentence k) (x y : List ℕ) → Ends k x → Ends k y → text a ++ x ≡ text b ++ y → Same k a b x y
+pub same : {k : Kind} (a b : Sentence k) (x y : List ℕ) → Ends k x → Ends k y → text a ++ x ≡ text b ++ y → Same k a b x y
 unfolding text meaning
 same (letter i h) (letter j k) x y m n e = (λ v. ap (bit v) (omega (arith, heads e)), tails e)
 same (letter i h) nought x y m n e = absurd (omega (arith, heads e))

@@ -26,9 +26,6 @@ use Rattle.formula_grammar.proofs.Automaton.{verdict-text, verdict-dies
 pub as-read : (k : Kind) (s : List ℕ) (i : ℕ) {r : Part} {w : Truths} {next : ℕ} → r ≡ Read w next → Parses k s i r → Parsed k s i w next
 as-read k s i e p = subst (Parses k s i) e p
 
-pub as-broken : (k : Kind) (s : List ℕ) (i : ℕ) {r : Part} {x : ℕ} → r ≡ Broken x → Parses k s i r → (d : ℕ) → verdict (wants d) i (drop i s) ≡ breaks x
-as-broken k s i e p = subst (Parses k s i) e p
-
 -- a byte that is not 0 stands inside the text
 pub inside : (s : List ℕ) (i c : ℕ) → getD s i 0 ≡ suc c → i < length s
 inside s i c e = elim (lt-or-ge i (length s)) [
@@ -46,38 +43,6 @@ beyond s i c e h = elim (lt-or-ge i (length s)) [
 pub from-byte : (s : List ℕ) (i c : ℕ) → getD s i 0 ≡ suc c → drop i s ≡ suc c ∷ drop (i + 1) s
 from-byte s i c e = drop-cons s i 0 (inside s i c e) ∙ ap₂ (λ (x j : ℕ). x ∷ drop j s) e (sym (add-one i))
 
--- ---- steps of the verdict
-
-verdict-not : (d i : ℕ) (t : List ℕ) → verdict (wants d) i (126 ∷ t) ≡ verdict (wants d) (i + 1) t
-unfolding verdict step
-verdict-not d i t = ap (λ (j : ℕ). verdict (wants d) j t) (sym (add-one i))
-
-verdict-open : (d i : ℕ) (t : List ℕ) → verdict (wants d) i (40 ∷ t) ≡ verdict (wants (suc d)) (i + 1) t
-unfolding verdict step
-verdict-open d i t = ap (λ (j : ℕ). verdict (wants (suc d)) j t) (sym (add-one i))
-
-verdict-and : (d i : ℕ) (t : List ℕ) → verdict (A.has d) i (38 ∷ t) ≡ verdict (wants d) (i + 1) t
-unfolding verdict step
-verdict-and d i t = ap (λ (j : ℕ). verdict (wants d) j t) (sym (add-one i))
-
-verdict-or : (d i : ℕ) (t : List ℕ) → verdict (A.has d) i (124 ∷ t) ≡ verdict (wants d) (i + 1) t
-unfolding verdict step
-verdict-or d i t = ap (λ (j : ℕ). verdict (wants d) j t) (sym (add-one i))
-
--- a part that was read leads to what is judged after it
-module _ {k : Kind} {s : List ℕ} {i : ℕ} {w : Truths} {next : ℕ} (p : Parsed k s i w next) where
-  past-part : (d : ℕ) → verdict (wants d) i (drop i s) ≡ verdict (A.has d) next (drop next s)
-  past-part d =
-      ap (verdict (wants d) i) (p .spans) ∙ verdict-text (p .sentence) d i (drop next s) ∙ ap (λ (j : ℕ). verdict (A.has d) j (drop next s)) (sym (p .until))
-
--- where a byte kills, or the text ends with brackets open, it breaks there
-breaks-here : (st : State) (s : List ℕ) (i : ℕ) → (i < length s → step st (getD s i 0) ≡ dead) → (length s ≤ i → ends st i ≡ breaks i) → verdict st i (drop i s) ≡ breaks i
-unfolding verdict
-breaks-here st s i f g = elim (lt-or-ge i (length s)) [
-  | inl h ↦ ap (verdict st i) (drop-cons s i 0 h) ∙ verdict-dies st i (getD s i 0) (drop (suc i) s) (f h)
-  | inr h ↦ ap (verdict st i) (drop-of-length-le s h) ∙ g h
-]
-
 -- ---- units
 
 pub negated-read : {s : List ℕ} {i : ℕ} {w : Truths} {next : ℕ} (u : Truths) → getD s i 0 ≡ 126 → Parsed unit s (i + 1) w next → WordsOf u (λ v. not (has w v)) → Parsed unit s i u next
@@ -89,9 +54,6 @@ negated-read {s} {i} u e p h = record {
   holds = λ v l. h v l ∙ ap not (p .holds v l);
   stopped = tt;
 }
-
-pub negated-broken : (s : List ℕ) (i : ℕ) {x : ℕ} → getD s i 0 ≡ 126 → ((d : ℕ) → verdict (wants d) (i + 1) (drop (i + 1) s) ≡ breaks x) → (d : ℕ) → verdict (wants d) i (drop i s) ≡ breaks x
-negated-broken s i e f d = ap (verdict (wants d) i) (from-byte s i 125 e) ∙ verdict-not d i (drop (i + 1) s) ∙ f d
 
 pub bracketed-read : {s : List ℕ} {i : ℕ} {w : Truths} {next : ℕ} → getD s i 0 ≡ 40 → Parsed sum s (i + 1) w next → getD s next 0 ≡ 41 → Parsed unit s i w (next + 1)
 unfolding text meaning stops
@@ -105,19 +67,6 @@ bracketed-read {s} {i} {w} {next} e p c = record {
   holds = p .holds;
   stopped = tt;
 }
-
-pub bracketed-broken : (s : List ℕ) (i : ℕ) {x : ℕ} → getD s i 0 ≡ 40 → ((d : ℕ) → verdict (wants d) (i + 1) (drop (i + 1) s) ≡ breaks x) → (d : ℕ) → verdict (wants d) i (drop i s) ≡ breaks x
-bracketed-broken s i e f d = ap (verdict (wants d) i) (from-byte s i 39 e) ∙ verdict-open d i (drop (i + 1) s) ∙ f (suc d)
-
--- after a whole sum, a byte that is no `)` kills
-sum-dies : (d c : ℕ) → T (stops sum c) → eqb c 41 ≡ false → step (A.has d) c ≡ dead
-unfolding step stops
-sum-dies d c t e = rw (T→false (eqb c 38 || eqb c 124) t, e)
-
-pub unclosed : (s : List ℕ) (i : ℕ) {w : Truths} {next : ℕ} → getD s i 0 ≡ 40 → Parsed sum s (i + 1) w next → (getD s next 0 ≡ 41 → ⊥) → (d : ℕ) → verdict (wants d) i (drop i s) ≡ breaks next
-unclosed s i {w} {next} e p c d =
-    ap (verdict (wants d) i) (from-byte s i 39 e) ∙ verdict-open d i (drop (i + 1) s) ∙ past-part p (suc d)
-    ∙ breaks-here (A.has (suc d)) s next (λ l. sum-dies (suc d) (getD s next 0) (p .stopped) (ne-eqb (getD s next 0) 41 c)) (λ l. refl)
 
 -- one byte that is a unit by itself
 atom-read : (u : Sentence unit) (w : Truths) {s : List ℕ} {i c : ℕ} → getD s i 0 ≡ suc c → text u ≡ suc c ∷ [] → WordsOf w (meaning u) → Parsed unit s i w (i + 1)
@@ -144,12 +93,6 @@ letter-read {s} {i} w c e low high h =
     let number : c ≡ suc (96 + (c - 97)) = omega arith in
     let same : 97 + (c - 97) ≡ suc (96 + (c - 97)) = omega arith in
     atom-read (letter (c - 97) high) w {c = 96 + (c - 97)} (e ∙ number) (ap (λ (x : ℕ). x ∷ []) same) h
-
-pub no-atom : (s : List ℕ) (i : ℕ) → (getD s i 0 ≡ 126 → ⊥) → (getD s i 0 ≡ 40 → ⊥) → (getD s i 0 ≡ 48 → ⊥) → (getD s i 0 ≡ 49 → ⊥) → isLetter (getD s i 0) ≡ false
-    → (d : ℕ) → verdict (wants d) i (drop i s) ≡ breaks i
-unfolding step isAtom
-no-atom s i a b e f g d =
-    breaks-here (wants d) s i (λ l. rw (ne-eqb (getD s i 0) 126 a, ne-eqb (getD s i 0) 40 b, ne-eqb (getD s i 0) 48 e, ne-eqb (getD s i 0) 49 f, g)) (λ l. refl)
 
 -- ---- products and sums
 
@@ -195,28 +138,7 @@ pub sum-more : {s : List ℕ} {i : ℕ} {w x : Truths} {next end : ℕ} (u : Tru
 unfolding text meaning
 sum-more u p e q h = joined 123 product sum product-or _||_ (λ a b. refl) (λ a b v. refl) u p e q h
 
-pub product-broken : {s : List ℕ} {i : ℕ} {w : Truths} {next x : ℕ} → Parsed unit s i w next → getD s next 0 ≡ 38 → ((d : ℕ) → verdict (wants d) (next + 1) (drop (next + 1) s) ≡ breaks x)
-    → (d : ℕ) → verdict (wants d) i (drop i s) ≡ breaks x
-product-broken {s} {i} {w} {next} p e f d = past-part p d ∙ ap (verdict (A.has d) next) (from-byte s next 37 e) ∙ verdict-and d next (drop (next + 1) s) ∙ f d
-
-pub sum-broken : {s : List ℕ} {i : ℕ} {w : Truths} {next x : ℕ} → Parsed product s i w next → getD s next 0 ≡ 124 → ((d : ℕ) → verdict (wants d) (next + 1) (drop (next + 1) s) ≡ breaks x)
-    → (d : ℕ) → verdict (wants d) i (drop i s) ≡ breaks x
-sum-broken {s} {i} {w} {next} p e f d = past-part p d ∙ ap (verdict (A.has d) next) (from-byte s next 123 e) ∙ verdict-or d next (drop (next + 1) s) ∙ f d
-
 -- ---- the whole text
-
-close-dies : (c : ℕ) → T (stops sum c) → step (A.has 0) c ≡ dead
-unfolding step stops
-close-dies c t = rw (T→false (eqb c 38 || eqb c 124) t) (either (eqb c 41))
-  where
-    either : (b : Bool) → cond b dead dead ≡ dead
-    either true = refl
-    either false = refl
-
--- a sum that ends before the text breaks it there: nothing is open that `)` could close
-pub sum-short : {s : List ℕ} {w : Truths} {next : ℕ} → Parsed sum s 0 w next → next < length s → verdict (wants 0) 0 s ≡ breaks next
-sum-short {s} {w} {next} p l =
-    past-part p 0 ∙ breaks-here (A.has 0) s next (λ h. close-dies (getD s next 0) (p .stopped)) (λ h. absurd (omega arith))
 
 pub sum-whole : {s : List ℕ} {w : Truths} {next : ℕ} (p : Parsed sum s 0 w next) → length s ≤ next → text (p .sentence) ≡ s
 sum-whole {s} {w} {next} p l = sym (p .spans ∙ ap (λ (t : List ℕ). text (p .sentence) ++ t) (drop-of-length-le s l) ∙ append-nil (text (p .sentence)))

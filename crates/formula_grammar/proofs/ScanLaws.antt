@@ -55,6 +55,11 @@ pub past-none : (n c : ℕ) → isLetter c ≡ false → false ≡ isPast n c
 unfolding isPast
 past-none n c e = rw e
 
+-- no byte is both stray and a letter
+pub not-both : (n c : ℕ) → T (isStray c) → T (isPast n c) → ⊥
+unfolding isStray isPast
+not-both n c h k = both (isLetter c || isSign c) (or-left (isLetter c) (isSign c) (and-left (isLetter c) (leb (97 + n) c) k)) h
+
 -- no foreign byte among the first i
 abbrev pub CleanTo : ℕ → List ℕ → ℕ → Type 0
 CleanTo n s i = (j : ℕ) → j < i → Foreign n s j → ⊥

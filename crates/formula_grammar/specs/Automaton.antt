@@ -61,7 +61,12 @@ pub record Parsed (k : Kind) (s : List ℕ) (i : ℕ) (w : Truths) (next : ℕ) 
   pub holds : WordsOf w (meaning sentence)
   pub stopped : T (stops k (getD s next 0))
 
--- what a reader of the given kind finds at place i: a part, or the place where no sentence goes on, however many brackets are open
+-- no part of the given kind stands at place i, whatever it would be, and p is the place where no sentence goes on, however many brackets are open
+pub record NoPart (k : Kind) (s : List ℕ) (i p : ℕ) : Type 0 where
+  pub none : (sentence : Sentence k) (rest : List ℕ) → drop i s ≡ text sentence ++ rest → T (stops k (getD rest 0 0)) → ⊥
+  pub broken : (d : ℕ) → verdict (wants d) i (drop i s) ≡ breaks p
+
+-- what a reader of the given kind finds at place i: a part, or that there is none
 abbrev pub Parses : Kind → List ℕ → ℕ → Part → Type 0
 Parses k s i (Read w next) = Parsed k s i w next
-Parses k s i (Broken p) = (d : ℕ) → verdict (wants d) i (drop i s) ≡ breaks p
+Parses k s i (Broken p) = NoPart k s i p

@@ -66,11 +66,11 @@ pub fn sum(text: &[u8], at: usize) -> Part
 {
     match product(text, at) {
         Part::Broken(i) => Part::Broken(i),
-        Part::Read(w, next) => {
-            if peek(text, next) != b'|' {
-                return Part::Read(w, next);
+        Part::Read(w, after) => {
+            if peek(text, after) != b'|' {
+                return Part::Read(w, after);
             }
-            match sum(text, next + 1) {
+            match sum(text, after + 1) {
                 Part::Broken(i) => Part::Broken(i),
                 Part::Read(more, end) => Part::Read(w.or(more), end),
             }

@@ -1,2 +1,3 @@
--- The two words bit by bit.
+-- The two words bit by bit, and what settles the contracts.
 pub mod TwoWords
+pub mod Unique

@@ -1,7 +1,8 @@
 -- `sentence` meets its contract: the sum that begins the text ends with it, or the text breaks.
 use native.Mathlib.Omega.{arith}
 use Rattle.formula_grammar.specs.Grammar as G
-use Rattle.formula_grammar.proofs.PartLaws.{as-read, as-broken, sum-short}
+use Rattle.formula_grammar.proofs.PartLaws.{as-read}
+use Rattle.formula_grammar.proofs.BrokenLaws.{as-broken, sum-short}
 use Rattle.refusal.specs.declared.Refusal.the-variants.{NotSentence}
 use Rattle.formula.proofs.Answers.{refusal, broken, whole}
 use borrow.Author.Needs.{needs}
@@ -39,7 +40,7 @@ returns c =
     let s = start .args .text .now in
     let i = after-i .i .given in
     refusal n s (NotSentence (i .0 .0)) (c .refused .ensures)
-    (broken n s (start .pre .0) (start .pre .1) (start .pre .2) (i .0 .0) (as-broken G.sum s 0 (i .1) (after-sum .sum .ensures) 0))
+    (broken n s (start .pre .0) (start .pre .1) (start .pre .2) (i .0 .0) (as-broken G.sum s 0 (i .1) (after-sum .sum .ensures) .broken 0))
 
 returns-2 : tie.Need-returns-2
 returns-2 c =

@@ -1,13 +1,13 @@
 -- The cycle of the three readers meets its contracts. What is left of the text falls with each byte that is passed; at one place a sum calls a product and a
--- product a unit, so the measure is three times what is left, plus 2 for a sum and 1 for a product. Each return is a law of PartLaws.
+-- product a unit, so the measure is three times what is left, plus 2 for a sum and 1 for a product. Each return is a law of PartLaws or BrokenLaws.
 use mathlib.Core.Path.{sym, _∙_}
 use borrow.Author.Needs.{needs}
 use native.Mathlib.Omega.{arith}
 use Prim.Native.Nat.{_+_, _-_, _*_}
 use lib.ListN.{length}
 use Rattle.formula_grammar.specs.Grammar as G
-use Rattle.formula_grammar.proofs.PartLaws.{as-read, as-broken, inside, negated-read, negated-broken, bracketed-read, bracketed-broken}
-use Rattle.formula_grammar.proofs.PartLaws.{unclosed, product-one, product-more, product-broken, sum-one, sum-more, sum-broken}
+use Rattle.formula_grammar.proofs.PartLaws.{as-read, inside, negated-read, bracketed-read, product-one, product-more, sum-one, sum-more}
+use Rattle.formula_grammar.proofs.BrokenLaws.{as-broken, negated-broken, bracketed-broken, unclosed, no-unit, no-product, product-broken, sum-broken}
 use Prim.Native.Nat.{ℕ, _<_}
 use borrow.Fn.Kinds.{In}
 use borrow.Fn.PlainCycle.{Measures, is, falls, and}
@@ -135,7 +135,7 @@ product-returns-2 t c =
     let after-unit : product-lts.After-unit (product-claims t) (product-at t) product.Post = search in
     let start : product-lts.Start (product-claims t) (product-at t) product.Post = search in
     let args = start .args in
-    as-broken G.unit (args .text .now) (args .at) (c .before .i .given .1) (after-unit .unit .ensures)
+    no-unit (as-broken G.unit (args .text .now) (args .at) (c .before .i .given .1) (after-unit .unit .ensures))
 
 product-returns-3 : (t : ℕ) → product-lts.Need-returns-3 (product-claims t) (product-at t) product.Post
 product-returns-3 t c =
@@ -226,7 +226,7 @@ sum-returns-2 t c =
     let after-product : sum-lts.After-product (sum-claims t) (sum-at t) sum.Post = search in
     let start : sum-lts.Start (sum-claims t) (sum-at t) sum.Post = search in
     let args = start .args in
-    as-broken G.product (args .text .now) (args .at) (c .before .i .given .1) (after-product .product .ensures)
+    no-product (as-broken G.product (args .text .now) (args .at) (c .before .i .given .1) (after-product .product .ensures))
 
 sum-returns-3 : (t : ℕ) → sum-lts.Need-returns-3 (sum-claims t) (sum-at t) sum.Post
 sum-returns-3 t c =

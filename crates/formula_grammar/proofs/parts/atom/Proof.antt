@@ -4,7 +4,8 @@ use mathlib.Core.Path.{sym, ap, _∙_}
 use native.Mathlib.Omega.{arith}
 use Rattle.formula_grammar.specs.Signs.{isLetter}
 use Rattle.formula_grammar.proofs.ScanLaws.{letter-low, letter-small}
-use Rattle.formula_grammar.proofs.PartLaws.{inside, beyond, nought-read, one-read, letter-read, no-atom}
+use Rattle.formula_grammar.proofs.PartLaws.{inside, beyond, nought-read, one-read, letter-read}
+use Rattle.formula_grammar.proofs.BrokenLaws.{no-atom}
 use Rattle.formula_grammar.proofs.parts.atom.Statement.{statement}
 use Rattle.formula_grammar.proofs.parts.atom.Tie as tie
 
