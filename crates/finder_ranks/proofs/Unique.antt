@@ -11,6 +11,8 @@ use Rattle.ground.proofs.Bools.{lt-or-ge}
 use Rattle.finder_ranks.specs.Ranks.{rank}
 use Rattle.finder_ranks.specs.Fills.{RankTable, FillsRanks, RanksFit}
 use Rattle.finder_ranks.proofs.Stages.{lowers-within}
+use Rattle.finder_ranks.proofs.counts.numbers.Reads as numbers
+use Rattle.finder_ranks.proofs.apart.side_of.Reads as side-of
 
 module _ {n : ℕ} {made learnt : List ℕ} {set look : List (List ℕ)} {before a b : List ℕ}
     (x : RankTable n made learnt set look before a) (y : RankTable n made learnt set look before b) where
@@ -45,10 +47,17 @@ room-or n t = elim (lt-or-ge 0 n) [
   ]
 ]
 
--- what `fill_ranks` leaves is settled
+-- `fill_ranks`: all of the table
 pub fills-unique : {n : ℕ} {made learnt : List ℕ} {set look : List (List ℕ)} {before a b : List ℕ}
     → FillsRanks n made learnt set look before a → FillsRanks n made learnt set look before b → a ≡ b
 fills-unique {n} {before = before} x y = elim (room-or n before) [
   | inl r ↦ table-unique (x .filled r) (y .filled r)
   | inr r ↦ x .kept r ∙ sym (y .kept r)
 ]
+
+-- the two that are lent nothing to write to, by their own contracts, as the check reads them, `Post`
+pub numbers-unique : (κs : _) (a : _) (x y : _) (s : _) → numbers.Post κs a x s → numbers.Post κs a y s → x ≡ y
+numbers-unique κs a x y s p q = p ∙ sym q
+
+pub side-of-unique : (κs : _) (a : _) (x y : _) (s : _) → side-of.Post κs a x s → side-of.Post κs a y s → x ≡ y
+side-of-unique κs a x y s p q = p ∙ sym q

@@ -11,6 +11,7 @@ use Rattle.ground.proofs.Bits.{same-bits}
 use Rattle.ground.proofs.Bools.{lt-or-ge}
 use Rattle.book_block.specs.declared.rule.Right.{Right}
 use Rattle.finder_sides.specs.Tables.{entry, PostTables, SideTable}
+use Rattle.finder_sides.proofs.counts.up_to_seven.Reads as up-to-seven
 
 -- `made` and `learnt`
 pub side-table-unique : {n : ℕ} {f : ℕ → Bool} {t u : List ℕ} → SideTable n f t → SideTable n f u → t ≡ u
@@ -37,3 +38,7 @@ module _ {n team : ℕ} {book : List ℕ} {right : Right} {t u : List (List ℕ)
 
   pub posts-unique : t ≡ u
   posts-unique = ext-getD [] t u (a .settings ∙ sym (b .settings)) (λ i l. same-row i (omega (arith, a .settings)))
+
+-- `up_to_seven`, by its own contract, as the check reads it, `Post`
+pub up-to-seven-unique : (κs : _) (a : _) (x y : _) (s : _) → up-to-seven.Post κs a x s → up-to-seven.Post κs a y s → x ≡ y
+up-to-seven-unique κs a x y s p q = p ∙ sym q

@@ -1,4 +1,5 @@
--- The contract of `marks_of` settles its answer: words are names or not, and masks with the same bits are the same number.
+-- Every public function's contract settles its answer. Of `marks_of`: words are names or not, and masks with the same bits are the same number. The others
+-- are equations; each theorem speaks of the function's own contract, as the check reads it, `Post`. Nothing is lent to be written to.
 use mathlib.Core.Path.{_≡_, refl, sym, ap, ap₂, _∙_}
 use mathlib.Core.Bool.{Bool, true, false}
 use mathlib.Core.List.{List}
@@ -11,6 +12,9 @@ use Rattle.sheet_words.specs.Marks.{Marked, Names}
 use Rattle.sheet_words.specs.declared.names.Marks.{Marks}
 use Rattle.sheet_words.specs.declared.names.Naming.{Naming}
 use Rattle.sheet_words.specs.declared.names.Naming.the-variants.{Stray, Of}
+use Rattle.sheet_words.proofs.piece_end.Reads as piece-end
+use Rattle.sheet_words.proofs.begins.Reads as begins
+use Rattle.sheet_words.proofs.among.Reads as among
 
 pub mask-one : (a b : ℕ) → ((i : ℕ) → bit a i ≡ bit b i) → a ≡ b
 mask-one a b f =
@@ -29,3 +33,12 @@ module _ (first : ℕ) (words : List (List ℕ)) where
   pub names-one : (are : Bool) (x y : Naming) → Names are first words x → Names are first words y → x ≡ y
   names-one true (Of m) (Of k) p q = ap Of (marks-one m k p q)
   names-one false Stray Stray p q = refl
+
+pub piece-end-unique : (κs : _) (a : _) (x y : _) (s : _) → piece-end.Post κs a x s → piece-end.Post κs a y s → x ≡ y
+piece-end-unique κs a x y s p q = p ∙ sym q
+
+pub begins-unique : (κs : _) (a : _) (x y : _) (s : _) → begins.Post κs a x s → begins.Post κs a y s → x ≡ y
+begins-unique κs a x y s p q = p ∙ sym q
+
+pub among-unique : (κs : _) (a : _) (x y : _) (s : _) → among.Post κs a x s → among.Post κs a y s → x ≡ y
+among-unique κs a x y s p q = p ∙ sym q
