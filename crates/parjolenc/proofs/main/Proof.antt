@@ -15,11 +15,11 @@ read-all-requires c κs = search needs
 enum-told : tie.Need-enum-told
 enum-told c = search needs
 
-slice-aggregate-fail : tie.Need-slice-aggregate-fail
-slice-aggregate-fail c = search needs
+slice-aggregate-trouble : tie.Need-slice-aggregate-trouble
+slice-aggregate-trouble c = search needs
 
-fail-requires : tie.Need-fail-requires
-fail-requires c κs = search needs
+trouble-requires : tie.Need-trouble-requires
+trouble-requires c κs = search needs
 
 enum-known-length : tie.Need-enum-known-length
 enum-known-length c = search needs
@@ -52,8 +52,8 @@ main-spec =
     slice-aggregate-read-all
     read-all-requires
     enum-told
-    slice-aggregate-fail
-    fail-requires
+    slice-aggregate-trouble
+    trouble-requires
     enum-known-length
     array-share-prefix-sheet
     slice-aggregate-print

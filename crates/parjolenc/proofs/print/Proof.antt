@@ -24,11 +24,22 @@ slice-aggregate-write-all c =
 write-all-requires : tie.Need-write-all-requires
 write-all-requires c κs = search needs
 
-slice-aggregate-fail : tie.Need-slice-aggregate-fail
-slice-aggregate-fail c = search needs
+array-share-prefix-out-2 : tie.Need-array-share-prefix-out-2
+array-share-prefix-out-2 c = let asked : tie.After-answer = search in omega (arith, answer-most _ _ _ _ (asked .answer .ensures))
 
-fail-requires : tie.Need-fail-requires
-fail-requires c κs = search needs
+slice-aggregate-tell : tie.Need-slice-aggregate-tell
+slice-aggregate-tell c =
+    let asked : tie.After-answer = search in
+    sym (length-take-le _ _ (omega (arith, answer-most _ _ _ _ (asked .answer .ensures))))
+
+tell-requires : tie.Need-tell-requires
+tell-requires c κs = search needs
+
+slice-aggregate-trouble : tie.Need-slice-aggregate-trouble
+slice-aggregate-trouble c = search needs
+
+trouble-requires : tie.Need-trouble-requires
+trouble-requires c κs = search needs
 
 returns : tie.Need-returns
 returns c = search needs
@@ -45,7 +56,10 @@ print-spec =
     array-share-prefix-out
     slice-aggregate-write-all
     write-all-requires
-    slice-aggregate-fail
-    fail-requires
+    array-share-prefix-out-2
+    slice-aggregate-tell
+    tell-requires
+    slice-aggregate-trouble
+    trouble-requires
     returns
     returns-2)

@@ -1,0 +1,2 @@
+# help: what there is.
+cat "$home/command/help.txt" || exit 3

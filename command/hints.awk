@@ -1,0 +1,151 @@
+# hints.awk: what is wrong with a text that was refused, in words and with its place, as far as the text shows it. Help, and
+# no promise: the proved line on standard output says what is so. Settings: kind (sheet, rules, question or plan), name (the
+# file's), number and line of the answer, place (the refusal's own: of a formula the byte, from 0), unended (1 where the text's
+# last byte is no newline); n and m where a book has the size.
+
+# hint TEXT: the one line, and the end.
+function hint(text) {
+    printf "parjolenc: %s%s: %s\n", name, (line > 0 ? ", line " line : ""), text
+    exit
+}
+
+# the sign of the last setting, and the digit of the last post
+function letter(i) { return substr("abcdefg", i, 1) }
+
+# shown C: a byte as a person sees it.
+function shown(c,   i) {
+    if (c == " ") return "a space"
+    if (c == "\t") return "a tab"
+    if (c == "\r") return "a carriage return"
+    if (c ~ /[!-~]/) return "'" c "'"
+    return "a byte that is no sign of ASCII"
+}
+
+# passed TEXT: a line that rules and questions pass over.
+function passed(text) { return (kind == "rules" || kind == "question") && (text == "" || text ~ /^#/) }
+
+# word TEXT: the first word of a line.
+function word(text) { return text ~ / / ? substr(text, 1, index(text, " ") - 1) : text }
+
+# front TEXT: where the formula of a line begins, counted from 1; 0 where the line has none.
+function front(text) {
+    if (text ~ /^make /) return 6
+    if (text ~ /^ask /) return 5
+    if (text ~ /^read [a-g] [1-8] /) return 10
+    if (text ~ /^write [a-g] [1-8] /) return 11
+    return 0
+}
+
+# due: the lines that may stand where the fault is, by those before it.
+function due(   w) {
+    w = kind == "question" ? "" : last
+    if (kind == "plan") return line == 1 ? "'reach H'" : "a plan's line, 'DEPTH stop', 'DEPTH look P G' or 'DEPTH set P G V'"
+    if (kind == "question" && last == "") return "'team G ..'"
+    if (last == "") return "'size N M', N from 1 to " (kind == "sheet" ? 5 : 7) " and M from 1 to 8"
+    if (last == "size" || last == "read" || last == "write")
+        return kind == "rules" ? "'read P G F' or 'write P G F', or the end" : "'read P G F', 'write P G F' or 'team G ..'"
+    if (last == "team") return "'known', with settings or alone"
+    if (last == "known") return "'make F'"
+    return asks < 4 ? "'ask F', or the end" : "the end, after four 'ask' lines"
+}
+
+# twice TEXT: the first name that a line has twice.
+function twice(text,   i, count, names, seen, sign) {
+    count = split(text, names, " ")
+    for (i = 2; i <= count; i++) {
+        sign = names[i]
+        sub(/^~/, "", sign)
+        if (sign in seen) return sign
+        seen[sign] = 1
+    }
+    return ""
+}
+
+# past TEXT: the first sign outside a formula that is past the size, in words.
+function past(text,   i, count, names, sign) {
+    if (text ~ /^(read|write) /) {
+        split(text, names, " ")
+        if (names[2] ~ /^[a-g]$/ && index("abcdefg", names[2]) > n) return "setting " names[2] " is past the size: the last of " n " is " letter(n)
+        if (names[3] ~ /^[1-9]$/ && names[3] > m) return "post " names[3] " is past the size, which has " m
+    }
+    if (text ~ /^(team|known) /) {
+        count = split(text, names, " ")
+        for (i = 2; i <= count; i++) {
+            sign = names[i]
+            if (text ~ /^team / && sign ~ /^[1-9]$/ && sign > m) return "post " sign " is past the size, which has " m
+            sub(/^~/, "", sign)
+            if (text ~ /^known / && sign ~ /^[a-g]$/ && index("abcdefg", sign) > n) return "setting " sign " is past the size: the last of " n " is " letter(n)
+        }
+    }
+    return ""
+}
+
+# malformed: 22, at a line of the text or one past it.
+function malformed(   text, at, what) {
+    if (line > lines) {
+        if (lines == 0) hint("the text is empty; due is " due())
+        hint("the text ends here; due is " due())
+    }
+    text = all[line]
+    if (line == 1 && text ~ /^\357\273\277/) hint("the file begins with a byte order mark; save it without one")
+    if (text ~ /\r$/) hint("the line ends in a carriage return; lines end in byte 10 alone")
+    if (text == "" && line == lines) hint("an empty line at the end")
+    if (text == "") hint("an empty line; due is " due())
+    at = index(text, "\t")
+    if (at > 0) hint("a tab in column " at ", where words are split by one space")
+    if (unended && line == lines) hint("the last line has no byte 10 at its end")
+    if (kind == "sheet" && text ~ /^#/) hint("a sheet has no comments; rules and question files may have lines that begin with #")
+    if (tolower(word(text)) ~ /^(size|read|write|team|known|make|ask|reach)$/ && word(text) != tolower(word(text))) hint("capitals: the word is '" tolower(word(text)) "'")
+    if (text ~ /^ /) hint("a space before the first word")
+    at = front(text) == 0 ? match(text, /  /) : 0
+    if (at > 0) hint("two spaces in column " at ", where words are split by one")
+    if (front(text) == 0 && text ~ / $/) hint("a space at the end of the line")
+    what = past(text)
+    if (what != "") hint(what)
+    if (text ~ /^(read|write|team|known) .*[A-G]/ && front(text) == 0) hint("capitals: settings are small letters")
+    if (word(text) == "size" && kind == "question") hint("a question has no 'size' line: the book has the size")
+    if (text ~ /^(read|write) / && kind == "question") hint("a question has no rights: the book has them")
+    hint("due here is " due())
+}
+
+# formula: 1 to 5, with the column in the line.
+function formula(   text, at, c) {
+    text = all[line]
+    at = front(text) + place
+    c = substr(text, at, 1)
+    if (number == 1 && length(text) < front(text)) hint("the formula is empty")
+    if (number == 1) hint("the formula has " length(text) - front(text) + 1 " bytes; it may have 255")
+    if (number == 2 && c ~ /[A-G]/) hint("column " at ": capital " c "; settings are small letters")
+    if (number == 2) hint("column " at ": " shown(c) ", which no formula has")
+    if (number == 3) hint("column " at ": setting " c " is past the size" (n > 0 ? ": the last of " n " is " letter(n) : ""))
+    if (number == 4 && at > length(text)) hint("column " at ": the formula ends too soon")
+    if (number == 4) hint("column " at ": " shown(c) " cannot stand here in a formula")
+    hint("the formula is refused")
+}
+
+# named_twice: 23.
+function named_twice(   text, key, i) {
+    text = all[line]
+    if (text ~ /^(read|write) /) {
+        key = substr(text, 1, front(text) - 1)
+        for (i = 1; i < line; i++) if (substr(all[i], 1, length(key)) == key) hint("this right is stated in line " i " already")
+    }
+    hint((text ~ /^team/ ? "post " : "setting ") twice(text) " is named twice")
+}
+
+{ all[NR] = $0 }
+
+END {
+    lines = NR
+    for (i = 1; i < line && i <= lines; i++) {
+        if (passed(all[i])) continue
+        last = word(all[i])
+        if (last == "ask") asks++
+        if (last == "size") { split(all[i], words, " "); n = words[2]; m = words[3] }
+    }
+    if (number == 22) malformed()
+    if (number == 23) named_twice()
+    if (number == 24) hint("the text is too long: it may have " (kind == "sheet" ? "32,768" : kind == "plan" ? "524,288" : "65,536") " bytes")
+    if (number == 25) hint("a sheet has up to 5 settings")
+    if (number >= 1 && number <= 5) formula()
+}

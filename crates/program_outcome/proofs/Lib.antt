@@ -1,0 +1,2 @@
+-- The outcome of each of the three answers.
+pub mod Answers
