@@ -9,8 +9,9 @@ use lib.Dec.{eqb}
 use lib.ListN.{length, getD, drop}
 use lib.Seq.{drop-cons, drop-length}
 use borrow.Author.Tests.{eq-eqb, ne-eqb}
+use Rattle.ground.specs.Text.{byte}
 use Rattle.ground.proofs.Bools.{lt-or-ge}
-use Rattle.sheet_words.specs.Words.{begins}
+use Rattle.sheet_words.specs.Words.{begins, passedOver}
 
 pub begins-step : (w s : List ℕ) (i : ℕ) → i < length w → i < length s
     → begins (drop i w) (drop i s) ≡ (eqb (getD w i 0) (getD s i 0) && begins (drop (suc i) w) (drop (suc i) s))
@@ -41,3 +42,14 @@ begins-whole w s i h k = let e : i ≡ length w = omega arith in ap (λ (t : Lis
 
 pub begins-length : (w s : List ℕ) → begins w s ≡ true → length w ≤ length s
 begins-length w s e = elim (lt-or-ge (length s) (length w)) [ inl h ↦ (let z : true ≡ false = sym e ∙ begins-short w s h in let y : _≡_ {A = ℕ} 0 1 = cc in omega arith) | inr h ↦ h ]
+
+-- a line that is passed over, by its length and its first byte
+pub passed-empty : (s : List ℕ) → length s ≡ 0 → true ≡ passedOver s
+unfolding passedOver
+passed-empty [] h = refl
+passed-empty (c ∷ s) h = absurd (omega (arith, h))
+
+pub passed-first : (s : List ℕ) → (length s ≡ 0 → ⊥) → eqb (getD s 0 0) (byte "#") ≡ passedOver s
+unfolding passedOver
+passed-first [] h = absurd (h refl)
+passed-first (c ∷ s) h = refl

@@ -40,6 +40,11 @@ begins [] line = true
 begins (c ∷ w) [] = false
 begins (c ∷ w) (d ∷ line) = eqb c d && begins w line
 
+-- "lines that begin with `#` and empty lines are passed over", where a text may have such lines
+unfoldable pub passedOver : List ℕ → Bool
+passedOver [] = true
+passedOver (c ∷ line) = eqb c (byte "#")
+
 -- ---- names
 
 -- c is one of the `count` signs from `first` on

@@ -7,7 +7,7 @@ pub use names::Marks;
 pub use names::Naming;
 pub use names::marks_of;
 ghost use mathlib.Core.Path.{_≡_};
-ghost use Rattle.sheet_words.specs.Words.{pieceEnd, begins, among};
+ghost use Rattle.sheet_words.specs.Words.{pieceEnd, begins, passedOver, among};
 
 // Where the piece that begins at `at` ends: the place of the next mark, or the text's end; `at` itself
 // where that is past the end.
@@ -39,6 +39,16 @@ pub fn begins(word: &[u8], line: &[u8]) -> bool
         i += 1;
     }
     true
+}
+
+// Whether the line is passed over where a text may have comments: it is empty, or begins with `#`.
+pub fn passed_over(line: &[u8]) -> bool
+    ensures { λ r. ⌜ r ≡ passedOver (now (line .entry)) ⌝ }
+{
+    if line.len() == 0 {
+        return true;
+    }
+    line[0] == b'#'
 }
 
 // Whether c is one of the `count` signs from `first` on.
