@@ -1,13 +1,30 @@
-// The C interface of Parjolenc. Link with target/staticlib/libexports.a, for x86-64 (`rt staticlib exports` writes it).
+// The C interface of Parjolenc, version 1.0, for x86-64 Linux: what a host has to know stands in this file.
 //
-// A slice is a pointer and a length. Nothing has to be checked first: bytes and lengths of any kind are answered, and
-// nothing but the lent bytes is written. What a caller owes is what C asks of any pointer: the bytes are there for
-// the time of the call, a pointer is not null even where its length is 0, and a slice that is lent to be written
-// overlaps no other.
+// `rt staticlib exports` writes the library. A program is compiled with it by the ordinary line, in C99 or C++11:
 //
-// A table is 16 bytes: bit v of it, lowest first, is the formula's truth where the settings are the bits of v.
-// `team` has bit q for the post with digit q + 1; `known` has bit i for the setting with letter i from a on, and
-// `values` the same bit where it is known to be true. The learn tables, 0 to 4, stand one after the other.
+//     cc -std=c99 -Wall -Iinclude program.c target/staticlib/libexports.a
+//
+// WORDS. A book has n settings, with indexes 0 to n - 1 and letters a to g, and m posts, with indexes 0 to m - 1 and
+// digits 1 to 8. For each setting and post it has two rules: where the post may look at the setting, and where it may
+// set it. A rule is a formula over the settings. A question is a book, a team of posts, what the team knows at the
+// start, and a goal: a make formula that is to hold in the end, and learn formulas whose truth at the start is to be
+// known in the end. The answer is a plan with the least height, or "cannot".
+//
+// A table is 16 bytes: bit v mod 8 of byte v / 8, lowest first, is the formula's truth where setting i is bit i of v.
+// Bits at or past 2^n are 0. `team` has bit q for the post with index q; `known` has bit i for setting i, and `values`
+// the same bit where it is known to be true. The learn tables, 0 to 4, stand one after the other. Where there is
+// nothing to make, the make formula is `1`.
+//
+// WHAT A CALLER OWES. A slice is a pointer and a length. Nothing has to be checked first: bytes and lengths of any kind
+// are answered, and nothing but the lent bytes is written. What is owed is what C asks of any pointer: the bytes are
+// there for the time of the call, and bytes that are lent to be written are in no other slice of the call.
+//   - Alignment: none. All that is lent is bytes.
+//   - Null: a pointer whose length is 0 may be null, and is not followed. No theorem speaks of addresses: it is so
+//     because the compiler is told of no pointer that it is not null, and tests/host lends null for each slice.
+//     `table` of pj_formula_read has no length: it is never null.
+//   - Threads: the library has no variable of its own, keeps nothing between calls and calls memcpy and memset alone.
+//     Any number of calls may run at once, where what one of them writes is lent to no other.
+//   - Memory: none is taken but the stack, by each function at most what PJ_STACK below says.
 #ifndef PARJOLENC_H
 #define PARJOLENC_H
 
@@ -15,28 +32,194 @@
 extern "C" {
 #endif
 
+// The version of this interface, and not of what is behind it. The first number grows where a program that was
+// written for the header before it would not compile or would mean something else, the second where something is added.
+#define PJ_VERSION_FIRST 1
+#define PJ_VERSION_SECOND 0
+#define PJ_VERSION (100 * PJ_VERSION_FIRST + PJ_VERSION_SECOND)
+#define PJ_VERSION_TEXT "1.0"
+
 typedef unsigned char pj_u8;
 typedef unsigned long long pj_u64;
 
-// A refusal is second × 2^40 + number × 2^32 + place, and a success is below 2^32: `pj_number` is 0 for a success. What
-// each number means, and what it leaves in the lent bytes, is the list "Every refusal" of docs/CONTRACTS.md.
+// ---- results
+
+// A refusal is second × 2^40 + number × 2^32 + place, and a success is below 2^32: `pj_number` is 0 for a success.
 // `pj_second` is one more than a refusal's second number, and 0 where it has none; none has one yet.
 static inline pj_u64 pj_number(pj_u64 result) { return (result >> 32) & 0xff; }
 static inline pj_u64 pj_second(pj_u64 result) { return result >> 40; }
 static inline pj_u64 pj_place(pj_u64 result) { return result & 0xffffffff; }
 
+// A success of pj_book_read: n and m.
+static inline pj_u64 pj_settings(pj_u64 result) { return result >> 8; }
+static inline pj_u64 pj_posts(pj_u64 result) { return result & 0xff; }
+
 // A success of pj_find: 0 is "cannot", and any other the plan's height and its length in bytes.
 static inline pj_u64 pj_height(pj_u64 result) { return result >> 16; }
 static inline pj_u64 pj_length(pj_u64 result) { return result & 0xffff; }
 
+// The numbers of the refusals, and when each is given: the words of docs/CONTRACTS.md, "Every refusal", which names the
+// definitions. Of several the first is given, in this order: pj_formula_read 5, 1, the lowest place of 2 or 3, 4;
+// pj_book_read 6, 7, 8, 9, 15; pj_book_write 5, 8, 6, 9, 15; pj_find 6 to 14; pj_plan_check 6 to 12, 16, then the
+// first of 17 to 21 as the plan is read. pj_sheet prints 1 to 4 and 22 to 25, with the sheet's line as the place.
+// The place is 0 where none is named in brackets.
 enum {
-    PJ_TABLE = 16,          // bytes of a formula's table
-    PJ_BLOCK = 512,         // bytes of a block: a book of n settings has 1 + n of them
-    PJ_TABLES = 256,        // bytes of a setting's rights
-    PJ_RANKS_MOST = 823543, // 7^7: rank bytes of seven settings; n settings have 7^n
-    PJ_PLAN_MOST = 32640,   // the most bytes of a plan
-    PJ_ANSWER_MOST = 28234  // the most bytes that pj_sheet's answer has
+    // The formula has no byte or more than 255.
+    PJ_REFUSED_FORMULA_LENGTH = 1,
+    // A byte of the formula is none of `a` to `g`, `0`, `1`, `~`, `&`, `|`, `(` and `)`. [its index]
+    PJ_REFUSED_STRAY_BYTE = 2,
+    // A letter of the formula is that of a setting at or past n. [its index]
+    PJ_REFUSED_LETTER_PAST = 3,
+    // The formula's text is no sentence. [least i where the first i + 1 bytes begin none; else the length]
+    PJ_REFUSED_NOT_SENTENCE = 4,
+    // The n that a formula is read for or a book is written for is not 1 to 7.
+    PJ_REFUSED_SETTINGS = 5,
+    // The book is not 2 to 8 whole blocks of 512 bytes, or the rights to write are not 256 × n bytes.
+    PJ_REFUSED_BOOK_LENGTH = 6,
+    // The check of a block is not the check of its bytes. [the block, head 0]
+    PJ_REFUSED_CHECK = 7,
+    // The head's n is not the count of blocks less one, m is not 1 to 8, or another byte of the head is not 0.
+    PJ_REFUSED_HEAD = 8,
+    // The block or the rights of a setting have a bit of a post at or past m, of a valuation at or past 2^n, or after
+    // the tables. [the block, 1 to n]
+    PJ_REFUSED_STRAY_BIT = 9,
+    // The team has no post, or one at or past m.
+    PJ_REFUSED_TEAM = 10,
+    // A setting at or past n is known, or a value bit stands for a setting that is not known.
+    PJ_REFUSED_KNOWN = 11,
+    // The make table is not 16 bytes, the learn tables not 0 to 4 times 16, or one has a bit at or past 2^n.
+    PJ_REFUSED_GOAL = 12,
+    // The rank table has fewer than 7^n bytes.
+    PJ_REFUSED_RANK_ROOM = 13,
+    // The goal can be reached, and the plan is longer than the plan room.
+    PJ_REFUSED_PLAN_ROOM = 14,
+    // The room for rights has fewer than 256 × n bytes, or that for a book fewer than 512 × (1 + n).
+    PJ_REFUSED_ROOM = 15,
+    // The plan to check has more than 32,640 bytes.
+    PJ_REFUSED_PLAN_LENGTH = 16,
+    // A byte of the plan is above 168, or its setting is at or past n, or its post is not of the team. [its index]
+    PJ_REFUSED_NO_ACT = 17,
+    // The rule of an act is not known to hold where the act is due, or a look is at a setting of which a value is
+    // known. [its index]
+    PJ_REFUSED_NOT_PERMITTED = 18,
+    // The plan stops where the goal is not settled. [the stop's index]
+    PJ_REFUSED_NOT_SETTLED = 19,
+    // The bytes end before the plan does. [the length]
+    PJ_REFUSED_TOO_SOON = 20,
+    // A byte follows a whole plan. [its index]
+    PJ_REFUSED_LEFT_OVER = 21,
+    // A line of the sheet has not its form, is absent or is out of place. [the line]
+    PJ_REFUSED_MALFORMED = 22,
+    // A line of the sheet names a right, a post or a setting that was named already. [the line]
+    PJ_REFUSED_TWICE = 23,
+    // The sheet has more than 32,768 bytes.
+    PJ_REFUSED_SHEET_LENGTH = 24,
+    // The sheet's size has 6 or 7 settings, and the program takes 5. [1]
+    PJ_REFUSED_SHEET_SETTINGS = 25
 };
+
+// ---- sizes, in bytes where nothing else is said
+
+enum {
+    PJ_SETTINGS_MOST = 7,   // settings of a book
+    PJ_POSTS_MOST = 8,      // posts of a book
+    PJ_LEARN_MOST = 4,      // learn tables of a goal
+    PJ_FORMULA_MOST = 255,  // of a formula's text
+    PJ_TABLE = 16,          // of a formula's table
+    PJ_TABLES = 256,        // of a setting's rights
+    PJ_BLOCK = 512,         // of a block: a book of n settings has 1 + n of them
+    PJ_RIGHTS_MOST = 1792,  // of the rights of seven settings
+    PJ_BOOK_MOST = 4096,    // of a book of seven settings
+    PJ_RANKS_MOST = 823543, // of the ranks of seven settings: 7^7
+    PJ_PLAN_MOST = 32640,   // of a plan: 2^7 branches of 254 acts and a stop
+    PJ_SHEET_MOST = 32768,  // of a sheet
+    PJ_ANSWER_MOST = 28234  // of what pj_sheet prints
+};
+
+// The room that each function needs for n settings, 1 to 7. With rooms of these lengths 13, 14 and 15 are never given.
+// pj_formula_read writes a table, and pj_plan_check nothing; pj_sheet takes any room, and fits PJ_ANSWER_MOST.
+//   `rights` of pj_book_read, 256 × n, and `book` of pj_book_write, 512 × (1 + n): no less will do
+//   `plan` of pj_find, 2^n × (2^(n+1) - 1): no plan is longer, and room for the plan that is found will do
+//   `ranks` of pj_find, 7^n: no less will do
+#define PJ_RIGHTS_ROOM(n) (PJ_TABLES * (n))
+#define PJ_BOOK_ROOM(n) (PJ_BLOCK * (1 + (n)))
+#define PJ_PLAN_ROOM(n) ((1 << (n)) * ((2 << (n)) - 1))
+#define PJ_RANKS_ROOM(n) \
+    ((n) == 1 ? 7 : (n) == 2 ? 49 : (n) == 3 ? 343 : (n) == 4 ? 2401 : (n) == 5 ? 16807 : (n) == 6 ? 117649 : 823543)
+
+// Stack that a call takes at most, whatever its arguments, rounded up to 4,096 bytes. It is measured and not proved:
+// tests/host/stack.c paints a stack, calls the function where it goes deepest, and finds the lowest byte that changed.
+// On x86-64, with the library that kit 5b made on 2026-11-16, in the order below: 102,752 bytes (255 brackets: 400 each
+// and 752), 232, 200, 113,096 (a plan of height 254: 208 for each act and 60,264), 552, and 132,144 (a sheet with 255
+// brackets in a formula). The frames in the object code add up to the same on the deepest path. memcpy and memset are
+// counted, but the first call of one in a process takes more where the dynamic linker binds it then: 3,152 bytes were
+// seen, for which there is room.
+enum {
+    PJ_STACK_FORMULA_READ = 106496,
+    PJ_STACK_BOOK_READ = 4096,
+    PJ_STACK_BOOK_WRITE = 4096,
+    PJ_STACK_FIND = 114688,
+    PJ_STACK_PLAN_CHECK = 4096,
+    PJ_STACK_SHEET = 135168
+};
+
+// ---- rights and books
+
+// Where the 16 bytes of a rule's table begin, in rights and in a book: the rule of setting i for the post with index q,
+// to look (set is 0) or to set (set is 1). A rule that is not stated is 16 zeros: never.
+#define PJ_RIGHT(i, q, set) (PJ_TABLES * (i) + 2 * PJ_TABLE * (q) + PJ_TABLE * (set))
+#define PJ_RULE(i, q, set) (PJ_BLOCK * (1 + (i)) + 2 * PJ_TABLE * (q) + PJ_TABLE * (set))
+
+// A book's first block is the head: byte 0 is n, byte 1 is m. A setting's block has its 256 bytes of rights first. All
+// others are 0 up to byte 507; bytes 508 to 511 are the block's check, which pj_book_write makes.
+
+// ---- plans
+
+// A plan's bytes: a stop is 0; an act is its byte and what follows, after a look the plan where the setting was seen
+// false and then the plan where it was seen true. A byte's kind, and for an act (the first three) its setting and post:
+enum { PJ_SET_FALSE = 0, PJ_SET_TRUE = 1, PJ_LOOK = 2, PJ_STOP = 3, PJ_NO_KIND = 4 };
+static inline int pj_kind(pj_u8 byte) { return byte == 0 ? PJ_STOP : byte > 168 ? PJ_NO_KIND : (byte - 1) / 56; }
+static inline int pj_setting(pj_u8 byte) { return (byte - 1) / 8 % 7; }
+static inline int pj_post(pj_u8 byte) { return (byte - 1) % 8; }
+
+// The byte of an act.
+#define PJ_ACT(kind, setting, post) (1 + ((kind) * 7 + (setting)) * 8 + (post))
+
+// ---- knowledge
+
+// What a team knows of one setting is a digit, 0 to 6; of all settings it is the sum of digit × 7^i, the knowledge
+// number. `ranks` of pj_find has a byte for each: the least height of a plan from there, or 255 where there is none.
+//
+//     digit                                0        1        2      3      4      5      6
+//     the value at the start is      unknown  unknown  unknown  false  false   true   true
+//     the value now is               unknown    false     true  false   true  false   true
+enum { PJ_RANK_NONE = 255 };
+
+// 7^i, and the digit of setting i.
+static inline pj_u64 pj_seven(int i) { return i == 0 ? 1 : (pj_u64)PJ_RANKS_ROOM(i); }
+static inline int pj_digit(pj_u64 number, int i) { return (int)(number / pj_seven(i) % 7); }
+
+// The number with another digit of setting i.
+static inline pj_u64 pj_with_digit(pj_u64 number, int i, int digit) {
+    return number - (pj_u64)pj_digit(number, i) * pj_seven(i) + (pj_u64)digit * pj_seven(i);
+}
+
+// The number at the start of a question: 3 for a setting known to be false, 6 for one known to be true, 0 for others.
+static inline pj_u64 pj_start(pj_u8 known, pj_u8 values) {
+    pj_u64 number = 0;
+    for (int i = 0; i < PJ_SETTINGS_MOST; i++)
+        if (known >> i & 1) number += (values >> i & 1 ? 6 : 3) * pj_seven(i);
+    return number;
+}
+
+// The number after setting i was set to a value, and after a look at it that saw a value. A look is at digit 0 alone.
+static inline pj_u64 pj_after_set(pj_u64 number, int i, int value) {
+    int digit = pj_digit(number, i);
+    return pj_with_digit(number, i, (digit < 3 ? 1 : digit < 5 ? 3 : 5) + (value != 0));
+}
+static inline pj_u64 pj_after_look(pj_u64 number, int i, int value) { return pj_with_digit(number, i, value ? 6 : 3); }
+
+// ---- functions
 
 // The table of a formula over n settings. 0, or a refusal, which leaves the 16 bytes as they were.
 pj_u64 pj_formula_read(pj_u64 n, const pj_u8 *text, pj_u64 text_length, pj_u8 *table);
@@ -49,7 +232,7 @@ pj_u64 pj_book_write(pj_u64 n, pj_u64 m, const pj_u8 *rights, pj_u64 rights_leng
 
 // Whether the team can bring the goal about. Reach: height × 2^16 + the plan's length, the plan at the start of `plan`;
 // cannot: 0; or a refusal. But for refusals 6 to 13 the first 7^n bytes of `ranks` hold the rank of every knowledge
-// number; `plan` is written by reach alone.
+// number, for any start; `plan` is written by reach alone. Later bytes of both stay as they were.
 pj_u64 pj_find(const pj_u8 *book, pj_u64 book_length, pj_u8 team, pj_u8 known, pj_u8 values, const pj_u8 *make,
                pj_u64 make_length, const pj_u8 *learn, pj_u64 learn_length, pj_u8 *ranks, pj_u64 ranks_length,
                pj_u8 *plan, pj_u64 plan_length);
@@ -59,7 +242,8 @@ pj_u64 pj_plan_check(const pj_u8 *book, pj_u64 book_length, pj_u8 team, pj_u8 kn
                      pj_u64 make_length, const pj_u8 *learn, pj_u64 learn_length, const pj_u8 *plan,
                      pj_u64 plan_length);
 
-// What the program prints for a sheet, at the start of `out` as far as it fits; the length of all of it.
+// What the program prints for a sheet, at the start of `out` as far as it fits; the length of all of it. The rest of
+// `out` stays as it was. A refusal is printed: `refused NUMBER LINE`.
 pj_u64 pj_sheet(const pj_u8 *sheet, pj_u64 sheet_length, pj_u8 *out, pj_u64 out_length);
 
 #ifdef __cplusplus

@@ -1,0 +1,96 @@
+// How much stack each function takes where it goes deepest, against PJ_STACK of the header: not more, and less than a
+// page of 4,096 bytes below it. A stack is painted, the function is called on it, and the lowest byte that changed is
+// found; twice, with two paints, since a byte may be written with the paint itself. What is counted has the call of
+// the function in it, with its arguments.
+#include "tell.h"
+
+static pj_u8 stack[1 << 18] __attribute__((aligned(64)));
+static pj_u8 rights[PJ_RIGHTS_MOST], book[PJ_BOOK_MOST], ranks[PJ_RANKS_MOST], plan[PJ_PLAN_MOST], make[PJ_TABLE];
+static pj_u8 text[PJ_FORMULA_MOST], sheet[PJ_SHEET_MOST], out[PJ_ANSWER_MOST];
+static pj_u64 result, plan_length, sheet_length;
+
+// Calls f on the other stack. The called function keeps rbx, which holds the old stack's end.
+static void on_stack(void (*f)(void)) {
+    __asm__ volatile("movq %%rsp, %%rbx\n\tmovq %0, %%rsp\n\tcall *%1\n\tmovq %%rbx, %%rsp"
+                     :
+                     : "r"(stack + sizeof stack), "r"(f)
+                     : "rbx", "rax", "rcx", "rdx", "rsi", "rdi", "r8", "r9", "r10", "r11", "memory", "cc", "xmm0", "xmm1",
+                       "xmm2", "xmm3", "xmm4", "xmm5", "xmm6", "xmm7", "xmm8", "xmm9", "xmm10", "xmm11", "xmm12",
+                       "xmm13", "xmm14", "xmm15");
+}
+
+static pj_u64 taken(void (*f)(void)) {
+    pj_u64 most = 0;
+    for (int turn = 0; turn < 2; turn++) {
+        pj_u8 paint = turn == 0 ? 0xa5 : 0x5a;
+        fill(stack, sizeof stack, paint);
+        on_stack(f);
+        pj_u64 free_bytes = 0;
+        while (free_bytes < sizeof stack && stack[free_bytes] == paint) free_bytes++;
+        if (sizeof stack - free_bytes > most) most = sizeof stack - free_bytes;
+    }
+    return most;
+}
+
+static void formula_read(void) { result = pj_formula_read(7, text, sizeof text, make); }
+static void book_read(void) { result = pj_book_read(book, sizeof book, rights, sizeof rights); }
+static void book_write(void) { result = pj_book_write(7, 1, rights, sizeof rights, book, sizeof book); }
+static void find(void) {
+    result = pj_find(book, sizeof book, 1, 0, 0, make, PJ_TABLE, 0, 0, ranks, sizeof ranks, plan, sizeof plan);
+}
+static void plan_check(void) {
+    result = pj_plan_check(book, sizeof book, 1, 0, 0, make, PJ_TABLE, 0, 0, plan, plan_length);
+}
+static void sheet_answer(void) { result = pj_sheet(sheet, sheet_length, out, sizeof out); }
+
+static pj_u64 told(const char *name, void (*f)(void)) {
+    pj_u64 bytes = taken(f);
+    say_number(bytes);
+    say(" bytes of stack: ");
+    say(name);
+    say("\n");
+    return bytes;
+}
+
+static void holds(const char *name, void (*f)(void), pj_u64 bound) {
+    pj_u64 bytes = told(name, f);
+    test(name, bytes <= bound && bound < bytes + 4096);
+}
+
+static void below(const char *name, void (*f)(void), pj_u64 bound) { test(name, told(name, f) <= bound); }
+
+// A sheet of five settings with this make formula, 255 bytes of it alike.
+static void sheet_of(char byte) {
+    static const char begin[] = "size 5 8\nteam 1\nknown\nmake ";
+    for (unsigned i = 0; i < sizeof begin - 1; i++) sheet[i] = (pj_u8)begin[i];
+    fill(sheet + sizeof begin - 1, 255, (pj_u8)byte);
+    sheet[sizeof begin - 1 + 255] = '\n';
+    sheet_length = sizeof begin + 255;
+}
+
+int main(void) {
+    climb_rights(7, rights, make);
+    holds("pj_book_write, seven settings", book_write, PJ_STACK_BOOK_WRITE);
+    holds("pj_book_read, seven settings", book_read, PJ_STACK_BOOK_READ);
+    holds("pj_find, a plan of height 254", find, PJ_STACK_FIND);
+    test("which was found", pj_height(result) == 254);
+    plan_length = pj_length(result);
+    holds("pj_plan_check, the same plan", plan_check, PJ_STACK_PLAN_CHECK);
+    test("which is accepted", result == 0);
+
+    fill(text, sizeof text, '(');
+    holds("pj_formula_read, 255 brackets", formula_read, PJ_STACK_FORMULA_READ);
+    fill(text, sizeof text, '~');
+    below("pj_formula_read, 255 times ~", formula_read, PJ_STACK_FORMULA_READ);
+    for (unsigned i = 0; i < sizeof text; i++) text[i] = i % 2 == 0 ? 'a' : '&';
+    below("pj_formula_read, a product of 128 letters", formula_read, PJ_STACK_FORMULA_READ);
+    for (unsigned i = 0; i < sizeof text; i++) text[i] = (pj_u8) "~("[i % 2];
+    below("pj_formula_read, ~ and a bracket in turns", formula_read, PJ_STACK_FORMULA_READ);
+    for (unsigned i = 0; i < sizeof text; i++) text[i] = (pj_u8) "a|("[i % 3];
+    below("pj_formula_read, sums in brackets", formula_read, PJ_STACK_FORMULA_READ);
+
+    sheet_of('(');
+    holds("pj_sheet, a formula of 255 brackets", sheet_answer, PJ_STACK_SHEET);
+    test("which is refused", result == 12 && same_text(out, "refused 4 4\n"));
+    return closing();
+}
