@@ -26,7 +26,7 @@ use Rattle.formula.proofs.Unique.{accepts-clear}
 use Rattle.formula.proofs.Answers.{no-settings, no-length, foreign-at, broken}
 
 -- what an answer says of the rows
-abbrev Told : ℕ → List ℕ → Answer → Type 0
+abbrev pub Told : ℕ → List ℕ → Answer → Type 0
 Told n s Accepted = Clear (formulaRows n s)
 Told n s (Refused r) = First (formulaRows n s) r
 
@@ -113,7 +113,7 @@ length-within s = let a = leb 1 (length s) in let b = leb (length s) 255 in elim
   | inr h ↦ outside (λ f. both (a && b) (and-in a b (le→leb 1 (length s) (f .0)) (le→leb (length s) 255 (f .1))) h) (T→false (a && b) h)
 ]
 
-formula-told : (n : ℕ) (s : List ℕ) → Told n s (formulaAnswer n s)
+pub formula-told : (n : ℕ) (s : List ℕ) → Told n s (formulaAnswer n s)
 unfolding formulaAnswer
 formula-told n s = elim (settings-within n) [
   | outside none e ↦ rw e (no-settings n s none)

@@ -18,9 +18,12 @@ pub mod LineForms
 pub mod NameLines
 pub mod LineByLine
 pub mod FormulaLaws
+pub mod Named
+pub mod FaultLaws
 pub mod SoFar
 pub mod GoodLines
 pub mod Taken
+pub mod Judged
 pub mod Grammar
 pub mod RefusedAt
 pub mod Place

@@ -12,4 +12,5 @@ pub mod LineSteps
 pub mod Reading
 pub mod Grammar
 pub mod Place
+pub mod Faults
 pub mod Reads
