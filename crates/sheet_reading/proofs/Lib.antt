@@ -26,6 +26,8 @@ pub mod Taken
 pub mod Judged
 pub mod Grammar
 pub mod RefusedAt
+pub mod Lines
 pub mod Place
+pub mod RefusedExactly
 pub mod Examples
 pub mod Bounds

@@ -50,7 +50,7 @@ pub first-on : (line rest : List ℕ) → firstLine (line ∷ split newline rest
 first-on line rest = some-piece newline (λ q. firstLine (line ∷ q) ≡ after 1 q (sizeStep line)) (first-after line) rest
 
 -- and of a text that begins with the line
-split-ended : (line rest : List ℕ) → Clear newline line → split newline (ended line ++ rest) ≡ line ∷ split newline rest
+pub split-ended : (line rest : List ℕ) → Clear newline line → split newline (ended line ++ rest) ≡ line ∷ split newline rest
 unfolding ended
 split-ended line rest c = ap (split newline) (append-assoc line (newline ∷ []) rest) ∙ split-marked newline line rest c
 

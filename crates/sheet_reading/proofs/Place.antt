@@ -2,34 +2,30 @@
 -- that began with them would be refused with 22 itself.
 use mathlib.Core.Path.{_≡_, refl, sym, ap, _∙_, subst}
 use mathlib.Core.Logic.{_⊎_, inl, inr}
-use mathlib.Core.List.{List, [], _∷_, _++_, append-assoc}
-use mathlib.Core.Bool.{Bool, true, false, cond}
-use Prim.Native.Nat.{ℕ, zero, suc, _+_, _-_, _≤_, _<_}
+use mathlib.Core.List.{List, [], _++_}
+use mathlib.Core.Bool.{Bool, cond}
+use Prim.Native.Nat.{ℕ, suc, _+_, _-_, _≤_, _<_}
 use native.Mathlib.Omega.{arith}
-use lib.Dec.{ltb}
+use lib.Dec.{ltb, ltb→lt, lt→ltb}
 use lib.ListN.{length, take, drop}
 use lib.Seq.{take-add}
-use Rattle.ground.proofs.Bools.{lt-or-ge}
+use Rattle.ground.proofs.Bools.{T→true, T→false, decide, lt-or-ge}
 use Rattle.ground.proofs.Search.{least-unique}
 use Rattle.refusal.specs.declared.Refusal.{Refusal}
 use Rattle.refusal.specs.declared.Refusal.the-variants.{Malformed, SheetLength}
 use Rattle.refusal.specs.Refusals.{number}
 use Rattle.sheet_words.specs.Words.{split, newline}
-use Rattle.sheet_words.proofs.Split.{joined, some-piece, joined-split}
+use Rattle.sheet_words.proofs.Split.{joined, some-piece}
 use Rattle.sheet_reading.specs.Reading.{Meaning, refused, stated, firstLine, sheetMeaning}
-use Rattle.sheet_reading.specs.Grammar.{ended, sheetText}
+use Rattle.sheet_reading.specs.Grammar.{sheetText}
 use Rattle.sheet_reading.specs.Place.{BeginsSheet, IsSheet, allEnded, firstLines, Breaks, MalformedAt, at-line, at-end}
+use Rattle.sheet_reading.proofs.Lines.{ended-append, first-lines}
 use Rattle.sheet_reading.proofs.SoFar.{begins-less}
 use Rattle.sheet_reading.proofs.Taken.{taken-only-well-formed}
 use Rattle.sheet_reading.proofs.Grammar.{Fine, lines-fine, twenty-two-never}
 use Rattle.sheet_reading.proofs.RefusedAt.{At, Placed, empty-begins, sheet-placed}
 
 -- ---- fewer lines of a sheet that begins so begin one too
-
-ended-append : (p q : List (List ℕ)) → allEnded (p ++ q) ≡ allEnded p ++ allEnded q
-unfolding allEnded
-ended-append [] q = refl
-ended-append (line ∷ p) q = ap (_++_ (ended line)) (ended-append p q) ∙ sym (append-assoc (ended line) (allEnded p) (allEnded q))
 
 fewer-lines : (s : List ℕ) (K L : ℕ) → K ≤ L → BeginsSheet (firstLines L s) → BeginsSheet (firstLines K s)
 unfolding firstLines
@@ -42,17 +38,27 @@ fewer-lines s K L h b =
 
 -- ---- a refusal is the first line's fault, or 24
 
+pub meaning-long : (s : List ℕ) → 32768 < length s → sheetMeaning s ≡ refused SheetLength 0
+unfolding sheetMeaning
+meaning-long s h = ap (λ (over : Bool). cond over (refused SheetLength 0) (firstLine (split newline s))) (T→true (ltb 32768 (length s)) (lt→ltb 32768 (length s) h))
+
+pub meaning-lines : (s : List ℕ) → length s ≤ 32768 → sheetMeaning s ≡ firstLine (split newline s)
+unfolding sheetMeaning
+meaning-lines s h = elim (decide (ltb 32768 (length s))) [
+  | inl over ↦ absurd (omega (arith, h, ltb→lt 32768 (length s) over))
+  | inr fits ↦ ap (λ (over : Bool). cond over (refused SheetLength 0) (firstLine (split newline s))) (T→false (ltb 32768 (length s)) fits)
+]
+
 -- what a refusal says of the sheet's lines
-abbrev RefusedAt : List ℕ → Refusal → ℕ → Type 0
+abbrev pub RefusedAt : List ℕ → Refusal → ℕ → Type 0
 RefusedAt s r L = At [] (split newline s) (λ t. firstLine (split newline t)) 1 r L
 
-refusal : (s : List ℕ) (r : Refusal) (L : ℕ) → sheetMeaning s ≡ refused r L → ((r ≡ SheetLength) × (L ≡ 0)) ⊎ RefusedAt s r L
-unfolding sheetMeaning
-refusal s r L e = by-length (ltb 32768 (length s)) e
-  where
-    by-length : (over : Bool) → cond over (refused SheetLength 0) (firstLine (split newline s)) ≡ refused r L → ((r ≡ SheetLength) × (L ≡ 0)) ⊎ RefusedAt s r L
-    by-length true e = inl (cc, cc)
-    by-length false e = inr (subst (Placed [] (split newline s) (λ t. firstLine (split newline t)) 1) e (sheet-placed s))
+pub refusal : (s : List ℕ) (r : Refusal) (L : ℕ) → sheetMeaning s ≡ refused r L
+    → ((32768 < length s) × (r ≡ SheetLength) × (L ≡ 0)) ⊎ ((length s ≤ 32768) × RefusedAt s r L)
+refusal s r L e = elim (lt-or-ge 32768 (length s)) [
+  | inl over ↦ (let same = sym (meaning-long s over) ∙ e in inl (over, cc, cc))
+  | inr fits ↦ inr (fits, subst (Placed [] (split newline s) (λ t. firstLine (split newline t)) 1) (sym (meaning-lines s fits) ∙ e) (sheet-placed s))
+]
 
 -- ---- the place of 22
 
@@ -69,7 +75,7 @@ begins-none s L a l b =
 -- THE PLACE OF 22
 pub malformed-line : (s : List ℕ) (L : ℕ) → sheetMeaning s ≡ refused (Malformed L) L → MalformedAt s L
 unfolding firstLines
-malformed-line s L e = elim (refusal s (Malformed L) L e) [ inl h ↦ absurd (omega (arith, ap number (h .0))) | inr a ↦ by-place a ]
+malformed-line s L e = elim (refusal s (Malformed L) L e) [ inl h ↦ absurd (omega (arith, ap number (h .1))) | inr (fits, a) ↦ by-place a ]
   where
     by-place : RefusedAt s (Malformed L) L → MalformedAt s L
     by-place a =
@@ -89,14 +95,6 @@ malformed-unique (at-end f g) (at-line {L = L} b) = absurd (f L (b .here))
 malformed-unique (at-end f g) (at-end h k) = refl
 
 -- a well-formed sheet has none
-joined-take : (L : ℕ) (pieces : List (List ℕ)) → L < length pieces → joined newline pieces ≡ allEnded (take L pieces) ++ joined newline (drop L pieces)
-unfolding allEnded ended
-joined-take zero pieces h = refl
-joined-take (suc L) [] h = absurd (omega arith)
-joined-take (suc L) (line ∷ []) h = absurd (omega arith)
-joined-take (suc L) (line ∷ another ∷ more) h =
-    ap (λ (t : List ℕ). line ++ newline ∷ t) (joined-take L (another ∷ more) (omega arith)) ∙ sym (simp append-assoc)
-
 sheet-sound : {s : List ℕ} {L : ℕ} → MalformedAt s L → IsSheet s → ⊥
 unfolding firstLines
 sheet-sound {s} (at-line {L = L} a) w =
@@ -104,7 +102,7 @@ sheet-sound {s} (at-line {L = L} a) w =
       sheet = w .sheet;
       well-formed = w .well-formed;
       rest = joined newline (drop L (split newline s));
-      written = w .written ∙ sym (joined-split newline s) ∙ joined-take L (split newline s) (a .here .0);
+      written = w .written ∙ first-lines s L (a .here .0);
     })
 sheet-sound (at-end f g) w = g w
 
@@ -116,8 +114,8 @@ formed-before (at-end f g) K l b = l
 -- a refusal with the number 22 names its own line
 pub malformed-only : (s : List ℕ) (r : Refusal) (L : ℕ) → sheetMeaning s ≡ refused r L → number r ≡ 22 → r ≡ Malformed L
 malformed-only s r L e z = elim (refusal s r L e) [
-  | inl k ↦ absurd (omega (arith, z, ap number (k .0)))
-  | inr a ↦ elim (a .formed) [ inl is ↦ is | inr form ↦ absurd (form .0 z) ]
+  | inl k ↦ absurd (omega (arith, z, ap number (k .1)))
+  | inr (fits, a) ↦ elim (a .formed) [ inl is ↦ is | inr form ↦ absurd (form .0 z) ]
 ]
 
 pub malformed-numbered : (s : List ℕ) (r : Refusal) (L : ℕ) → sheetMeaning s ≡ refused r L → number r ≡ 22 → MalformedAt s L
@@ -131,9 +129,9 @@ malformed-refused s L m = by-outcome (sheetMeaning s) refl
     by-outcome : (o : Meaning) → sheetMeaning s ≡ o → (o ≡ refused (Malformed L) L) ⊎ ((r : Refusal) × (p : ℕ) × (o ≡ refused r p) × (number r ≡ 22 → ⊥) × (p < L))
     by-outcome (stated w) e = absurd (sheet-sound m (taken-only-well-formed s w e))
     by-outcome (refused r p) e = elim (refusal s r p e) [
-      | inl k ↦ (let other : number r ≡ 22 → ⊥ = λ z. omega (arith, z, ap number (k .0)) in
-          inr (r, p, refl, other, rw (k .1) (formed-before m 0 (some-piece newline (λ q. 0 < length q) (λ x xs. omega arith) s) empty-begins)))
-      | inr a ↦ elim (a .formed) [
+      | inl k ↦ (let other : number r ≡ 22 → ⊥ = λ z. omega (arith, z, ap number (k .1)) in
+          inr (r, p, refl, other, rw (k .2) (formed-before m 0 (some-piece newline (λ q. 0 < length q) (λ x xs. omega arith) s) empty-begins)))
+      | inr (fits, a) ↦ elim (a .formed) [
         | inl is ↦ (let same = malformed-unique (malformed-line s p (e ∙ ap (λ (x : Refusal). refused x p) is)) m in
             inl (ap (λ (x : Refusal). refused x p) is ∙ ap (λ (k : ℕ). refused (Malformed k) k) same))
         | inr form ↦ (let at : p ≡ suc (a .taken) = omega (arith, a .place) in
