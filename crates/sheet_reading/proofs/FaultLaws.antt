@@ -3,7 +3,7 @@
 use mathlib.Core.Path.{_≡_, refl, sym, ap, _∙_, subst}
 use mathlib.Core.Logic.{_⊎_, inl, inr}
 use mathlib.Core.List.{List, [], _∷_, _++_, append-assoc}
-use Prim.Native.Nat.{ℕ, suc, _<_}
+use Prim.Native.Nat.{ℕ, suc, _≤_, _<_}
 use native.Mathlib.Omega.{arith}
 use lib.ListN.{length, length-append, replicate}
 use Rattle.ground.proofs.Bools.{lt-or-ge}
@@ -17,8 +17,8 @@ use Rattle.formula.specs.declared.Answer.the-variants.{Accepted, Refused}
 use Rattle.formula.proofs.Computed.{Told, formula-told, read-computed}
 use Rattle.sheet_reading.specs.Sheet.{Sheet}
 use Rattle.sheet_reading.specs.Faults.{Line, size-line, right-line, team-line, known-line, make-line, ask-line, linesOf}
-use Rattle.sheet_reading.specs.Faults.{NamesTwice, FormulaRefused, SizeAbove, Fault, above, again, in-formula, LineFault, FirstFault}
-use Rattle.sheet_reading.proofs.FormulaLaws.{formula-not-malformed}
+use Rattle.sheet_reading.specs.Faults.{NamesTwice, FormulaRefused, SizeAbove, Fault, above, again, in-formula, AtLine, LineFault}
+use Rattle.sheet_reading.proofs.FormulaLaws.{formula-number}
 
 -- ---- a formula's refusal is the computed one
 
@@ -31,7 +31,7 @@ first-refused n F r f = read-computed n F (Refused r) (replicate 16 0) (f, refl)
 pub accepted-none : (n : ℕ) (F : List ℕ) → formulaAnswer n F ≡ Accepted → (r : Refusal) → First (formulaRows n F) r → ⊥
 accepted-none n F e r f = let d = first-refused n F r f in let z : _≡_ {A = ℕ} 0 1 = cc in omega arith
 
--- ---- a line has one fault, and it is not 22
+-- ---- a line has one fault: 25, 23 or one of 1 to 5
 
 module _ (n L : ℕ) (before : List Line) where
   above-once : (line : Line) → SizeAbove line → NamesTwice before line → ⊥
@@ -56,18 +56,43 @@ module _ (n L : ℕ) (before : List Line) where
   fault-one (in-formula a f) (again b) = absurd (a b)
   fault-one {line} {r} {x} (in-formula a f) (in-formula b g) = formula-one line r x f g
 
-  other-number : (line : Line) (r : Refusal) → FormulaRefused n line r → number r ≡ 22 → ⊥
-  other-number (right-line q) r f = formula-not-malformed n (q .text) r (first-refused n (q .text) r f)
-  other-number (make-line F) r f = formula-not-malformed n F r (first-refused n F r f)
-  other-number (ask-line F) r f = formula-not-malformed n F r (first-refused n F r f)
+  formula-small : (line : Line) (r : Refusal) → FormulaRefused n line r → number r ≤ 5
+  formula-small (right-line q) r f = formula-number n (q .text) r (first-refused n (q .text) r f)
+  formula-small (make-line F) r f = formula-number n F r (first-refused n F r f)
+  formula-small (ask-line F) r f = formula-number n F r (first-refused n F r f)
 
-  fault-formed : {line : Line} {r : Refusal} → Fault n L before line r → number r ≡ 22 → ⊥
-  fault-formed (above a) e = omega (arith, e)
-  fault-formed (again a) e = omega (arith, e)
-  fault-formed {line} {r} (in-formula a f) e = other-number line r f e
+  -- its number tells which
+  pub fault-number : {line : Line} {r : Refusal} → Fault n L before line r → (number r ≤ 5) ⊎ ((number r ≡ 23) ⊎ (number r ≡ 25))
+  fault-number (above a) = inr (inr refl)
+  fault-number (again a) = inr (inl refl)
+  fault-number {line} {r} (in-formula a f) = inl (formula-small line r f)
+
+  pub above-only : {line : Line} {r : Refusal} → Fault n L before line r → number r ≡ 25 → SizeAbove line
+  above-only (above a) e = a
+  above-only (again a) e = absurd (omega (arith, e))
+  above-only {line} {r} (in-formula a f) e = absurd (omega (arith, e, formula-small line r f))
+
+  pub again-only : {line : Line} {r : Refusal} → Fault n L before line r → number r ≡ 23 → NamesTwice before line
+  again-only (above a) e = absurd (omega (arith, e))
+  again-only (again a) e = a
+  again-only {line} {r} (in-formula a f) e = absurd (omega (arith, e, formula-small line r f))
+
+  pub formula-only : {line : Line} {r : Refusal} → Fault n L before line r → number r ≤ 5 → (NamesTwice before line → ⊥) × FormulaRefused n line r
+  formula-only (above a) h = absurd (omega (arith, h))
+  formula-only (again a) h = absurd (omega (arith, h))
+  formula-only (in-formula a f) h = (a, f)
+
+-- the first line of w that is refused
+pub record FirstFault (w : Sheet) (L : ℕ) (r : Refusal) : Type 0 where
+  pub here : LineFault w L r
+  pub none-before : (K : ℕ) (x : Refusal) → K < L → LineFault w K x → ⊥
 
 pub first-formed : {w : Sheet} {L : ℕ} {r : Refusal} → FirstFault w L r → number r ≡ 22 → ⊥
-first-formed {w} {L} f = fault-formed (w .size .settings) L (f .here .before) (f .here .fault)
+first-formed {w} {L} f e = elim (fault-number (w .size .settings) L (f .here .before) (f .here .holds)) [
+  | inl h ↦ omega (arith, e, h)
+  | inr (inl h) ↦ omega (arith, e, h)
+  | inr (inr h) ↦ omega (arith, e, h)
+]
 
 -- ---- a sheet has one first fault
 
@@ -88,7 +113,7 @@ fault-there : {w : Sheet} {L : ℕ} {x : Refusal} (before : List Line) {line : L
 fault-there {w} {L} {x} before {line} behind e p f =
     let same = same-line (f .before) before (f .behind) behind (sym (f .lines) ∙ e) (omega (arith, f .place, p)) in
     subst (λ (l : Line). Fault (w .size .settings) L before l x) (same .1)
-    (subst (λ (b : List Line). Fault (w .size .settings) L b (f .line) x) (same .0) (f .fault))
+    (subst (λ (b : List Line). Fault (w .size .settings) L b (f .line) x) (same .0) (f .holds))
 
 pub first-one : {w : Sheet} {L K : ℕ} {r x : Refusal} → FirstFault w L r → FirstFault w K x → (L ≡ K) × (r ≡ x)
 first-one {w} {L} {K} {r} {x} f g = elim (lt-or-ge L K) [
@@ -97,7 +122,7 @@ first-one {w} {L} {K} {r} {x} f g = elim (lt-or-ge L K) [
     | inl l ↦ absurd (f .none-before K x l (g .here))
     | inr k ↦ (let same : L ≡ K = omega (arith, h, k) in
         let there = subst (λ (J : ℕ). LineFault w J x) (sym same) (g .here) in
-        (same, fault-one (w .size .settings) L (f .here .before) (f .here .fault) (fault-there (f .here .before) (f .here .behind) (f .here .lines) (f .here .place) there)))
+        (same, fault-one (w .size .settings) L (f .here .before) (f .here .holds) (fault-there (f .here .before) (f .here .behind) (f .here .lines) (f .here .place) there)))
   ]
 ]
 
@@ -117,7 +142,7 @@ module _ {w : Sheet} {L : ℕ} {before : List Line} {line : Line} {behind : List
   -- the line has a fault
   pub faulty : {r : Refusal} → Fault (w .size .settings) L before line r → FirstFault w L r
   faulty f = record {
-    here = record { before = before; line = line; behind = behind; lines = t .lines; place = t .place; fault = f };
+    here = record { before = before; line = line; behind = behind; lines = t .lines; place = t .place; holds = f };
     none-before = t .clean;
   }
 

@@ -29,9 +29,9 @@ use Rattle.sheet_reading.specs.LineSteps.{withTeam, withKnown, withMake,
 use Rattle.sheet_reading.specs.Reading.{Meaning, refused, stated, lines, firstLine}
 use Rattle.sheet_reading.specs.Grammar.{ended, sizeText, word, ruleLine, ruleLines, teamLine, knownLine, makeLine, askLines, rulesText, askedText, sheetText, RulesFit, AsksFit, WellFormed}
 use Rattle.sheet_reading.specs.Faults.{Line, size-line, right-line, team-line, known-line, make-line, ask-line, linesOf}
-use Rattle.sheet_reading.specs.Faults.{NamesTwice, FormulaRefused, Fault, above, again, in-formula, LineFault, FirstFault}
+use Rattle.sheet_reading.specs.Faults.{NamesTwice, FormulaRefused, Fault, above, again, in-formula, LineFault}
 use Rattle.sheet_reading.proofs.Named.{repeats-out, repeats-in, stated-out, stated-in}
-use Rattle.sheet_reading.proofs.FaultLaws.{refused-first, accepted-none, Turn, first-turn, faulty, onward, all-clean}
+use Rattle.sheet_reading.proofs.FaultLaws.{refused-first, accepted-none, FirstFault, Turn, first-turn, faulty, onward, all-clean}
 use Rattle.sheet_reading.proofs.LineForms.{clear-append, size-read, size-clear, rule-read, rule-clear}
 use Rattle.sheet_reading.proofs.NameLines.{team-read, team-clear, known-read, known-clear}
 use Rattle.sheet_reading.proofs.LineByLine.{line-clear, after, lines-split, first-split}

@@ -29,5 +29,6 @@ pub mod RefusedAt
 pub mod Lines
 pub mod Place
 pub mod RefusedExactly
+pub mod ByNumber
 pub mod Examples
 pub mod Bounds

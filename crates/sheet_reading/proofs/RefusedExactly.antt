@@ -15,8 +15,8 @@ use Rattle.sheet_reading.specs.Sheet.{Sheet}
 use Rattle.sheet_reading.specs.Reading.{Meaning, refused, stated, firstLine, sheetMeaning}
 use Rattle.sheet_reading.specs.Grammar.{sheetText, WellFormed}
 use Rattle.sheet_reading.specs.Place.{BeginsSheet, allEnded, firstLines}
-use Rattle.sheet_reading.specs.Faults.{LineFault, FirstFault, FaultAt, RefusedSheet, too-long, malformed, at-fault}
-use Rattle.sheet_reading.proofs.FaultLaws.{first-formed, first-one}
+use Rattle.sheet_reading.specs.Faults.{LineFault, FaultAt, RefusedSheet, too-long, malformed, at-fault}
+use Rattle.sheet_reading.proofs.FaultLaws.{FirstFault, first-formed, first-one}
 use Rattle.sheet_reading.proofs.Judged.{Judged, lines-judged}
 use Rattle.sheet_reading.proofs.Lines.{first-lines, same-lines}
 use Rattle.sheet_reading.proofs.Taken.{stated-written}
@@ -51,9 +51,12 @@ fault-refused s L r fits f = meaning-lines s fits ∙ at-place placed
     w : Sheet
     w = f .begun .sheet
 
+    first : FirstFault w L r
+    first = record { here = f .here; none-before = f .none-before }
+
     placed : RefusedAt (sheetText w) r L
     placed =
-        subst (Placed [] (split newline (sheetText w)) (λ t. firstLine (split newline t)) 1) (well-refused w (f .begun .well-formed) L r (f .first)) (sheet-placed (sheetText w))
+        subst (Placed [] (split newline (sheetText w)) (λ t. firstLine (split newline t)) 1) (well-refused w (f .begun .well-formed) L r first) (sheet-placed (sheetText w))
 
     at-place : RefusedAt (sheetText w) r L → firstLine (split newline s) ≡ refused r L
     at-place a =
@@ -63,7 +66,7 @@ fault-refused s L r fits f = meaning-lines s fits ∙ at-place placed
         ap (λ (k : ℕ). take k (split newline (sheetText w))) up-to ∙ ap (λ (t : List ℕ). take L (split newline t)) (f .begun .written)
         ∙ same-lines s (f .begun .rest) L (omega (arith, f .line-ends)) in
         ap (λ (t : List ℕ). firstLine (split newline t)) (first-lines s L (f .line-ends) ∙ ap (λ (p : List (List ℕ)). allEnded p ++ rest) (sym same))
-        ∙ a .same (elim (a .formed) [ inl is ↦ absurd (first-formed (f .first) (ap number is)) | inr form ↦ form .1 ]) rest
+        ∙ a .same (elim (a .formed) [ inl is ↦ absurd (first-formed first (ap number is)) | inr form ↦ form .1 ]) rest
 
 -- ---- and a refusal is 24, 22, or a line's fault
 
@@ -88,6 +91,7 @@ refused-by s r L e = elim (refusal s r L e) [
         let up-to : suc (a .taken) ≡ L = omega (arith, a .place) in
         let again : firstLine (split newline (sheetText (b .sheet))) ≡ refused r L =
         ap (λ (t : List ℕ). firstLine (split newline t)) (b .written) ∙ a .same ends (b .rest) in
+        let first : FirstFault (b .sheet) L r = subst (Judged (b .sheet)) again (lines-judged (b .sheet) (b .well-formed)) in
         record {
           line-ends = omega (arith, ends, up-to);
           begun = record {
@@ -96,7 +100,8 @@ refused-by s r L e = elim (refusal s r L e) [
             rest = b .rest;
             written = b .written ∙ ap (λ (k : ℕ). allEnded (take k (split newline s)) ++ b .rest) up-to;
           };
-          first = subst (Judged (b .sheet)) again (lines-judged (b .sheet) (b .well-formed));
+          none-before = first .none-before;
+          here = first .here;
         }
 
 by-refused : (s : List ℕ) (r : Refusal) (L : ℕ) → RefusedSheet s r L → sheetMeaning s ≡ refused r L

@@ -100,27 +100,31 @@ pub data Fault (n L : ℕ) (before : List Line) (line : Line) : Refusal → Type
   again : NamesTwice before line → Fault n L before line (Twice L)
   in-formula : {r : Refusal} → (NamesTwice before line → ⊥) → FormulaRefused n line r → Fault n L before line r
 
--- line number L of the sheet w is refused with r
-pub record LineFault (w : Sheet) (L : ℕ) (r : Refusal) : Type 0 where
+-- line number L of the sheet w says `line`, after lines that say `before`, and P holds of these
+pub record AtLine (w : Sheet) (L : ℕ) (P : List Line → Line → Type 0) : Type 0 where
   pub before : List Line
   pub line : Line
   pub behind : List Line
   pub lines : linesOf w ≡ before ++ line ∷ behind
   pub place : L ≡ suc (length before)
-  pub fault : Fault (w .size .settings) L before line r
+  pub holds : P before line
 
--- the first line of w that is refused
-pub record FirstFault (w : Sheet) (L : ℕ) (r : Refusal) : Type 0 where
-  pub here : LineFault w L r
-  pub none-before : (K : ℕ) (x : Refusal) → K < L → LineFault w K x → ⊥
+-- line number L of the sheet w is refused with r
+abbrev pub LineFault : Sheet → ℕ → Refusal → Type 0
+LineFault w L r = AtLine w L (λ before line. Fault (w .size .settings) L before line r)
 
 -- ---- the sheet s is refused
 
--- line L of s ends in byte 10, the lines up to it begin a well-formed sheet, and L is the first of its lines that is refused
-pub record FaultAt (s : List ℕ) (L : ℕ) (r : Refusal) : Type 0 where
+-- line L of s is looked at, and P holds of it: it ends in byte 10, the lines up to it begin a well-formed sheet, and no line before it is refused
+pub record Reaches (s : List ℕ) (L : ℕ) (P : ℕ → List Line → Line → Type 0) : Type 0 where
   pub line-ends : L < length (split newline s)
   pub begun : BeginsSheet (firstLines L s)
-  pub first : FirstFault (begun .sheet) L r
+  pub none-before : (K : ℕ) (x : Refusal) → K < L → LineFault (begun .sheet) K x → ⊥
+  pub here : AtLine (begun .sheet) L (P (begun .sheet .size .settings))
+
+-- it is refused with r
+abbrev pub FaultAt : List ℕ → ℕ → Refusal → Type 0
+FaultAt s L r = Reaches s L (λ n before line. Fault n L before line r)
 
 -- "First 24; then line by line", with the line that is printed as the place
 pub data RefusedSheet (s : List ℕ) : Refusal → ℕ → Type 0 where
