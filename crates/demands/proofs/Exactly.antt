@@ -1,14 +1,15 @@
 -- The page in full strength: each answer of `find` exactly where it is due, for any room; the refusals 6 to 13 exactly; what a yes of the plan check
--- says of the question; and what is printed for a sheet, in one statement. Each follows from the contract's uniqueness: the answer that is due is
--- allowed, so it is the one given.
+-- says of the question; what is printed for a sheet, in one statement; and the refusals of a sheet exactly, by the grammar. Those of `find` follow from
+-- the contract's uniqueness: the answer that is due is allowed, so it is the one given.
 use mathlib.Core.Path.{_≡_, refl, sym, ap, _∙_, subst}
 use mathlib.Core.Logic.{_⊎_, inl, inr, _↔_}
-use mathlib.Core.List.{List}
+use mathlib.Core.List.{List, _++_}
 use Prim.Native.Nat.{ℕ, _^_, _≤_, _<_}
 use lib.ListN.{length, drop}
 use Rattle.ground.specs.Search.{Least}
 use Rattle.refusal.specs.declared.Refusal.{Refusal}
-use Rattle.refusal.specs.declared.Refusal.the-variants.{PlanRoom}
+use Rattle.refusal.specs.declared.Refusal.the-variants.{PlanRoom, Malformed, Twice, SheetLength, SheetSettings}
+use Rattle.refusal.specs.Refusals.{number}
 use Rattle.refusal.specs.Order.{First}
 use Rattle.refusal.proofs.OrderLaws.{first-clear}
 use Rattle.book_sound.proofs.Theorems.{sound-one}
@@ -31,9 +32,14 @@ use Rattle.finder.proofs.Unique.{answers-unique, find-unique, find-refused}
 use Rattle.plancheck.specs.Checks.{Checks}
 use Rattle.plancheck.specs.declared.answer.CheckAnswer.the-variants.{Yes}
 use Rattle.plancheck.proofs.Theorems.{yes-exact}
-use Rattle.print_answer.specs.Printed.{cannotText, reachText, Prints}
+use Rattle.print_answer.specs.Printed.{refusedText, cannotText, reachText, Prints}
 use Rattle.sheet_reading.specs.Sheet.{Sheet}
-use Rattle.sheet_reading.specs.Reading.{Meaning, sheetMeaning, stated}
+use Rattle.sheet_reading.specs.Reading.{Meaning, sheetMeaning, refused, stated}
+use Rattle.sheet_reading.specs.Grammar.{ended, sizeText, sheetText, WellFormed}
+use Rattle.sheet_reading.specs.Place.{MalformedAt}
+use Rattle.sheet_reading.specs.Faults.{NamesTwice, FormulaRefused, LineFault, Reaches, FaultAt, RefusedSheet}
+use Rattle.sheet_reading.proofs.RefusedExactly.{refused-exactly, stated-exactly}
+use Rattle.sheet_reading.proofs.ByNumber as Number
 use Rattle.sheet.specs.Answer.{sheetBook, SheetAsks, PrintsMeaning, AnswersSheet}
 
 -- ---- a plan that is written
@@ -138,3 +144,43 @@ sheet-answered s old r new sheet m a =
         | inr (none, x) ↦ inr (none, x)
       ],
     )
+
+-- ---- the refusals of a sheet, exactly, by the grammar of well-formed sheets: "First 24; then line by line 22, 23, the formula's number; 25 directly
+-- after line 1." The line is printed as the place.
+
+pub sheet-refused : (s : List ℕ) (w : Refusal) (L : ℕ) → (sheetMeaning s ≡ refused w L) ↔ RefusedSheet s w L
+sheet-refused = refused-exactly
+
+pub sheet-printed : (s old : List ℕ) (r : ℕ) (new : List ℕ) (w : Refusal) (L : ℕ) → RefusedSheet s w L → AnswersSheet s old r new
+    → Prints old (refusedText (number w) L) r new
+sheet-printed s old r new w L f a = subst (λ (o : Meaning). PrintsMeaning o old r new) (refused-exactly s w L .1 f) a
+
+-- a sheet is taken where it is well formed, not too long, and no line of it has a fault
+pub sheet-taken : (s : List ℕ) (sheet : Sheet)
+    → (sheetMeaning s ≡ stated sheet) ↔ ((length s ≤ 32768) × WellFormed sheet × (sheetText sheet ≡ s) × ((K : ℕ) (x : Refusal) → LineFault sheet K x → ⊥))
+sheet-taken = stated-exactly
+
+-- number by number. 24
+pub length-exactly : (s : List ℕ) → (sheetMeaning s ≡ refused SheetLength 0) ↔ (32768 < length s)
+length-exactly = Number.length-exactly
+
+-- 22, where no line before it is refused for something else
+pub malformed-exactly : (s : List ℕ) (L : ℕ) → (sheetMeaning s ≡ refused (Malformed L) L)
+    ↔ ((length s ≤ 32768) × MalformedAt s L × ((K : ℕ) (w : Refusal) → K < L → FaultAt s K w → ⊥))
+malformed-exactly = Number.malformed-exactly
+
+-- 25, where the first line is `size N M` with N above 5, whatever follows
+pub settings-exactly : (s : List ℕ) (L : ℕ) → (sheetMeaning s ≡ refused SheetSettings L)
+    ↔ ((L ≡ 1) × (length s ≤ 32768)
+    × ((n : ℕ) × (m : ℕ) × (rest : List ℕ) × (5 < n) × (n ≤ 7) × (1 ≤ m) × (m ≤ 8) × (s ≡ ended (sizeText n m) ++ rest)))
+settings-exactly = Number.settings-exactly
+
+-- 23, where line L is reached and names something twice
+pub twice-exactly : (s : List ℕ) (L : ℕ) → (sheetMeaning s ≡ refused (Twice L) L)
+    ↔ ((length s ≤ 32768) × Reaches s L (λ n before line. NamesTwice before line))
+twice-exactly = Number.twice-exactly
+
+-- 1 to 5, where line L is reached, names nothing twice, and has a formula that is refused so
+pub formula-exactly : (s : List ℕ) (w : Refusal) (L : ℕ) → number w ≤ 5 → (sheetMeaning s ≡ refused w L)
+    ↔ ((length s ≤ 32768) × Reaches s L (λ n before line. (NamesTwice before line → ⊥) × FormulaRefused n line w))
+formula-exactly = Number.formula-exactly

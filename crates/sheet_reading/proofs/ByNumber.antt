@@ -147,8 +147,7 @@ settings-exactly s L = (there, back)
         ∙ ap (λ (t : List ℕ). take 1 (split newline t)) (f .begun .written)
         ∙ ap (λ (K : ℕ). take 1 (split newline (allEnded (take K (split newline s)) ++ f .begun .rest))) first
         ∙ same-lines s (f .begun .rest) 1 (omega (arith, f .line-ends)) in
-        let rest : List ℕ = joined newline (drop 1 (split newline s)) in
-        (
+        let rest : List ℕ = joined newline (drop 1 (split newline s)) in (
           first,
           fits,
           (
