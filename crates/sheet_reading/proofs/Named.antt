@@ -63,12 +63,6 @@ same-in Set Look e = let z : _≡_ {A = ℕ} 0 1 = cc in omega arith
 same-in Set Set e = tt
 
 module _ (r : Rule) where
-  concerns-out : (q : Rule) → T (concerns q (r .right) (r .setting) (r .post)) → LineStates r (right-line q)
-  unfolding concerns
-  concerns-out q h =
-      let t = three (sameRight (q .right) (r .right)) (eqb (q .setting) (r .setting)) (eqb (q .post) (r .post)) h in
-      (same-out (q .right) (r .right) (t .0), eqb→eq (q .setting) (r .setting) (t .1), eqb→eq (q .post) (r .post) (t .2))
-
   concerns-in : (q : Rule) → LineStates r (right-line q) → T (concerns q (r .right) (r .setting) (r .post))
   unfolding concerns
   concerns-in q (x, y, z) =
@@ -76,15 +70,21 @@ module _ (r : Rule) where
       let b : Bool = eqb (q .setting) (r .setting) in
       and-in (a && b) (eqb (q .post) (r .post)) (and-in a b (same-in (q .right) (r .right) x) (eq→eqb y)) (eq→eqb z)
 
-  pub stated-out : (rules : List Rule) → T (isStated rules (r .right) (r .setting) (r .post)) → Stated r (map right-line rules)
-  unfolding isStated
-  stated-out (q ∷ rules) h =
-      ⊎-elim (λ k. inl (concerns-out q k)) (λ k. inr (stated-out rules k))
-      (or-out (concerns q (r .right) (r .setting) (r .post)) (isStated rules (r .right) (r .setting) (r .post)) h)
-
   pub stated-in : (rules : List Rule) → Stated r (map right-line rules) → T (isStated rules (r .right) (r .setting) (r .post))
   unfolding isStated
   stated-in (q ∷ rules) (inl h) =
       or-left (concerns q (r .right) (r .setting) (r .post)) (isStated rules (r .right) (r .setting) (r .post)) (concerns-in q h)
   stated-in (q ∷ rules) (inr h) =
       or-right (concerns q (r .right) (r .setting) (r .post)) (isStated rules (r .right) (r .setting) (r .post)) (stated-in rules h)
+
+  concerns-out : (q : Rule) → T (concerns q (r .right) (r .setting) (r .post)) → LineStates r (right-line q)
+  unfolding concerns
+  concerns-out q h =
+      let t = three (sameRight (q .right) (r .right)) (eqb (q .setting) (r .setting)) (eqb (q .post) (r .post)) h in
+      (same-out (q .right) (r .right) (t .0), eqb→eq (q .setting) (r .setting) (t .1), eqb→eq (q .post) (r .post) (t .2))
+
+  pub stated-out : (rules : List Rule) → T (isStated rules (r .right) (r .setting) (r .post)) → Stated r (map right-line rules)
+  unfolding isStated
+  stated-out (q ∷ rules) h =
+      ⊎-elim (λ k. inl (concerns-out q k)) (λ k. inr (stated-out rules k))
+      (or-out (concerns q (r .right) (r .setting) (r .post)) (isStated rules (r .right) (r .setting) (r .post)) h)
