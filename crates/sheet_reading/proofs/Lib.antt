@@ -1,5 +1,6 @@
 -- The laws of a sheet that is read. Of one line: the form it has, what it does, and that the desk then holds what the sheet has stated. Of the whole:
--- line by line, what the functions need; the grammar, and where 22 stands; how far a meaning goes; and that `read` gives one thing alone.
+-- line by line, what the functions need; the grammar, where 22 stands, and every refusal exactly; how far a meaning goes; and that `read` gives
+-- one thing alone.
 pub mod FormLaws
 pub mod StepLaws
 pub mod HoldLaws

@@ -12,25 +12,25 @@ use Rattle.book_block.specs.declared.rule.Right.the-variants.{Look, Set}
 use Rattle.sheet_words.specs.Words.{twice}
 use Rattle.sheet_words.proofs.NameForms.{three}
 use Rattle.sheet_reading.specs.Sheet.{Rule, sameRight, concerns, isStated}
-use Rattle.sheet_reading.specs.Faults.{right-line, LineStates, Stated, Names, Repeats}
+use Rattle.sheet_reading.specs.Faults.{right-line, LineStates, StatedIn, OneOf, Repeats}
 
 -- ---- posts and settings
 
 -- after some that are `named` already, one of those is named again, or one of the names comes again
-twice-out : (named : ℕ → Bool) (names : List ℕ) → T (twice named names) → ((i : ℕ) × T (named i) × Names i names) ⊎ Repeats names
+twice-out : (named : ℕ → Bool) (names : List ℕ) → T (twice named names) → ((i : ℕ) × T (named i) × OneOf i names) ⊎ Repeats names
 unfolding twice
 twice-out named (x ∷ xs) h = elim (or-out (named x) (twice (λ i. named i || eqb x i) xs) h) [
   | inl t ↦ inl (x, t, inl refl)
   | inr later ↦ elim (twice-out (λ i. named i || eqb x i) xs later) [
     | inl (i, t, m) ↦ elim (or-out (named i) (eqb x i) t) [
       | inl old ↦ inl (i, old, inr m)
-      | inr new ↦ inr (inl (subst (λ (j : ℕ). Names j xs) (sym (eqb→eq x i new)) m))
+      | inr new ↦ inr (inl (subst (λ (j : ℕ). OneOf j xs) (sym (eqb→eq x i new)) m))
     ]
     | inr r ↦ inr (inr r)
   ]
 ]
 
-twice-named : (named : ℕ → Bool) (names : List ℕ) (i : ℕ) → T (named i) → Names i names → T (twice named names)
+twice-named : (named : ℕ → Bool) (names : List ℕ) (i : ℕ) → T (named i) → OneOf i names → T (twice named names)
 unfolding twice
 twice-named named (x ∷ xs) i t (inl e) = or-left (named x) (twice (λ j. named j || eqb x j) xs) (subst (λ (j : ℕ). T (named j)) (sym e) t)
 twice-named named (x ∷ xs) i t (inr m) =
@@ -70,7 +70,7 @@ module _ (r : Rule) where
       let b : Bool = eqb (q .setting) (r .setting) in
       and-in (a && b) (eqb (q .post) (r .post)) (and-in a b (same-in (q .right) (r .right) x) (eq→eqb y)) (eq→eqb z)
 
-  pub stated-in : (rules : List Rule) → Stated r (map right-line rules) → T (isStated rules (r .right) (r .setting) (r .post))
+  pub stated-in : (rules : List Rule) → StatedIn r (map right-line rules) → T (isStated rules (r .right) (r .setting) (r .post))
   unfolding isStated
   stated-in (q ∷ rules) (inl h) =
       or-left (concerns q (r .right) (r .setting) (r .post)) (isStated rules (r .right) (r .setting) (r .post)) (concerns-in q h)
@@ -83,7 +83,7 @@ module _ (r : Rule) where
       let t = three (sameRight (q .right) (r .right)) (eqb (q .setting) (r .setting)) (eqb (q .post) (r .post)) h in
       (same-out (q .right) (r .right) (t .0), eqb→eq (q .setting) (r .setting) (t .1), eqb→eq (q .post) (r .post) (t .2))
 
-  pub stated-out : (rules : List Rule) → T (isStated rules (r .right) (r .setting) (r .post)) → Stated r (map right-line rules)
+  pub stated-out : (rules : List Rule) → T (isStated rules (r .right) (r .setting) (r .post)) → StatedIn r (map right-line rules)
   unfolding isStated
   stated-out (q ∷ rules) h =
       ⊎-elim (λ k. inl (concerns-out q k)) (λ k. inr (stated-out rules k))

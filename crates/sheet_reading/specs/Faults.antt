@@ -35,7 +35,7 @@ lineText (known-line ks) = knownLine ks
 lineText (make-line F) = makeLine F
 lineText (ask-line F) = bytes "ask " ++ F
 
--- the lines of a sheet, in order; `sheetText` is these, each with its byte 10 (proofs/Lines)
+-- the lines of a sheet, in order; `sheetText` is these, each with its byte 10 (proofs/Lines `sheet-lines`)
 unfoldable pub linesOf : Sheet → List Line
 linesOf w =
     size-line (w .size)
@@ -54,29 +54,29 @@ LineStates r (make-line F) = ⊥
 LineStates r (ask-line F) = ⊥
 
 -- one of the lines does
-abbrev pub Stated : Rule → List Line → Type 0
-Stated r [] = ⊥
-Stated r (line ∷ more) = LineStates r line ⊎ Stated r more
+abbrev pub StatedIn : Rule → List Line → Type 0
+StatedIn r [] = ⊥
+StatedIn r (line ∷ more) = LineStates r line ⊎ StatedIn r more
 
 -- i is one of the names; and one of the names comes again
-abbrev pub Names : ℕ → List ℕ → Type 0
-Names i [] = ⊥
-Names i (x ∷ xs) = (x ≡ i) ⊎ Names i xs
+abbrev pub OneOf : ℕ → List ℕ → Type 0
+OneOf i [] = ⊥
+OneOf i (x ∷ xs) = (x ≡ i) ⊎ OneOf i xs
 
 abbrev pub Repeats : List ℕ → Type 0
 Repeats [] = ⊥
-Repeats (x ∷ xs) = Names x xs ⊎ Repeats xs
+Repeats (x ∷ xs) = OneOf x xs ⊎ Repeats xs
 
 -- "23 right, post or setting named twice"
 abbrev pub NamesTwice : List Line → Line → Type 0
 NamesTwice before (size-line size) = ⊥
-NamesTwice before (right-line r) = Stated r before
+NamesTwice before (right-line r) = StatedIn r before
 NamesTwice before (team-line posts) = Repeats posts
 NamesTwice before (known-line ks) = Repeats (knownSettings ks)
 NamesTwice before (make-line F) = ⊥
 NamesTwice before (ask-line F) = ⊥
 
--- "the formula's number": the refusal that the formula of the line has, over n settings
+-- "the formula's number": what the reader of formulas refuses the line's formula with, over n settings
 abbrev pub FormulaRefused : ℕ → Line → Refusal → Type 0
 FormulaRefused n (size-line size) r = ⊥
 FormulaRefused n (right-line q) r = First (formulaRows n (q .text)) r
@@ -115,14 +115,15 @@ LineFault w L r = AtLine w L (λ before line. Fault (w .size .settings) L before
 
 -- ---- the sheet s is refused
 
--- line L of s is looked at, and P holds of it: it ends in byte 10, the lines up to it begin a well-formed sheet, and no line before it is refused
+-- line L of s is reached, and P holds there: the line ends in byte 10, the lines up to it begin a well-formed sheet, and no line before it is refused.
+-- P is told the settings of the sheet's size, what the lines before say, and what the line says.
 pub record Reaches (s : List ℕ) (L : ℕ) (P : ℕ → List Line → Line → Type 0) : Type 0 where
   pub line-ends : L < length (split newline s)
   pub begun : BeginsSheet (firstLines L s)
   pub none-before : (K : ℕ) (x : Refusal) → K < L → LineFault (begun .sheet) K x → ⊥
   pub here : AtLine (begun .sheet) L (P (begun .sheet .size .settings))
 
--- it is refused with r
+-- line L of s is refused with r
 abbrev pub FaultAt : List ℕ → ℕ → Refusal → Type 0
 FaultAt s L r = Reaches s L (λ n before line. Fault n L before line r)
 
