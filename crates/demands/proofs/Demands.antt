@@ -103,7 +103,8 @@ pub refused-plan : (book : List ℕ) (q : Question) (goal : Goal) (plan : List �
     → RefusesPlan book q goal plan r
 refused-plan book q goal plan r x = x
 
--- a sheet's is printed; 22 and its line are told by the grammar alone, unless an earlier line is refused for something else; and the formula's number is the one that `formula::read` answers
+-- a sheet's is printed; 22 and its line are told by the grammar alone, unless an earlier line is refused for something else; and the formula's number
+-- is the one that `formula::read` answers. Exactly has every refusal of a sheet by the grammar, both ways.
 pub refused-sheet : (s old : List ℕ) (r : ℕ) (new : List ℕ) (w : Refusal) (L : ℕ) → sheetMeaning s ≡ refused w L → AnswersSheet s old r new → Prints old (refusedText (number w) L) r new
 refused-sheet s old r new w L m a = subst (λ (o : Meaning). PrintsMeaning o old r new) m a
 
