@@ -49,17 +49,22 @@ run() {
     esac
 }
 
-# hint KIND FILE NAME [WORDS..]: after a refusal, a line on standard error that says in words what is wrong and where, as far
-# as the text shows it. WORDS are settings of hints.awk.
+# hint KIND FILE NAME [WORDS..]: after a fault in a text, a line on standard error that says in words what is wrong and where, as
+# far as the text shows it. WORDS are settings of hints.awk.
 hint() {
-    [ "$status" -eq 2 ] || return 0
     local kind=$1 file=$2 name=$3 answer own number line place unended=0
     shift 3
     answer=$(sed -n 2p <<<"$said")
     own=$(sed -n 3p <<<"$said")
+    [ -n "$own" ] || return 0
     read -r _ number line <<<"$answer"
     read -r _ _ place <<<"$own"
-    [ "$(tail -c 1 "$file" | od -An -tu1 | tr -d " ")" = 10 ] || unended=1
+    [ "$(tail -c 1 "$file" | od -An -tu1 | tr -d ' ')" = 10 ] || unended=1
     awk -v kind="$kind" -v name="$name" -v number="$number" -v line="$line" -v place="$place" -v unended="$unended" "$@" \
         -f "$home/command/hints.awk" "$file" >&2
+}
+
+# whose: which of its texts the program says is at fault.
+whose() {
+    sed -n 4p <<<"$said"
 }

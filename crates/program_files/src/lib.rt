@@ -1,6 +1,7 @@
 // Reading and writing for the programs, over the C library: a failure is told, and never taken for the end
 // of the input. What the system reads and writes no contract can say; what is proved is that no byte
-// outside the room is counted. Nothing is refused, and no function has a `requires`.
+// outside the room is counted. Nothing is refused, and no function has a `requires`. A failure to do with
+// a named file is said on standard error here.
 ghost use Rattle.program_files.specs.Input.{InRoom};
 
 // What was read.
@@ -78,4 +79,53 @@ pub fn write_all(fd: i32, bytes: &[u8]) -> bool {
         done += more;
     }
     true
+}
+
+// The file that one of the program's words names, whole or as many bytes as the room has.
+pub fn read_named(word: usize, room: &mut [u8]) -> Input
+    ensures { λ r. ⌜ InRoom r (now (room .exit)) ⌝ }
+{
+    let mut name = io::buffer();
+    let length = os::arg(word, &mut name);
+    let fd = os::open_read(&name[..length]);
+    if fd < 0 {
+        os::fail(&name[..length]);
+        return Input::Failed;
+    }
+    let input = read_all(fd, room);
+    match input {
+        Input::Failed => os::fail(&name[..length]),
+        Input::Whole(_) => {}
+    }
+    libc::close(fd);
+    input
+}
+
+// Writes the bytes to a file that was just made, and closes it; tells whether all of that could be done.
+fn filled(fd: i32, bytes: &[u8]) -> bool {
+    if !write_all(fd, bytes) {
+        return false;
+    }
+    if libc::fsync(fd) < 0 {
+        return false;
+    }
+    0 <= libc::close(fd)
+}
+
+// Makes the file that one of the program's words names, with these bytes, and tells whether it could. A file
+// that is there is never overwritten, and a failed write leaves no file.
+pub fn make_named(word: usize, bytes: &[u8]) -> bool {
+    let mut name = io::buffer();
+    let length = os::arg(word, &mut name);
+    let fd = os::create(&name[..length]);
+    if fd < 0 {
+        os::fail(&name[..length]);
+        return false;
+    }
+    if filled(fd, bytes) {
+        return true;
+    }
+    os::fail(&name[..length]);
+    os::unlink(&name[..length]);
+    false
 }

@@ -7,6 +7,9 @@ ghost use Rattle.program_outcome.specs.Outcomes.{statusDigit, answerOutc
 // Where the outcome is said.
 const OUTCOME_FILENO: i32 = 3;
 
+// Bytes that hold any refusal's line: `refused`, two numbers of up to 20 digits, two spaces and the line's end are 50.
+const REFUSED_MOST: usize = 64;
+
 // What came of a program.
 pub enum Outcome {
     // Reach, yes or done.
@@ -50,14 +53,50 @@ pub fn say(outcome: Outcome) {
     program_files::write_all(OUTCOME_FILENO, &line);
 }
 
-// Says a refusal: the outcome, the line of the answer, and a second line with the refusal's own place, from which a hint
-// can be made (of a formula the byte, where the answer has the line).
-pub fn say_refused(answer: &[u8], number: u64, place: usize) {
-    say(Outcome::Refused);
+// Says that standard input or output has failed.
+pub fn trouble(what: &[u8]) {
+    os::fail(what);
+    say(Outcome::Trouble);
+}
+
+// Writes the answer to standard output, and tells whether it could; else that is said.
+fn written(answer: &[u8]) -> bool {
+    if program_files::write_all(libc::STDOUT_FILENO, answer) {
+        return true;
+    }
+    trouble(b"parjolenc: standard output");
+    false
+}
+
+// Writes out an answer, and says its outcome.
+pub fn deliver(answer: &[u8], outcome: Outcome) {
+    if written(answer) {
+        say(outcome);
+    }
+}
+
+// Writes out an answer that names a fault, and says its outcome. Three lines more, from which the command can make a
+// hint: the answer, the refusal with its own place (of a formula the byte, where the answer has the line), and
+// whose fault it is.
+pub fn deliver_fault(answer: &[u8], outcome: Outcome, number: u64, place: usize, whose: &[u8]) {
+    if !written(answer) {
+        return;
+    }
+    say(outcome);
     program_files::write_all(OUTCOME_FILENO, answer);
-    let mut room = [0u8; 64];
+    let mut room = [0u8; REFUSED_MOST];
     let length = print_answer::refused(number, place, &mut room);
     if length <= room.len() {
         program_files::write_all(OUTCOME_FILENO, &room[..length]);
+    }
+    program_files::write_all(OUTCOME_FILENO, whose);
+}
+
+// Writes out a refusal by its number, at this place of a text, and says it; `own` is the refusal's own place.
+pub fn refuse(number: u64, place: usize, own: usize, whose: &[u8], outcome: Outcome) {
+    let mut room = [0u8; REFUSED_MOST];
+    let length = print_answer::refused(number, place, &mut room);
+    if length <= room.len() {
+        deliver_fault(&room[..length], outcome, number, own, whose);
     }
 }

@@ -30,14 +30,14 @@ array-share-prefix-sheet c =
     let counted : tie.After-length = search in
     subst (λ r. InRoom r (got .read-all .last .1 .0)) (counted .length .given .1) (got .read-all .ensures)
 
-slice-aggregate-print : tie.Need-slice-aggregate-print
-slice-aggregate-print c =
+slice-aggregate-answer : tie.Need-slice-aggregate-answer
+slice-aggregate-answer c =
     let got : tie.After-read-all = search in
     let counted : tie.After-length = search in
     sym (length-take-le _ _ (subst (λ r. InRoom r (got .read-all .last .1 .0)) (counted .length .given .1) (got .read-all .ensures)))
 
-print-requires : tie.Need-print-requires
-print-requires c κs = search needs
+answer-requires : tie.Need-answer-requires
+answer-requires c κs = search needs
 
 returns : tie.Need-returns
 returns c = search needs
@@ -56,7 +56,7 @@ main-spec =
     trouble-requires
     enum-known-length
     array-share-prefix-sheet
-    slice-aggregate-print
-    print-requires
+    slice-aggregate-answer
+    answer-requires
     returns
     returns-2)

@@ -1,9 +1,15 @@
--- `say_refused` hands out no byte that is not there.
+-- `deliver_fault` hands out no byte that is not there: the line is written out only where it fits its room.
 use mathlib.Core.Path.{sym}
 use lib.Seq.{length-take-le}
 use borrow.Author.Needs.{needs}
-use Rattle.program_outcome.proofs.say_refused.Statement.{statement}
-use Rattle.program_outcome.proofs.say_refused.Tie as tie
+use Rattle.program_outcome.proofs.deliver_fault.Statement.{statement}
+use Rattle.program_outcome.proofs.deliver_fault.Tie as tie
+
+written-requires : tie.Need-written-requires
+written-requires c κs = search needs
+
+returns : tie.Need-returns
+returns c = search needs
 
 say-requires : tie.Need-say-requires
 say-requires c κs = search needs
@@ -26,16 +32,18 @@ slice-aggregate-write-all c = sym (length-take-le _ _ (search needs))
 write-all-requires-2 : tie.Need-write-all-requires-2
 write-all-requires-2 c κs = search needs
 
-returns : tie.Need-returns
-returns c = search needs
+write-all-requires-3 : tie.Need-write-all-requires-3
+write-all-requires-3 c κs = search needs
 
 returns-2 : tie.Need-returns-2
 returns-2 c = search needs
 
-pub say-refused-spec : {M : Type 1} → statement M
-say-refused-spec =
+pub deliver-fault-spec : {M : Type 1} → statement M
+deliver-fault-spec =
     tie.close
     (tie.spec
+    written-requires
+    returns
     say-requires
     write-all-requires
     slice-aggregate-refused
@@ -43,5 +51,5 @@ say-refused-spec =
     array-share-prefix-room
     slice-aggregate-write-all
     write-all-requires-2
-    returns
+    write-all-requires-3
     returns-2)

@@ -1,0 +1,39 @@
+-- `refuse` hands out no byte that is not there: the line is written out only where it fits its room.
+use mathlib.Core.Path.{sym}
+use lib.Seq.{length-take-le}
+use borrow.Author.Needs.{needs}
+use Rattle.program_outcome.proofs.refuse.Statement.{statement}
+use Rattle.program_outcome.proofs.refuse.Tie as tie
+
+slice-aggregate-refused : tie.Need-slice-aggregate-refused
+slice-aggregate-refused c = search needs
+
+refused-requires : tie.Need-refused-requires
+refused-requires c κs = search needs
+
+array-share-prefix-room : tie.Need-array-share-prefix-room
+array-share-prefix-room c = search needs
+
+slice-aggregate-deliver-fault : tie.Need-slice-aggregate-deliver-fault
+slice-aggregate-deliver-fault c = sym (length-take-le _ _ (search needs))
+
+deliver-fault-requires : tie.Need-deliver-fault-requires
+deliver-fault-requires c κs = search needs
+
+returns : tie.Need-returns
+returns c = search needs
+
+returns-2 : tie.Need-returns-2
+returns-2 c = search needs
+
+pub refuse-spec : {M : Type 1} → statement M
+refuse-spec =
+    tie.close
+    (tie.spec
+    slice-aggregate-refused
+    refused-requires
+    array-share-prefix-room
+    slice-aggregate-deliver-fault
+    deliver-fault-requires
+    returns
+    returns-2)
