@@ -6,7 +6,6 @@ use mathlib.Core.List.{List, _++_}
 use Prim.Native.Nat.{ℕ, zero, suc, _^_, _≤_, _<_}
 use native.Mathlib.Omega.{arith}
 use lib.ListN.{length, getD, set, drop, length-set}
-use lib.Pow.{pow-mono}
 use lib.Seq.{getD-set-same, getD-set-other}
 use Rattle.ground.specs.Search.{Least}
 use Rattle.ground.proofs.Bools.{lt-or-ge}
@@ -20,41 +19,29 @@ use Rattle.plan.specs.Ranks.{Reach as ReachIn, Cannot as CannotFrom, IsRank, Wr
 use Rattle.plan.specs.Bytes.{encode}
 use Rattle.plan.proofs.Ranks.{has-rank}
 use Rattle.plan.proofs.Written.{written-works, written-unique}
-use Rattle.question.proofs.SystemLaws.{team-lawful}
 use Rattle.question.specs.Question.{systemOf, startOf}
-use Rattle.question.specs.Rows.{questionRows}
+use Rattle.question.specs.Asks.{ValidQuestion}
+use Rattle.question.specs.declared.Question.{Question}
+use Rattle.knowledge.specs.Goal.{Goal}
 use Rattle.finder.specs.Finds.{RanksFilled, Finds, findRows}
 use Rattle.finder.specs.Answers.{AnswersFrom}
 use Rattle.finder.specs.declared.answer.Answer.{Answer}
 use Rattle.finder.specs.declared.answer.Answer.the-variants.{Reach, Cannot, Refused}
 use Rattle.question.proofs.RowLaws.{question-clear}
-use Rattle.marked.specs.Row.{Case, bookFor, goalFor}
-use Rattle.marked.proofs.Valid.{Well, Valid}
 
-abbrev pub systemIn : Case → System
-systemIn c = systemOf (c .n) (bookFor c) (c .asked) (goalFor c)
+module _ {book : List ℕ} {q : Question} {goal : Goal} {n m : ℕ} (v : ValidQuestion book q goal n m) (ranks room : List ℕ) (l : 7 ^ n ≤ length ranks) where
+  clear : Clear (findRows book q goal ranks)
+  unfolding findRows
+  clear =
+      clear-append (question-clear v)
+      (clear-when (λ h. omega (arith, l, subst (λ (x : ℕ). length ranks < 7 ^ x) (sound-settings (v .sound)) h)) clear-none)
 
-abbrev pub startIn : Case → ℕ
-startIn c = startOf (c .asked)
-
-pub law : (c : Case) → Well c → Lawful (c .n) (systemIn c)
-law c w = team-lawful (c .n) (bookFor c) (c .asked) (goalFor c) (omega (arith, w .team, pow-mono {i = c .m} {j = 8} (w .few-posts)))
-
-clear : (c : Case) → Valid c → (ranks : List ℕ) → 7 ^ (c .n) ≤ length ranks
-    → Clear (findRows (bookFor c) (c .asked) (goalFor c) ranks)
-unfolding findRows
-clear c v ranks h =
-    clear-append (question-clear v)
-    (clear-when (λ l. omega (arith, subst (λ (x : ℕ). length ranks < 7 ^ x) (sound-settings (v .sound)) l)) clear-none)
-
--- every result allowed answers the question
-pub answers : (c : Case) → Valid c → (ranks room : List ℕ) → 7 ^ (c .n) ≤ length ranks → (a : Answer) (ranks′ room′ : List ℕ)
-    → Finds (bookFor c) (c .asked) (goalFor c) ranks room a ranks′ room′ → AnswersFrom (systemIn c) (startIn c) room a room′
-answers c v ranks room l a ranks′ room′ (inl u) =
-    first-clear (u .first) (clear c v ranks l)
-answers c v ranks room l a ranks′ room′ (inr (k, o, d, e, f, g)) =
-    let same : k ≡ c .n = sound-one (d .sound) (v .sound) .0 in
-    subst (λ (j : ℕ). AnswersFrom (systemOf j (bookFor c) (c .asked) (goalFor c)) (startIn c) room a room′) same g
+  -- every result allowed answers the question
+  pub answers : (a : Answer) (ranks′ room′ : List ℕ) → Finds book q goal ranks room a ranks′ room′ → AnswersFrom (systemOf n book q goal) (startOf q) room a room′
+  answers a ranks′ room′ (inl u) = first-clear (u .first) clear
+  answers a ranks′ room′ (inr (k, o, d, e, f, g)) =
+      let same : k ≡ n = sound-one (d .sound) (v .sound) .0 in
+      subst (λ (j : ℕ). AnswersFrom (systemOf j book q goal) (startOf q) room a room′) same g
 
 module _ {n : ℕ} {S : System} (law : Lawful n S) (few : n ≤ 7) (k : ℕ) (room room′ : List ℕ) where
   pub one-reach : (h : ℕ) (p : Plan) → Least (ReachIn S k) h → Written S k p → length (encode p) ≤ length room
