@@ -1,11 +1,18 @@
 -- `refused` meets its contract: its five pieces one after the other; a number of 64 bits has at most 20 digits, so places stay small.
 use borrow.Author.Needs.{needs}
 use native.Mathlib.Omega.{arith}
+use Prim.Native.Nat.{_≤_}
+use lib.ListN.{length}
+use Rattle.print_room.specs.Decimal.{decimal}
 use Rattle.print_room.proofs.Decimals.{decimal-length}
 use Rattle.print_room.proofs.Writing.{wrote-then}
 use Rattle.print_answer.proofs.Fitted.{prints}
 use Rattle.print_answer.proofs.refused.Statement.{statement}
 use Rattle.print_answer.proofs.refused.Tie as tie
+
+-- whichever of the two is printed where
+digits : (c : tie.Start) → (length (decimal (c .args .number)) ≤ 20) × (length (decimal (c .args .place)) ≤ 20)
+digits c = (decimal-length 19 (c .args .number) (omega arith), decimal-length 19 (c .args .place) (omega arith))
 
 slice-aggregate-word : tie.Need-slice-aggregate-word
 slice-aggregate-word c = search needs
@@ -17,22 +24,16 @@ number-requires : tie.Need-number-requires
 number-requires c κs =
     let after-word : tie.After-word = search in
     let start : tie.Start = search in
-    record { below = omega (arith, after-word .word .ensures .next-place, decimal-length 19 (start .args .number) (omega arith)) }
+    let d = digits start in
+    record { below = omega (arith, after-word .word .ensures .next-place, d .0, d .1) }
 
 put-requires : tie.Need-put-requires
 put-requires c κs =
     let after-number : tie.After-number = search in
     let after-word : tie.After-word = search in
     let start : tie.Start = search in
-    record {
-      below
-          = omega (
-            arith,
-            after-word .word .ensures .next-place,
-            after-number .number .ensures .next-place,
-            decimal-length 19 (start .args .number) (omega arith),
-          );
-    }
+    let d = digits start in
+    record { below = omega (arith, after-word .word .ensures .next-place, after-number .number .ensures .next-place, d .0, d .1) }
 
 number-requires-2 : tie.Need-number-requires-2
 number-requires-2 c κs =
@@ -40,17 +41,9 @@ number-requires-2 c κs =
     let after-number : tie.After-number = search in
     let after-word : tie.After-word = search in
     let start : tie.Start = search in
-    let args = start .args in
+    let d = digits start in
     record {
-      below
-          = omega (
-            arith,
-            after-word .word .ensures .next-place,
-            after-number .number .ensures .next-place,
-            after-put .put .ensures .next-place,
-            decimal-length 19 (args .number) (omega arith),
-            decimal-length 19 (args .place) (omega arith),
-          );
+      below = omega (arith, after-word .word .ensures .next-place, after-number .number .ensures .next-place, after-put .put .ensures .next-place, d .0, d .1);
     }
 
 put-requires-2 : tie.Need-put-requires-2
@@ -60,7 +53,7 @@ put-requires-2 c κs =
     let after-number : tie.After-number = search in
     let after-word : tie.After-word = search in
     let start : tie.Start = search in
-    let args = start .args in
+    let d = digits start in
     record {
       below
           = omega (
@@ -69,8 +62,8 @@ put-requires-2 c κs =
             after-number .number .ensures .next-place,
             after-put .put .ensures .next-place,
             after-number2 .number2 .ensures .next-place,
-            decimal-length 19 (args .number) (omega arith),
-            decimal-length 19 (args .place) (omega arith),
+            d .0,
+            d .1,
           );
     }
 
