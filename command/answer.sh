@@ -5,7 +5,7 @@ if [ "$1" = - ]; then
     copied 32768
     sheet=$copy name='standard input'
 fi
-readable "$sheet"
+readable "$sheet" || exit 3
 run parjolenc <"$sheet"
 hint sheet "$sheet" "$name"
 exit "$status"

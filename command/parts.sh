@@ -3,7 +3,7 @@
 
 # trouble WORDS..: says what is wrong with the words, the files or the disk.
 trouble() {
-    printf 'parjolenc: %s\n' "$*" >&2
+    say "$*"
     exit 3
 }
 
@@ -12,11 +12,23 @@ words() {
     [ "$1" -eq "$2" ] || trouble "usage: ./parjolenc $3"
 }
 
-# readable FILE: a file that can be read, and no folder.
+# say WORDS..: a line on standard error.
+say() {
+    printf 'parjolenc: %s\n' "$*" >&2
+}
+
+# readable FILE: a file that can be read, and no folder; else what is wrong is said.
 readable() {
-    [ -e "$1" ] || trouble "$1: there is no such file"
-    [ ! -d "$1" ] || trouble "$1: this is a folder"
-    [ -r "$1" ] || trouble "$1: no permission to read it"
+    if [ ! -e "$1" ]; then
+        say "$1: there is no such file"
+    elif [ -d "$1" ]; then
+        say "$1: this is a folder"
+    elif [ ! -r "$1" ]; then
+        say "$1: no permission to read it"
+    else
+        return 0
+    fi
+    return 1
 }
 
 # copied MOST: standard input, as far as MOST bytes and one more, in a file of its own; `copy` is its name.
@@ -67,4 +79,23 @@ hint() {
 # whose: which of its texts the program says is at fault.
 whose() {
     sed -n 4p <<<"$said"
+}
+
+# book_hint BOOK: what is wrong with a book that is refused.
+book_hint() {
+    local number place
+    read -r _ number place < <(sed -n 2p <<<"$said")
+    case $number in
+    6) say "$1: this is no book: it has $(($(wc -c <"$1"))) bytes, and a book has 2 to 8 blocks of 512" ;;
+    7) say "$1: block $place is damaged: its check is wrong" ;;
+    8) say "$1: the head of the book is not in order" ;;
+    9) say "$1: block $place has a bit that must be zero" ;;
+    esac
+}
+
+# question_hint BOOK QUESTION: what is wrong with a question that is put to a book, whose first two bytes are its size.
+question_hint() {
+    local n m
+    read -r n m < <(od -An -tu1 -N2 "$1")
+    hint question "$2" "$2" -v n="$n" -v m="$m"
 }

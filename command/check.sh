@@ -1,0 +1,27 @@
+# check BOOK QUESTION PLAN: whether a plan, as it is printed, is one that works.
+words 3 $# 'check BOOK QUESTION PLAN'
+for file in "$@"; do readable "$file" || exit 3; done
+run program_check "$@"
+
+# plan_hint: the fault that the plan check found, with the line of the plan that it is in. Byte i stands in line i + 2.
+plan_hint() {
+    local number place line
+    read -r _ number place < <(sed -n 2p <<<"$said")
+    line=$((place + 2))
+    case $number in
+    16) say "$1: the plan has more than 32,640 lines of acts and stops" ;;
+    17) say "$1, line $line: '$(sed -n "${line}p" "$1")' names no act of this book and team" ;;
+    18) say "$1, line $line: '$(sed -n "${line}p" "$1")' is not known to be allowed there, or looks at a setting that is known" ;;
+    19) say "$1, line $line: the plan stops where the goal is not settled" ;;
+    20) say "$1, line $line: the plan ends too soon" ;;
+    21) say "$1, line $line: the plan was whole before this line" ;;
+    *) hint plan "$1" "$1" ;;
+    esac
+}
+
+case $(whose) in
+book) book_hint "$1" ;;
+question) question_hint "$1" "$2" ;;
+plan) plan_hint "$3" ;;
+esac
+exit "$status"
