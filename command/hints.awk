@@ -146,6 +146,6 @@ END {
     if (number == 22) malformed()
     if (number == 23) named_twice()
     if (number == 24) hint("the text is too long: it may have " (kind == "sheet" ? "32,768" : kind == "plan" ? "524,288" : "65,536") " bytes")
-    if (number == 25) hint("a sheet has up to 5 settings")
+    if (number == 25) hint("a sheet has up to 5 settings; a book has up to 7: ask it with './parjolenc book' and 'ask'")
     if (number >= 1 && number <= 5) formula()
 }
