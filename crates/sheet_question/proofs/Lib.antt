@@ -8,3 +8,8 @@ pub mod Turns
 pub mod NameTurns
 pub mod LineTurns
 pub mod ReadLaws
+pub mod Unique
+pub mod Fits
+pub mod Counted
+pub mod Passed
+pub mod Examples

@@ -102,15 +102,7 @@ fn lines(text: &[u8], before: u32, passes: bool, settings: u8, posts: u8) -> Que
         if text.len() <= end {
             return ending(due, desk, &text[at..end], number);
         }
-        let turn = any_line(
-            passes,
-            settings,
-            posts,
-            due,
-            desk,
-            &text[at..end],
-            number,
-        );
+        let turn = any_line(passes, settings, posts, due, desk, &text[at..end], number);
         let taken = turn.taken;
         match taken {
             Taken::No(why) => {

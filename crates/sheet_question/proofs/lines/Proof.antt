@@ -187,8 +187,8 @@ loop-again c =
         w .0,
         w .2,
         ap (λ (k : ℕ). askedFrom (x .passes) n (x .posts) k (due .0 .0) (w .0) (split newline (drop (end .result + 1) s))) (add-one (l .number))
-        ∙ ap (λ (k : ℕ). askedFrom (x .passes) n (x .posts) (suc (l .number)) (due .0 .0) (w .0) (split newline (drop k s))) (add-one (end .result))
-        ∙ sym (rest-goes-on (x .passes) n (x .posts) s (l .at) (end .result) (l .number) (l .due) (z .0) p more (w .1)) ∙ z .2,
+            ∙ ap (λ (k : ℕ). askedFrom (x .passes) n (x .posts) (suc (l .number)) (due .0 .0) (w .0) (split newline (drop k s))) (add-one (end .result))
+            ∙ sym (rest-goes-on (x .passes) n (x .posts) s (l .at) (end .result) (l .number) (l .due) (z .0) p more (w .1)) ∙ z .2,
       ),
     )
 
