@@ -35,7 +35,7 @@ plan-length k depth (look-then i q p r) h =
     )
     )
 
-height-length : (p : Plan) → height p < length (encode p)
+pub height-length : (p : Plan) → height p < length (encode p)
 height-length stop = omega arith
 height-length (set-then i q b p) = omega (arith, height-length p)
 height-length (look-then i q p r) = omega (arith, height-length p, height-length r, length-append (encode p) (encode r))
