@@ -10,10 +10,10 @@ use Rattle.knowledge_acts.specs.Seven.{nowTold, afterLook}
 use Rattle.finder_sides.specs.Tables.{entry}
 use Rattle.finder_ranks.specs.Ranks.{rank}
 use Rattle.finder_ranks.specs.Push.{Pushing}
-use Rattle.finder_ranks.specs.Push.{afterOffer, Spotted, SetsTo, Beside, Tried, PushedLooks}
+use Rattle.finder_ranks.specs.Push.{other, afterOffer, Spotted, SetsTo, Beside, Tried, PushedLooks}
 use Rattle.finder_sides.proofs.Shown.{seven as pos}
 use Rattle.finder_ranks.proofs.Spots.{spot-at, spot-side}
-use Rattle.finder_ranks.proofs.Before.{other, from-other, from-none}
+use Rattle.finder_ranks.proofs.Before.{from-other, from-none}
 use Rattle.finder_ranks.proofs.Pushes.{try-set, try-look, look-high}
 
 module _ {n k i rest side seven three : ℕ} (s : Spotted n k i rest side seven three) {h : ℕ} where

@@ -2,7 +2,7 @@
 use mathlib.Core.Path.{_≡_, sym, ap, _∙_}
 use mathlib.Core.Logic.{_⊎_, inl, inr}
 use mathlib.Core.Bool.{Bool, true, false, _&&_, _||_}
-use Prim.Native.Nat.{ℕ, _+_, _*_, _-_, _/_, _%_, _<_}
+use Prim.Native.Nat.{ℕ, _%_, _<_}
 use lib.Dec.{T, eqb, ltb, eqb→eq, ltb→lt}
 use borrow.Author.Tests.{eq-eqb, ne-eqb}
 use Rattle.ground.specs.Digits.{digit, put}
@@ -15,7 +15,7 @@ use Rattle.knowledge_acts.specs.Acts.{setTo, lookAt}
 use Rattle.knowledge_acts.proofs.Seven.{set-lt, look-lt}
 use Rattle.knowledge_acts.proofs.Outcomes.{set-here, look-here}
 use Rattle.knowledge.specs.Fits.{implies}
-use Rattle.finder_ranks.specs.Push.{SetsTo}
+use Rattle.finder_ranks.specs.Push.{other, SetsTo}
 use Rattle.finder_sides.proofs.Shown.{seven as pos}
 
 module _ (k i : ℕ) where
@@ -51,16 +51,12 @@ module _ (k i : ℕ) where
   pub look-from : (b : Bool) → digit 7 k i ≡ afterLook b → lookAt (put 7 k i 0) i b ≡ k
   look-from b e = look-to b ∙ ap (λ (x : ℕ). put 7 k i x) (sym e) ∙ put-digit pos k i
 
--- the other one of the two digits that sets of the same start side give
-abbrev pub other : ℕ → ℕ
-other d = (d - 1) / 2 * 4 + 3 - d
-
 -- a set gives d from these digits, and from no others
 from-these : Bool → ℕ → ℕ → Bool
 from-these b d e = implies (eqb (afterSet e b) d) (eqb e d || (eqb e (other d) || (eqb e 0 && ltb d 3)))
 
 pub only-from : (d e : ℕ) (b : Bool) → d < 7 → e < 7 → afterSet e b ≡ d → (e ≡ d) ⊎ ((e ≡ other d) ⊎ ((e ≡ 0) × (d < 3)))
-unfolding all afterSet from-these
+unfolding all afterSet other from-these
 only-from d e b l m a = elim (or-out (eqb e d) _ (rw (T-eqb a) at (tested b))) [
   | inl x ↦ inl (eqb→eq e d x)
   | inr x ↦ elim (or-out (eqb e (other d)) _ x) [
@@ -82,7 +78,7 @@ value d = eqb (d % 2) 0
 
 module _ (d : ℕ) (l : d < 7) where
   pub from-other : (d ≡ 0 → ⊥) → SetsTo (other d) d
-  unfolding all afterSet value
+  unfolding all afterSet other value
   from-other z =
       (value d, eqb→eq (afterSet (other d) (value d)) d (rw (ne-eqb d 0 z) at (all-at 7 (λ d. eqb d 0 || eqb (afterSet (other d) (value d)) d) tt d l)))
 

@@ -15,10 +15,10 @@ use Rattle.finder_sides.specs.Sides.{nowSideNumber}
 use Rattle.finder_sides.specs.Tables.{entry}
 use Rattle.finder_ranks.specs.Ranks.{rank, May, by-set, by-look}
 use Rattle.finder_ranks.specs.Push.{Grew, SetsDone, Pushing, PushedAlong}
-use Rattle.finder_ranks.specs.Push.{afterOffer, SetsTo, Beside, Tried, PushedSets, PushedLooks}
+use Rattle.finder_ranks.specs.Push.{other, afterOffer, SetsTo, Beside, Tried, PushedSets, PushedLooks}
 use Rattle.finder_sides.proofs.Shown.{seven as pos}
 use Rattle.finder_ranks.proofs.Grown.{same, kept, further, still-none, sets-stay, offer-grew, offer-taken}
-use Rattle.finder_ranks.proofs.Before.{set-into, set-from, look-into, look-to, look-from, other, only-from}
+use Rattle.finder_ranks.proofs.Before.{set-into, set-from, look-into, look-to, look-from, only-from}
 
 -- what a push is made with lasts
 pub pushing-on : {n k h : ℕ} {set look : List (List ℕ)} {old new : List ℕ} → Pushing n k h old → Grew n set look h old new → Pushing n k h new
@@ -82,24 +82,24 @@ module _ {n k i h : ℕ} (state : k < 7 ^ n) (setting : i < n) where
   ranked : {t : List ℕ} → Pushing n k h t → rank t (put 7 k i (digit 7 k i)) ≡ 255 → ⊥
   ranked {t} p e = omega (arith, p .low, p .high, ap (λ (x : ℕ). rank t x) (put-digit pos k i), e)
 
-  pub sets-one : {set : List (List ℕ)} {a b : List ℕ} (d : ℕ) → d ≡ digit 7 k i → Pushing n k h a → 3 ≤ d
-      → Tried n set h k i (other d) a b → PushedSets n set h k i a b
-  sets-one {set} {b = b} d is p m f = record {
+  pub sets-one : {set : List (List ℕ)} {a b : List ℕ} (d : ℕ) {e : ℕ} → e ≡ other d → d ≡ digit 7 k i → Pushing n k h a → 3 ≤ d
+      → Tried n set h k i e a b → PushedSets n set h k i a b
+  sets-one {set} {b = b} d to is p m f = record {
     grew = f .grew;
     sets = sets-done n k i set b (λ e small w may none. elim (only-from d e (w .0) (rw is (digit-lt pos k i)) small (w .1 ∙ sym is)) [
       | inl q ↦ ranked (pushing-on p (f .grew set)) (rw (q ∙ is) at none)
-      | inr (inl q) ↦ f .taken (rw q at may) (rw q at none)
+      | inr (inl q) ↦ f .taken (rw (q ∙ sym to) at may) (rw (q ∙ sym to) at none)
       | inr (inr q) ↦ absurd (omega (arith, q .1))
     ]);
   }
 
-  pub sets-two : {set : List (List ℕ)} {a b c : List ℕ} (d : ℕ) → d ≡ digit 7 k i → Pushing n k h a
-      → Tried n set h k i (other d) a b → Tried n set h k i 0 b c → PushedSets n set h k i a c
-  sets-two {set} {c = c} d is p f o = record {
+  pub sets-two : {set : List (List ℕ)} {a b c : List ℕ} (d : ℕ) {e : ℕ} → e ≡ other d → d ≡ digit 7 k i → Pushing n k h a
+      → Tried n set h k i e a b → Tried n set h k i 0 b c → PushedSets n set h k i a c
+  sets-two {set} {c = c} d to is p f o = record {
     grew = λ look. further (p .high) (f .grew look) (o .grew look);
     sets = sets-done n k i set c (λ e small w may none. elim (only-from d e (w .0) (rw is (digit-lt pos k i)) small (w .1 ∙ sym is)) [
       | inl q ↦ ranked (pushing-on p (further (p .high) (f .grew set) (o .grew set))) (rw (q ∙ is) at none)
-      | inr (inl q) ↦ f .taken (rw q at may) (still-none (o .grew set) (p .high) _ (rw q at none))
+      | inr (inl q) ↦ f .taken (rw (q ∙ sym to) at may) (still-none (o .grew set) (p .high) _ (rw (q ∙ sym to) at none))
       | inr (inr q) ↦ o .taken (rw (q .0) at may) (rw (q .0) at none)
     ]);
   }

@@ -4,7 +4,7 @@ use mathlib.Core.Path.{_≡_}
 use mathlib.Core.Logic.{_⊎_}
 use mathlib.Core.List.{List}
 use mathlib.Core.Bool.{Bool, true, false, not, _&&_}
-use Prim.Native.Nat.{ℕ, _^_, _≤_, _<_}
+use Prim.Native.Nat.{ℕ, _^_, _%_, _≤_, _<_}
 use lib.Dec.{eqb}
 use lib.ListN.{getD, set, length}
 use Rattle.ground.specs.Digits.{digit, put}
@@ -59,6 +59,10 @@ pub record Spotted (n k i rest side seven three : ℕ) : Type 0 where
   pub side-is : side ≡ nowSideNumber n (put 7 k i 0)
   pub seven-is : seven ≡ 7 ^ i
   pub three-is : three ≡ 3 ^ i
+
+-- the digit after a set to the value that d does not tell: an odd digit tells false, an even one true, and 0 nothing
+unfoldable pub other : ℕ → ℕ
+other d = afterSet d (eqb (d % 2) 1)
 
 -- a set leads from digit e to digit d
 abbrev pub SetsTo : ℕ → ℕ → Type 0

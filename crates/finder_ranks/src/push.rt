@@ -12,7 +12,7 @@ ghost use Rattle.ground.specs.Digits.{digit};
 ghost use Rattle.finder_sides.specs.Sides.{nowSideNumber};
 ghost use Rattle.finder_sides.specs.Tables.{entry};
 ghost use Rattle.finder_ranks.specs.Push.{Pushing, PushedAlong};
-ghost use Rattle.finder_ranks.specs.Push.{afterOffer, Spotted, SetsTo, Beside, Tried, PushedSets, PushedLooks};
+ghost use Rattle.finder_ranks.specs.Push.{other, afterOffer, Spotted, SetsTo, Beside, Tried, PushedSets, PushedLooks};
 
 // A state but for its digit at one setting: the number and the present side that it has with digit 0
 // there, and what a step of that digit and of that side counts.
@@ -63,6 +63,18 @@ fn from_digit(
     give(ranks, at, h, so);
 }
 
+// By digit: the digit after a set to the value that it does not tell, an entry of paper 01's set table. A set
+// to the value that it tells leads back from there. Digit 0 tells none: its entry is that of a set to false.
+const OTHER: [u8; 7] = [1, 2, 1, 4, 3, 6, 5];
+
+// The other one of the two digits that sets of the same start side give.
+fn other_of(d: u8) -> u8
+    requires { ⌜ d < 7 ⌝ }
+    ensures { λ r. ⌜ r ≡ other d ⌝ }
+{
+    OTHER[d as usize]
+}
+
 // Pushes to each other state from which a set gives the digit d at the spot. Digits 1 and 2 come from
 // 0, 1 and 2, digits 3 and 4 from 3 and 4, digits 5 and 6 from 5 and 6, and no set gives digit 0. The
 // state with d itself is k, which has a rank.
@@ -82,7 +94,7 @@ fn by_set(
     if d == 0 {
         return;
     }
-    let other = (d - 1) / 2 * 4 + 3 - d;
+    let other = other_of(d);
     from_digit(n, k, i, spot, other, h, set, ranks);
     if d < 3 {
         from_digit(n, k, i, spot, 0, h, set, ranks);
