@@ -1,5 +1,5 @@
 -- Rules line by line: what is left to be read from a place on is read from the next line on, with what the line leaves stated.
-use mathlib.Core.Path.{_≡_, refl, sym, ap, _∙_, subst}
+use mathlib.Core.Path.{_≡_, refl, sym, ap, ap₂, _∙_, subst}
 use mathlib.Core.Bool.{Bool, true, false, _&&_, cond}
 use mathlib.Core.List.{List, [], _∷_}
 use Prim.Native.Nat.{ℕ, suc, _≤_, _<_}
@@ -69,6 +69,12 @@ module _ (s : List ℕ) (at r L : ℕ) (passes : Bool) (p : PieceEnd s at newlin
         (λ another more. rules-line passes L rules (part s at r) another more e) (drop (suc r) s)
         ∙ ap (λ (x : Step Rules). afterSize passes L x (split newline (drop (suc r) s))) f
 
+    -- the next line's number and place, as they are counted on
+    pub rest-next : {o : Reading} {v : Rules} (L′ at′ : ℕ) → L′ ≡ suc L → at′ ≡ suc r → r < length s
+        → isOfRules passes (rules .size .settings) (rules .size .posts) (part s at r) ≡ true → lineStep passes L rules (part s at r) ≡ next v
+        → rulesFrom passes L rules (split newline (drop at s)) ≡ o → rulesFrom passes L′ v (split newline (drop at′ s)) ≡ o
+    rest-next {v = v} L′ at′ e f h t w q = ap₂ (λ (k i : ℕ). rulesFrom passes k v (split newline (drop i s))) e f ∙ sym (rest-goes-on h t w) ∙ q
+
   -- ---- the lines up to the size
   module _ (most : ℕ) where
     pub size-ends : length s ≤ r → sizeFrom passes most L (split newline (drop at s)) ≡ refused (Malformed L) L
@@ -84,9 +90,10 @@ module _ (s : List ℕ) (at r L : ℕ) (passes : Bool) (p : PieceEnd s at newlin
         ∙ some-piece newline (λ q. sizeFrom passes most L (part s at r ∷ q) ≡ cond b (sizeFrom passes most (suc L) q) (afterSize passes L (sizeStep most L (part s at r)) q))
         (λ another more. ap (λ (b : Bool). cond b (sizeFrom passes most (suc L) (another ∷ more)) (afterSize passes L (sizeStep most L (part s at r)) (another ∷ more))) e) (drop (suc r) s)
 
-    pub size-passed : r < length s → (passes && passedOver (part s at r)) ≡ true
-        → sizeFrom passes most L (split newline (drop at s)) ≡ sizeFrom passes most (suc L) (split newline (drop (suc r) s))
-    size-passed h e = size-by h true e
+    -- the next line's number and place, as they are counted on
+    pub size-passed : {o : Reading} (L′ at′ : ℕ) → L′ ≡ suc L → at′ ≡ suc r → r < length s → (passes && passedOver (part s at r)) ≡ true
+        → sizeFrom passes most L (split newline (drop at s)) ≡ o → sizeFrom passes most L′ (split newline (drop at′ s)) ≡ o
+    size-passed L′ at′ e f h p q = ap₂ (λ (k i : ℕ). sizeFrom passes most k (split newline (drop i s))) e f ∙ sym (size-by h true p) ∙ q
 
     pub size-here : r < length s → (passes && passedOver (part s at r)) ≡ false
         → sizeFrom passes most L (split newline (drop at s)) ≡ afterSize passes L (sizeStep most L (part s at r)) (split newline (drop (suc r) s))

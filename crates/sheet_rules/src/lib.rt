@@ -86,10 +86,11 @@ fn after_size(passes: bool, text: &[u8], from: usize, first: usize, size: RulesD
         if text.len() <= end {
             return upto(at, number, desk);
         }
-        if !is_of_rules(passes, desk.settings, desk.posts, &text[at..end]) {
+        let line = &text[at..end];
+        if !is_of_rules(passes, desk.settings, desk.posts, line) {
             return upto(at, number, desk);
         }
-        let turn = rules_line(passes, desk, &text[at..end], number);
+        let turn = rules_line(passes, desk, line, number);
         let taken = turn.taken;
         match taken {
             Taken::No(why) => {

@@ -1,7 +1,6 @@
 -- `after_size` meets its contract: what is left from `at` on is what was to be read from the start.
 use mathlib.Core.Path.{_≡_, refl, sym, ap, _∙_, subst}
 use Prim.Native.Nat.{suc, _+_, _-_, _≤_}
-use native.Mathlib.Numerals.{add-one}
 use native.Mathlib.Omega.{arith}
 use lib.ListN.{length, drop}
 use borrow.Author.Tests.{not-true, not-false}
@@ -14,7 +13,7 @@ use Rattle.sheet_rules.specs.Steps.{lineStep}
 use Rattle.sheet_rules.specs.Reading.{rulesFrom}
 use Rattle.sheet_rules.proofs.Turns.{faulted-by, went-on-by}
 use Rattle.sheet_rules.proofs.RuleTurns.{of-rules}
-use Rattle.sheet_rules.proofs.ReadLaws.{rest-ends, rest-stops, rest-goes-on, refused-is, upto-is}
+use Rattle.sheet_rules.proofs.ReadLaws.{rest-ends, rest-stops, rest-goes-on, rest-next, refused-is, upto-is}
 use borrow.Author.Needs.{needs}
 use Rattle.sheet_rules.proofs.after_size.Statement.{statement}
 use Rattle.sheet_rules.proofs.after_size.Tie as tie
@@ -59,8 +58,8 @@ returns c =
     (sym (z .2) ∙ rest-ends s (l .at) (end .result) (l .number) (a .passes) p (z .0) (yes1 .if1 .taken))
     (c .upto .ensures) (l .inv .0) (omega (arith, l .inv .1)) (z .1)
 
-sub-is-of-rules : tie.Need-sub-is-of-rules Inv-loop μ-loop
-sub-is-of-rules c =
+sub-line : tie.Need-sub-line Inv-loop μ-loop
+sub-line c =
     let start : tie.Start Inv-loop μ-loop = search in
     let at-loop : tie.At-loop Inv-loop μ-loop = search in
     let piece-end-point : tie.After-piece-end Inv-loop μ-loop = search in
@@ -71,11 +70,11 @@ sub-is-of-rules c =
     let p = piece-is s (l .at) newline (end .result) (l .inv .0) (end .ensures) in
     p .from
 
-part-is-of-rules-start : tie.Need-part-is-of-rules-start Inv-loop μ-loop
-part-is-of-rules-start c = sub-is-of-rules c
+part-line-start : tie.Need-part-line-start Inv-loop μ-loop
+part-line-start c = sub-line c
 
-part-is-of-rules-end : tie.Need-part-is-of-rules-end Inv-loop μ-loop
-part-is-of-rules-end c =
+part-line-end : tie.Need-part-line-end Inv-loop μ-loop
+part-line-end c =
     let start : tie.Start Inv-loop μ-loop = search in
     let at-loop : tie.At-loop Inv-loop μ-loop = search in
     let piece-end-point : tie.After-piece-end Inv-loop μ-loop = search in
@@ -114,33 +113,6 @@ returns-2 c =
     (sym (z .2) ∙ rest-stops s (l .at) (end .result) (l .number) (a .passes) p (z .0) (no1 .if1 .left)
     (of-rules (a .passes) (z .0) (l .desk) (z .1) (part s (l .at) (end .result)) (l .number) (sym is ∙ not-true _ (yes2 .if2 .taken))))
     (c .upto2 .ensures) (l .inv .0) (omega (arith, l .inv .1)) (z .1)
-
-sub-rules-line : tie.Need-sub-rules-line Inv-loop μ-loop
-sub-rules-line c =
-    let start : tie.Start Inv-loop μ-loop = search in
-    let at-loop : tie.At-loop Inv-loop μ-loop = search in
-    let piece-end-point : tie.After-piece-end Inv-loop μ-loop = search in
-    let a = start .args in
-    let s = a .text .now in
-    let l = at-loop .loop in
-    let end = piece-end-point .piece-end in
-    let p = piece-is s (l .at) newline (end .result) (l .inv .0) (end .ensures) in
-    p .from
-
-part-rules-line-start : tie.Need-part-rules-line-start Inv-loop μ-loop
-part-rules-line-start c = sub-rules-line c
-
-part-rules-line-end : tie.Need-part-rules-line-end Inv-loop μ-loop
-part-rules-line-end c =
-    let start : tie.Start Inv-loop μ-loop = search in
-    let at-loop : tie.At-loop Inv-loop μ-loop = search in
-    let piece-end-point : tie.After-piece-end Inv-loop μ-loop = search in
-    let a = start .args in
-    let s = a .text .now in
-    let l = at-loop .loop in
-    let end = piece-end-point .piece-end in
-    let p = piece-is s (l .at) newline (end .result) (l .inv .0) (end .ensures) in
-    p .within
 
 rules-line-requires : tie.Need-rules-line-requires Inv-loop μ-loop
 rules-line-requires c κs =
@@ -240,7 +212,7 @@ loop-again c =
           let line = part s (l .at) (end .result) in
           let w = went-on-by (lineStep (a .passes) (l .number) (z .0) line) (turn .result .desk) (told-point .enum-told .given .1) (turn .ensures (z .0) (z .1)) in
           let yes = of-rules (a .passes) (z .0) (l .desk) (z .1) line (l .number) (sym is ∙ not-false _ (no2 .if2 .left)) in
-          (w .0, w .2, rw (add-one, add-one) (sym (rest-goes-on s (l .at) (end .result) (l .number) (a .passes) p (z .0) more yes (w .1)) ∙ z .2)),
+          (w .0, w .2, rest-next s (l .at) (end .result) (l .number) (a .passes) p (z .0) (l .number + 1) (end .result + 1) (omega arith) (omega arith) more yes (w .1) (z .2)),
     )
 
 pub after-size-spec : {M : Type 1} → statement M
@@ -253,15 +225,12 @@ after-size-spec =
     piece-end-requires
     upto-requires
     returns
-    sub-is-of-rules
-    part-is-of-rules-start
-    part-is-of-rules-end
+    sub-line
+    part-line-start
+    part-line-end
     is-of-rules-requires
     upto-requires-2
     returns-2
-    sub-rules-line
-    part-rules-line-start
-    part-rules-line-end
     rules-line-requires
     enum-known-taken
     refused-requires

@@ -1,7 +1,6 @@
 -- `rules_of` meets its contract: the length; the lines that are passed over, of which each leaves the rest to be read; and the size.
 use mathlib.Core.Path.{_≡_, refl, sym, ap, _∙_, subst}
 use Prim.Native.Nat.{suc, _+_, _-_, _≤_}
-use native.Mathlib.Numerals.{add-one}
 use native.Mathlib.Omega.{arith}
 use lib.ListN.{length, drop}
 use borrow.Author.Tests.{not-true, not-false}
@@ -162,8 +161,8 @@ loop-again c =
       omega arith,
       omega (arith, p .from, l .inv .2),
       l .inv .3,
-      rw (add-one, add-one)
-          (sym (size-passed s (l .at) (end .result) (l .line) (a .passes) p (a .most) more (sym (passed-point .is-passed .ensures) ∙ not-false _ (no3 .if3 .left))) ∙ l .inv .4),
+      size-passed s (l .at) (end .result) (l .line) (a .passes) p (a .most) (l .line + 1) (end .result + 1) (omega arith) (omega arith) more
+          (sym (passed-point .is-passed .ensures) ∙ not-false _ (no3 .if3 .left)) (l .inv .4),
     )
 
 pub rules-of-spec : {M : Type 1} → statement M
