@@ -35,10 +35,11 @@ fn write_book(desk: RulesDesk, room: &mut [u8]) -> MakeAnswer
     let n = desk.settings as usize;
     let rights = desk.rights;
     let tables = TABLES * n;
+    let size = BLOCK * (1 + n);
     let answer = book::write(n, desk.posts as usize, &rights[..tables], room);
     match answer {
         WriteAnswer::Refused(why) => MakeAnswer::Refused(why, 0),
-        WriteAnswer::Written => MakeAnswer::Made(BLOCK * (1 + n)),
+        WriteAnswer::Written => MakeAnswer::Made(size),
     }
 }
 

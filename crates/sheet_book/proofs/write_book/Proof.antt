@@ -12,6 +12,12 @@ cast-n c = search needs
 mul-tables : tie.Need-mul-tables
 mul-tables c = search needs
 
+add-size : tie.Need-add-size
+add-size c = search needs
+
+mul-size : tie.Need-mul-size
+mul-size c = search needs
+
 cast-write : tie.Need-cast-write
 cast-write c = search needs
 
@@ -32,12 +38,6 @@ enum-known-answer c = search needs
 
 enum-told : tie.Need-enum-told
 enum-told c = search needs
-
-add-t14 : tie.Need-add-t14
-add-t14 c = search needs
-
-mul-t15 : tie.Need-mul-t15
-mul-t15 c = search needs
 
 same-length : tie.Need-same-length
 same-length c = search needs
@@ -67,14 +67,14 @@ write-book-spec =
     (tie.spec
     cast-n
     mul-tables
+    add-size
+    mul-size
     cast-write
     array-share-prefix-rights
     slice-aggregate-write
     write-requires
     enum-known-answer
     enum-told
-    add-t14
-    mul-t15
     same-length
     returns
     same-length-2
