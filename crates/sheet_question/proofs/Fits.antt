@@ -2,11 +2,11 @@
 use mathlib.Core.Path.{_≡_, sym, _∙_, subst}
 use mathlib.Core.Logic.{inl, inr}
 use mathlib.Core.Bool.{Bool, true, false, not, _&&_, _||_}
-use mathlib.Core.List.{List, [], _∷_}
+use mathlib.Core.List.{List, [], _∷_, _++_}
 use Prim.Native.Nat.{ℕ, suc, _+_, _≤_, _<_}
 use native.Mathlib.Omega.{arith}
-use lib.Dec.{T, eqb, ltb, eqb→eq, eqb-refl, not-T}
-use lib.ListN.{length, getD, drop}
+use lib.Dec.{T, eqb, ltb, eqb→eq, eqb-refl, ltb→lt, not-T}
+use lib.ListN.{length, getD, drop, length-append}
 use Rattle.ground.specs.Text.{bytes}
 use Rattle.ground.proofs.Bools.{lt-or-ge, or-left, or-out, and-left, and-right, T→false}
 use Rattle.refusal.specs.declared.Refusal.{Refusal}
@@ -33,6 +33,7 @@ pub record AskedFits (n m : ℕ) (a : Asked) : Type 0 where
   pub someone : (q : ℕ) × T (member q (a .team))
   pub team : (q : ℕ) → T (member q (a .team)) → q < m
   pub known : (i : ℕ) → T (member i (knownSettings (a .known))) → i < n
+  pub asks-most : length (a .asks) ≤ 4
 
 -- ---- a line of names
 
@@ -74,10 +75,10 @@ abbrev KnownFits : ℕ → Asked → Type 0
 KnownFits n a = (i : ℕ) → T (member i (knownSettings (a .known))) → i < n
 
 abbrev SoFar : ℕ → ℕ → Due → Asked → Type 0
-SoFar n m Team a = Unit
-SoFar n m Known a = TeamFits m a
-SoFar n m Make a = TeamFits m a × KnownFits n a
-SoFar n m Asks a = TeamFits m a × KnownFits n a
+SoFar n m Team a = length (a .asks) ≤ 4
+SoFar n m Known a = (length (a .asks) ≤ 4) × TeamFits m a
+SoFar n m Make a = (length (a .asks) ≤ 4) × (TeamFits m a × KnownFits n a)
+SoFar n m Asks a = (length (a .asks) ≤ 4) × (TeamFits m a × KnownFits n a)
 
 team-fits : (m : ℕ) (a : Asked) (line : List ℕ) → T (isTeam m line) → TeamFits m (withTeam a line)
 unfolding isTeam withTeam teamOf indexes member
@@ -96,9 +97,18 @@ known-fits n a line h i t =
     named-below true 97 n (nameWords (bytes "known") line) i (names-parts (bytes "known") true true 97 n line h .1)
     (subst (λ (is : List ℕ). T (member i is)) (known-settings (nameWords (bytes "known") line)) t)
 
-team-kept : (m : ℕ) (a : Asked) (line : List ℕ) → TeamFits m a → TeamFits m (withKnown a line)
+-- the line `known` leaves the team and the formulas, and `team` leaves the formulas
+team-kept : (m : ℕ) (a : Asked) (line : List ℕ) → (length (a .asks) ≤ 4) × TeamFits m a → (length (withKnown a line .asks) ≤ 4) × TeamFits m (withKnown a line)
 unfolding withKnown
 team-kept m a line h = h
+
+asks-kept : (a : Asked) (line : List ℕ) → length (a .asks) ≤ 4 → length (withTeam a line .asks) ≤ 4
+unfolding withTeam
+asks-kept a line h = h
+
+-- one formula more, where there are fewer than four
+one-more : (a : Asked) (F : List ℕ) → T (ltb (length (a .asks)) 4) → length (a .asks ++ (F ∷ [])) ≤ 4
+one-more a F t = omega (arith, length-append (a .asks) (F ∷ []), ltb→lt (length (a .asks)) 4 t)
 
 -- ---- one line
 
@@ -124,13 +134,14 @@ module _ (n m : ℕ) where
 
   fits-due : (L : ℕ) (due : Due) (a : Asked) (line : List ℕ) → SoFar n m due a → StepFits n m (dueStep n m L due a line)
   unfolding teamStep knownStep makeStep askStep withMake withAsk
-  fits-due L Team a line h = fits-names L (isTeam m line) (teamOf line) (next (Known, withTeam a line)) (team-fits m a line)
+  fits-due L Team a line h = fits-names L (isTeam m line) (teamOf line) (next (Known, withTeam a line)) (λ f. (asks-kept a line h, team-fits m a line f))
   fits-due L Known a line h =
-      fits-names L (isKnown n line) (knownSettings (knownOf line)) (next (Make, withKnown a line)) (λ f. (team-kept m a line h, known-fits n a line f))
+      fits-names L (isKnown n line) (knownSettings (knownOf line)) (next (Make, withKnown a line)) (λ f. (let k = team-kept m a line h in (k .0, (k .1, known-fits n a line f))))
   fits-due L Make a line h =
       fits-unless (begins (bytes "make ") line) (Malformed L) _ (λ f. fits-refused n (drop 5 line) (next (Asks, withMake a (drop 5 line))) h)
   fits-due L Asks a line h =
-      fits-unless (begins (bytes "ask ") line && ltb (length (a .asks)) 4) (Malformed L) _ (λ f. fits-refused n (drop 4 line) (next (Asks, withAsk a (drop 4 line))) h)
+      fits-unless (begins (bytes "ask ") line && ltb (length (a .asks)) 4) (Malformed L) _
+      (λ f. fits-refused n (drop 4 line) (next (Asks, withAsk a (drop 4 line))) (one-more a (drop 4 line) (and-right (begins (bytes "ask ") line) (ltb (length (a .asks)) 4) f), h .1))
 
   fits-line : (passes : Bool) (L : ℕ) (due : Due) (a : Asked) (line : List ℕ) → SoFar n m due a → StepFits n m (lineStep passes n m L due a line)
   unfolding lineStep
@@ -150,7 +161,7 @@ module _ (n m : ℕ) where
   fits-end L Team a rest h = tt
   fits-end L Known a rest h = tt
   fits-end L Make a rest h = tt
-  fits-end L Asks a [] h = record { someone = h .0 .0; team = h .0 .1; known = h .1 }
+  fits-end L Asks a [] h = record { someone = h .1 .0 .0; team = h .1 .0 .1; known = h .1 .1; asks-most = h .0 }
   fits-end L Asks a (c ∷ rest) h = tt
 
   fits-after : (passes : Bool) (L : ℕ) (pieces : List (List ℕ)) (x : AskedStep) → ((d : Due) (b : Asked) → SoFar n m d b → MeaningFits (askedFrom passes n m (suc L) d b pieces))
@@ -169,7 +180,7 @@ module _ (n m : ℕ) where
   pub asked-fits : (before : ℕ) (passes : Bool) (s : List ℕ) (a : Asked) → questionMeaning before passes n m s ≡ asked a → AskedFits n m a
   asked-fits before passes s a e = elim (lt-or-ge 65536 (length s)) [
     | inl h ↦ absurd (not-both (sym (too-long before passes n m s h) ∙ e))
-    | inr h ↦ subst MeaningFits (sym (not-long before passes n m s h) ∙ e) (fits-from passes (suc before) Team nothingAsked (split newline s) tt)
+    | inr h ↦ subst MeaningFits (sym (not-long before passes n m s h) ∙ e) (fits-from passes (suc before) Team nothingAsked (split newline s) (omega arith))
   ]
     where
       not-both : {r : Refusal} {line : ℕ} → refused r line ≡ asked a → ⊥

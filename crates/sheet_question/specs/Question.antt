@@ -1,7 +1,6 @@
 -- The meaning of a question text over n settings and m posts: what it asks, or its first refusal. "First 24; then line by line 22, 23, the formula's
 -- number." The text may have lines that are passed over (`passes`), or may not; "line numbers count them".
-use mathlib.Core.Path.{_≡_}
-use mathlib.Core.Bool.{Bool, false, cond}
+use mathlib.Core.Bool.{Bool, true, not, _&&_, cond}
 use mathlib.Core.List.{List, [], _∷_}
 use Prim.Native.Nat.{ℕ, suc}
 use lib.Dec.{ltb}
@@ -42,7 +41,7 @@ questionMeaning before passes n m text =
     cond (ltb 65536 (length text)) (refused SheetLength 0) (askedFrom passes n m (suc before) Team nothingAsked (split newline text))
 
 -- a text "without `#` lines and empty lines": none of its lines is one; what follows the last byte 10 is no line
-abbrev pub NonePassed : List (List ℕ) → Type 0
-NonePassed [] = Unit
-NonePassed (rest ∷ []) = Unit
-NonePassed (line ∷ another ∷ more) = (passedOver line ≡ false) × NonePassed (another ∷ more)
+unfoldable pub nonePassed : List (List ℕ) → Bool
+nonePassed [] = true
+nonePassed (rest ∷ []) = true
+nonePassed (line ∷ another ∷ more) = not (passedOver line) && nonePassed (another ∷ more)

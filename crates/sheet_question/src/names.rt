@@ -10,7 +10,6 @@ use sheet_words::Marks;
 use sheet_words::Naming;
 use sheet_words::begins;
 use sheet_words::marks_of;
-ghost use mathlib.Core.Path.{_≡_};
 ghost use Prim.Native.Nat.{ℕ, _≤_};
 ghost use Rattle.sheet_words.specs.Marks.{Names};
 ghost use Rattle.sheet_question.specs.Asked.{Asked};

@@ -1,5 +1,4 @@
 -- `question_of` meets its contract: the length, and then the lines, over the nearest numbers of settings and posts.
-use mathlib.Core.Path.{sym, subst}
 use native.Mathlib.Omega.{arith}
 use Rattle.refusal.specs.declared.Refusal.the-variants.{SheetLength}
 use Rattle.sheet_question.specs.Reads.{within}

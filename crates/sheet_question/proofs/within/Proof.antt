@@ -1,7 +1,6 @@
 -- `within` meets its contract, test by test.
 use mathlib.Core.Path.{sym}
 use Rattle.sheet_question.proofs.ReadLaws.{within-over, within-under, within-same}
-use borrow.Author.Needs.{needs}
 use Rattle.sheet_question.proofs.within.Statement.{statement}
 use Rattle.sheet_question.proofs.within.Tie as tie
 
