@@ -1,10 +1,10 @@
 -- How far a reading goes: the lines it counts are the text's, the size it states is at most the one that is taken, and 25 is given only where fewer than
 -- 7 settings are taken. By induction on the pieces of the text; a line that is taken keeps the size.
-use mathlib.Core.Path.{_≡_, refl, sym, ap, _∙_, subst}
+use mathlib.Core.Path.{_≡_, refl, sym, _∙_, subst}
 use mathlib.Core.Logic.{inl, inr}
 use mathlib.Core.Bool.{Bool, true, false, not, _&&_, cond}
 use mathlib.Core.List.{List, [], _∷_}
-use Prim.Native.Nat.{ℕ, suc, _+_, _≤_, _<_}
+use Prim.Native.Nat.{ℕ, suc, _+_, _≤_}
 use native.Mathlib.Omega.{arith}
 use lib.Dec.{T, leb, leb→le}
 use borrow.Author.Tests.{le-leb}
@@ -65,7 +65,7 @@ goes-cond most true x y h k = h
 goes-cond most false x y h k = k
 
 -- the numbers of a size
-size-digits : (line : List ℕ) → isSize line ≡ true → (1 ≤ digitAt line 5) × (digitAt line 5 ≤ 7) × (1 ≤ digitAt line 7) × (digitAt line 7 ≤ 8)
+pub size-digits : (line : List ℕ) → isSize line ≡ true → (1 ≤ digitAt line 5) × (digitAt line 5 ≤ 7) × (1 ≤ digitAt line 7) × (digitAt line 7 ≤ 8)
 unfolding digitAt
 size-digits line e = let z = size-bounds line e in (omega (arith, z .0), omega (arith, z .1), omega (arith, z .2), omega (arith, z .3))
 

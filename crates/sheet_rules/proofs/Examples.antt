@@ -10,7 +10,7 @@ use Rattle.formula.specs.Computed.{sentenceAnswer, foreignAnswer, formulaAnswer
 use Rattle.book_block.specs.declared.rule.Right.the-variants.{Look, Set}
 use Rattle.sheet_words.specs.Words.{onto, split, begins, passedOver, among}
 use Rattle.sheet_words.specs.Steps.{unlessRefused}
-use Rattle.sheet_rules.specs.Rules.{sizeOf, sized, withRule, sameRight, concerns, isStated}
+use Rattle.sheet_rules.specs.Rules.{sizeOf, withRule, sameRight, concerns, isStated}
 use Rattle.sheet_rules.specs.Forms.{isSize, digitAt, isSetting, isPost, isRule, ruleOf, isOfRules}
 use Rattle.sheet_rules.specs.Steps.{sizeStep, ruleStep, lineStep}
 use Rattle.sheet_rules.specs.Reading.{upTo, rulesFrom, sizeFrom, rulesRead, rulesOf}

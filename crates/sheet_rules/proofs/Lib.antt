@@ -1,5 +1,6 @@
 -- The laws of rules. Of one line: the form it has, what it does, and that the desk then holds what the rules have stated. Of a text: line by line, what
--- the functions need; how far a reading goes; and that each function gives one thing alone.
+-- the functions need; how far a reading goes; with and without lines that are passed over, with more settings taken, and followed by another text;
+-- examples; and that each function gives one thing alone.
 pub mod FormLaws
 pub mod StepLaws
 pub mod FormulaLaws
@@ -11,5 +12,7 @@ pub mod ReadLaws
 pub mod Bounds
 pub mod MeaningLaws
 pub mod Passing
+pub mod Sizes
+pub mod Followed
 pub mod Examples
 pub mod Unique

@@ -1,12 +1,11 @@
 -- A text none of whose lines is passed over reads the same, whether it may have such lines or not: line by line, the test finds nothing.
-use mathlib.Core.Path.{_≡_, refl, sym, ap, ap₂, _∙_, subst}
+use mathlib.Core.Path.{_≡_, refl, sym, ap, _∙_}
 use mathlib.Core.Logic.{inl, inr}
-use mathlib.Core.Bool.{Bool, true, false, not, _&&_, _||_, cond}
+use mathlib.Core.Bool.{Bool, true, false, not, cond}
 use mathlib.Core.List.{List, [], _∷_}
 use Prim.Native.Nat.{ℕ, suc}
 use lib.Dec.{T, ltb}
 use lib.ListN.{length}
-use Rattle.ground.specs.Text.{bytes}
 use Rattle.ground.proofs.Bools.{decide, T→true, T→false, and-left, and-right}
 use Rattle.refusal.specs.declared.Refusal.the-variants.{SheetLength}
 use Rattle.sheet_words.specs.Words.{split, newline, passedOver}
@@ -14,7 +13,7 @@ use Rattle.sheet_words.specs.Steps.{Step, fault, next}
 use Rattle.sheet_rules.specs.Rules.{Rules}
 use Rattle.sheet_rules.specs.Forms.{isOfRules}
 use Rattle.sheet_rules.specs.Steps.{sizeStep, lineStep}
-use Rattle.sheet_rules.specs.Reading.{Reading, refused, upTo, rulesFrom, afterSize, sizeFrom, rulesRead, rulesOf, nonePassed}
+use Rattle.sheet_rules.specs.Reading.{refused, rulesFrom, afterSize, sizeFrom, rulesRead, rulesOf, nonePassed}
 use Rattle.sheet_rules.proofs.ReadLaws.{rules-line, rules-end}
 
 -- ---- one line

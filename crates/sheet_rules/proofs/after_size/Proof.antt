@@ -1,5 +1,5 @@
 -- `after_size` meets its contract: what is left from `at` on is what was to be read from the start.
-use mathlib.Core.Path.{_≡_, refl, sym, ap, _∙_, subst}
+use mathlib.Core.Path.{_≡_, refl, sym, _∙_}
 use Prim.Native.Nat.{suc, _+_, _-_, _≤_}
 use native.Mathlib.Omega.{arith}
 use lib.ListN.{length, drop}
@@ -14,7 +14,6 @@ use Rattle.sheet_rules.specs.Reading.{rulesFrom}
 use Rattle.sheet_rules.proofs.Turns.{faulted-by, went-on-by}
 use Rattle.sheet_rules.proofs.RuleTurns.{of-rules}
 use Rattle.sheet_rules.proofs.ReadLaws.{rest-ends, rest-stops, rest-goes-on, rest-next, refused-is, upto-is}
-use borrow.Author.Needs.{needs}
 use Rattle.sheet_rules.proofs.after_size.Statement.{statement}
 use Rattle.sheet_rules.proofs.after_size.Tie as tie
 

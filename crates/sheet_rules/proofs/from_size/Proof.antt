@@ -3,13 +3,13 @@ use mathlib.Core.Path.{sym, ap, subst}
 use Prim.Native.Nat.{ℕ, suc, _+_}
 use native.Mathlib.Numerals.{add-one}
 use native.Mathlib.Omega.{arith}
-use lib.ListN.{length, drop}
+use lib.ListN.{drop}
 use Rattle.sheet_words.specs.Words.{split, newline}
 use Rattle.sheet_words.specs.Steps.{Step}
 use Rattle.sheet_words.proofs.Pieces.{part}
 use Rattle.sheet_rules.specs.Rules.{Rules}
 use Rattle.sheet_rules.specs.Steps.{sizeStep}
-use Rattle.sheet_rules.specs.Reading.{Reading, rulesFrom, afterSize}
+use Rattle.sheet_rules.specs.Reading.{rulesFrom, afterSize}
 use Rattle.sheet_rules.specs.Reads.{ReadsUpto}
 use Rattle.sheet_rules.proofs.Turns.{faulted-by, went-on-by}
 use Rattle.sheet_rules.proofs.ReadLaws.{refused-is}

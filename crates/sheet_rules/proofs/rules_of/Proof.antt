@@ -1,5 +1,5 @@
 -- `rules_of` meets its contract: the length; the lines that are passed over, of which each leaves the rest to be read; and the size.
-use mathlib.Core.Path.{_≡_, refl, sym, ap, _∙_, subst}
+use mathlib.Core.Path.{_≡_, sym, _∙_, subst}
 use Prim.Native.Nat.{suc, _+_, _-_, _≤_}
 use native.Mathlib.Omega.{arith}
 use lib.ListN.{length, drop}
@@ -10,7 +10,6 @@ use Rattle.sheet_words.proofs.Pieces.{piece-is}
 use Rattle.sheet_rules.specs.Reading.{Reading, sizeFrom, rulesOf}
 use Rattle.sheet_rules.specs.Reads.{ReadsUpto}
 use Rattle.sheet_rules.proofs.ReadLaws.{size-ends, size-passed, size-here, too-long, from-first, refused-is}
-use borrow.Author.Needs.{needs}
 use Rattle.sheet_rules.proofs.rules_of.Statement.{statement}
 use Rattle.sheet_rules.proofs.rules_of.Tie as tie
 
