@@ -131,7 +131,8 @@ module _ (passes : Bool) (p : List ℕ) (ps : List (List ℕ)) (last : List ℕ)
         subst (λ (o : Reading). On passes B (p ∷ ps) o (rulesFrom passes L rules (line ∷ both lines)))
         (sym (some-last (λ q. rulesFrom passes L rules (line ∷ q) ≡ afterSize passes L (lineStep passes L rules line) q) lines last (λ another more. rules-line passes L rules line another more e)))
         (subst (On passes B (p ∷ ps) (afterSize passes L (lineStep passes L rules line) (alone lines)))
-        (sym (some-glue (λ q. rulesFrom passes L rules (line ∷ q) ≡ afterSize passes L (lineStep passes L rules line) q) lines last p ps (λ another more. rules-line passes L rules line another more e)))
+        (sym (some-glue (λ q. rulesFrom passes L rules (line ∷ q) ≡ afterSize passes L (lineStep passes L rules line) q) lines last p ps
+        (λ another more. rules-line passes L rules line another more e)))
         (on-after B L (lineStep passes L rules line) lines (λ v. rules-on B (suc L) v lines))))
     | inr t ↦ (let e = T→false (isOfRules passes (rules .size .settings) (rules .size .posts) line) t in
         some-last (λ q. On passes B (p ∷ ps) (rulesFrom passes L rules (line ∷ q)) (rulesFrom passes L rules (line ∷ both lines))) lines last (λ another more.
