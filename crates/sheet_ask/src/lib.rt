@@ -67,7 +67,8 @@ fn ask_sound(
     out: &mut [u8],
 ) -> usize
     requires { ⌜ Sound (now book) settings posts ⌝ }
-    ensures { λ r. ⌜ PrintsQuestion settings (now (book .entry)) (questionMeaning 0 true settings posts (now (question .entry))) (now (ranks .entry)) (now (out .entry)) r (now (ranks .exit)) (now (out .exit)) ⌝ }
+    ensures { λ r. ⌜ PrintsQuestion settings (now (book .entry)) (questionMeaning 0 true settings posts (now (question .entry)))
+        (now (ranks .entry)) (now (out .entry)) r (now (ranks .exit)) (now (out .exit)) ⌝ }
 {
     let reading = read_question(question, settings, posts);
     let told = reading.told;
