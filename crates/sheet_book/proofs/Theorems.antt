@@ -98,3 +98,11 @@ made-reads s room rules size after out answer out′ e h read enough =
     let z = write-then-read (rules .size .settings) (rules .size .posts) rights room after out answer out′ (rights-writable f (m .2 .1), m .1, m .2 .2)
     (subst (λ (k : ℕ). ReadsBook (take k after) out answer out′) (m .0) read) enough in
     (z .0, (rights, m .2 .1, z .1))
+
+-- a book that is made fits its room
+made-within : (o : Meaning) (room : List ℕ) (size : ℕ) (after : List ℕ) → MakesBook o room (Made size) after → size ≤ length room
+made-within (refused r at) room size after m = absurd m
+made-within (stated rules) room size after m = omega (arith, m .0, m .1)
+
+pub made-fits : (o : Meaning) (room : List ℕ) (a : MakeAnswer) (size : ℕ) (after : List ℕ) → a ≡ Made size → MakesBook o room a after → size ≤ length room
+made-fits o room a size after e m = made-within o room size after (subst (λ (x : MakeAnswer). MakesBook o room x after) e m)
