@@ -24,7 +24,7 @@ array-share-prefix-book c =
     let counted : tie.After-length = search in
     let start : tie.Start = search in
     let fits = made-fits (rulesMeaning (start .args .rules .now)) (replicate 4096 0) (made .make-book .result) _ (made .make-book .last .1 .0)
-        (counted .length .given .1) (made .make-book .ensures) in
+    (counted .length .given .1) (made .make-book .ensures) in
     omega (arith, fits)
 
 slice-aggregate-store : tie.Need-slice-aggregate-store
@@ -33,7 +33,7 @@ slice-aggregate-store c =
     let counted : tie.After-length = search in
     let start : tie.Start = search in
     let fits = made-fits (rulesMeaning (start .args .rules .now)) (replicate 4096 0) (made .make-book .result) _ (made .make-book .last .1 .0)
-        (counted .length .given .1) (made .make-book .ensures) in
+    (counted .length .given .1) (made .make-book .ensures) in
     sym (length-take-le _ _ (omega (arith, fits)))
 
 store-requires : tie.Need-store-requires
