@@ -23,8 +23,10 @@ use Rattle.plan.proofs.States.{each}
 use Rattle.question.specs.declared.Question.{Question}
 use Rattle.sheet_words.specs.Words.{member}
 use Rattle.sheet_words.proofs.NameLaws.{with-bit}
-use Rattle.sheet_reading.specs.Sheet.{Sheet, sameRight, concerns, unstated, ruleText, knownSettings, knownTrue}
-use Rattle.sheet_reading.specs.Desk.{TablesOf}
+use Rattle.sheet_rules.specs.Rules.{sameRight, concerns, unstated, ruleText}
+use Rattle.sheet_question.specs.Asked.{knownSettings, knownTrue}
+use Rattle.sheet_question.specs.Desk.{TablesOf}
+use Rattle.sheet_reading.specs.Sheet.{Sheet}
 use Rattle.sheet.specs.Answer.{SheetAsks}
 use Rattle.marked.proofs.Tests.{every, pick, same, same-out}
 use Rattle.marked.proofs.Formulas.{table-of, takes, taken}

@@ -19,12 +19,14 @@ use Rattle.plan.specs.Check.{check}
 use Rattle.print_room.specs.Decimal.{decimal}
 use Rattle.print_answer.specs.Printed.{refusedText, reachText, cannotText, fitted}
 use Rattle.sheet_words.specs.Words.{onto, split, begins, among, isFalse, bare, isName, allNames, indexOf, indexes, twice}
-use Rattle.sheet_reading.specs.Sheet.{Sheet, sameRight, concerns, isStated, knownSettings}
-use Rattle.sheet_reading.specs.Rules.{isSetting, isPost, isRule, ruleOf, withRule, ruleStep}
-use Rattle.sheet_reading.specs.Steps.{unlessRefused, sized}
-use Rattle.sheet_reading.specs.Forms.{isSize, digitAt, nameWords, isNames, isTeam, teamOf, isKnown, knownBy, knownOf}
-use Rattle.sheet_reading.specs.LineSteps.{withTeam, withKnown, withMake, withAsk, sizeStep, teamStep, knownStep, makeStep, askStep, rightsStep}
-use Rattle.sheet_reading.specs.Reading.{Meaning, refused, stated, lines, firstLine, sheetMeaning}
+use Rattle.sheet_words.specs.Steps.{unlessRefused}
+use Rattle.sheet_rules.specs.Rules.{sameRight, concerns, isStated}
+use Rattle.sheet_rules.specs.Forms.{isSetting, isPost, isRule, ruleOf, isSize, digitAt}
+use Rattle.sheet_question.specs.Asked.{knownSettings}
+use Rattle.sheet_question.specs.Forms.{nameWords, isNames, isTeam, teamOf, isKnown, knownBy, knownOf}
+use Rattle.sheet_reading.specs.Sheet.{Sheet, sized}
+use Rattle.sheet_reading.specs.Reading.{Meaning, refused, stated, sheetMeaning}
+use Rattle.sheet_reading.proofs.OnePass.{withRule, ruleStep, withTeam, withKnown, withMake, withAsk, sizeStep, teamStep, knownStep, makeStep, askStep, rightsStep, lines, firstLine}
 use Rattle.marked.specs.Row.{Row, reads, refuses, sums, reaches, faults, prints, sheet-reaches, sheet-cannot, RowHolds, Of, Reaches, NoneReaches}
 use Rattle.marked.proofs.Tests.{every, pick, same, same-out}
 use Rattle.marked.proofs.FormulaRows.{reads-so, row-reads, refuses-so, row-refuses}

@@ -6,7 +6,9 @@ use lib.Dec.{T, eqb, leb, ltb, leb→le, ltb→lt}
 use lib.ListN.{length}
 use Rattle.ground.proofs.Bools.{and-left, and-right, eq→eqb, both}
 use Rattle.sheet_words.specs.Words.{newline}
-use Rattle.sheet_reading.specs.Sheet.{Rule, Known, Sheet}
+use Rattle.sheet_rules.specs.Rules.{Rule}
+use Rattle.sheet_question.specs.Asked.{Known}
+use Rattle.sheet_reading.specs.Sheet.{Sheet}
 use Rattle.sheet_reading.specs.Grammar.{InLine, RulesFit, PostsFit, KnownFit, AsksFit, WellFormed}
 use Rattle.marked.proofs.Tests.{every, pick}
 

@@ -20,7 +20,8 @@ use Rattle.plancheck.specs.Checks.{Checks}
 use Rattle.plancheck.specs.declared.answer.CheckAnswer.{CheckAnswer}
 use Rattle.plancheck.specs.declared.answer.CheckAnswer.the-variants.{Refused as No}
 use Rattle.print_answer.specs.Printed.{fitted}
-use Rattle.sheet_reading.specs.Sheet.{Rule, Sheet}
+use Rattle.sheet_rules.specs.Rules.{Rule}
+use Rattle.sheet_reading.specs.Sheet.{Sheet}
 use Rattle.sheet_reading.specs.Reading.{Meaning, refused, stated, sheetMeaning}
 use Rattle.sheet.specs.Answer.{SheetAsks, sheetBook, AnswersSheet}
 use Rattle.formula.specs.Read.{ReadsFormula}

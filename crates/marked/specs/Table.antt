@@ -6,7 +6,8 @@ use Prim.Native.String.{String}
 use lib.ListN.{replicate}
 use Rattle.ground.specs.Text.{bytes}
 use Rattle.book_block.specs.declared.rule.Right.the-variants.{Look, Set}
-use Rattle.sheet_reading.specs.Sheet.{Sheet, sizeOf}
+use Rattle.sheet_rules.specs.Rules.{sizeOf}
+use Rattle.sheet_reading.specs.Sheet.{Sheet}
 use Rattle.marked.specs.Row.{Row, rule, reads, refuses, sums, reaches, faults, prints, sheet-reaches, sheet-cannot}
 
 -- ---- P1 to P5, formulas

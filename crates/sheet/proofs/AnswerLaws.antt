@@ -8,7 +8,7 @@ use Rattle.book.specs.Written.{bookOf}
 use Rattle.plan.specs.Plans.{System}
 use Rattle.print_answer.specs.Printed.{refusedText, Prints}
 use Rattle.question.specs.Question.{systemOf, startOf}
-use Rattle.sheet_reading.specs.declared.desk.Desk.{Desk}
+use Rattle.sheet_reading.specs.declared.Desk.{Desk}
 use Rattle.sheet_reading.specs.Reading.{Meaning, refused, stated, sheetMeaning}
 use Rattle.sheet_reading.specs.Reads.{ReadsSheet}
 use Rattle.sheet_reading.specs.declared.SheetTold.{SheetTold}

@@ -34,7 +34,7 @@ use Rattle.finder.specs.Answers.{AnswersFrom}
 use Rattle.finder.specs.declared.answer.Answer.{Answer}
 use Rattle.finder.specs.declared.answer.Answer.the-variants.{Reach, Cannot, Refused}
 use Rattle.finder.proofs.FindLaws.{find-clear}
-use Rattle.sheet_reading.specs.declared.desk.Desk.{Desk}
+use Rattle.sheet_reading.specs.declared.Desk.{Desk}
 use Rattle.sheet.specs.Answer.{SheetAsks, PrintsFound}
 use Rattle.sheet.specs.Inner.{Whole, rightsIn, bookIn, questionIn, goalIn}
 use Rattle.sheet.proofs.SheetQuestion.{asked-writable, asked-valid, asked-most}
@@ -66,13 +66,13 @@ module _ {d : Desk} (x : Whole d) where
   desk-lawful = lawful desk-valid
 
   few : d .rules .settings ≤ 7
-  few = omega (arith, x .holds .rules .settings-most)
+  few = omega (arith, x .holds .few)
 
   plan-most : (p : Plan) → Written (system d) (start d) p → length (encode p) ≤ 2016
   unfolding bookIn
   plan-most p t =
       on-desk (λ n m. Written (systemOf n (bookOf n m (rightsIn d)) (questionIn d) (goalIn d)) (start d) p → length (encode p) ≤ 2016)
-      (λ u. asked-most (x .well-formed) question (omega (arith, x .holds .rules .settings, x .holds .rules .settings-most)) (start d) p u .1) t
+      (λ u. asked-most (x .well-formed) question (omega (arith, x .holds .rules .settings, x .holds .few)) (start d) p u .1) t
 
   pub book-length : length (bookIn d) ≡ 512 * (1 + d .rules .settings)
   unfolding bookIn
@@ -85,7 +85,7 @@ module _ {d : Desk} (x : Whole d) where
   desk-written room after a size wrote =
       let book = bookOf (d .rules .settings) (d .rules .posts) (rightsIn d) in
       let same = writes-one (d .rules .settings) (d .rules .posts) (rightsIn d) room a BookWritten after
-      (book ++ drop (512 * (1 + d .rules .settings)) room) wrote (desk-writable, omega (arith, x .holds .rules .settings-most), refl) in
+      (book ++ drop (512 * (1 + d .rules .settings)) room) wrote (desk-writable, omega (arith, x .holds .few), refl) in
       ap (take (512 * (1 + d .rules .settings))) (same .1)
       ∙ take-at book (drop (512 * (1 + d .rules .settings)) room) (512 * (1 + d .rules .settings)) book-length
 
@@ -95,7 +95,7 @@ module _ {d : Desk} (x : Whole d) where
   desk-found {book} ranks plan a ranks′ plan′ e size f = by-case (subst (λ (b : List ℕ). Finds b (questionIn d) (goalIn d) ranks plan a ranks′ plan′) e f)
     where
       enough : 7 ^ d .rules .settings ≤ length ranks
-      enough = omega (arith, pow-le-pow-right {n = 7} (lit< tt) {i = d .rules .settings} {j = 5} (x .holds .rules .settings-most))
+      enough = omega (arith, pow-le-pow-right {n = 7} (lit< tt) {i = d .rules .settings} {j = 5} (x .holds .few))
 
       by-case : Finds (bookIn d) (questionIn d) (goalIn d) ranks plan a ranks′ plan′
           → AnswersFrom (systemOf (d .rules .settings) (bookIn d) (questionIn d) (goalIn d)) (startOf (questionIn d)) plan a plan′

@@ -18,9 +18,12 @@ use Rattle.ground.proofs.Lists.{getD-part, part-same}
 use Rattle.ground.proofs.Bools.{and-false}
 use Rattle.book_sound.proofs.RightsLaws.{length-tables}
 use Rattle.book_block.proofs.RuleLaws.{place-most}
-use Rattle.sheet_reading.specs.Sheet.{Sheet, ruleText}
-use Rattle.sheet_reading.specs.Desk.{TablesOf, slotOf, tableIn, Filled, inSize, OnDesk}
-use Rattle.sheet_reading.specs.declared.desk.Desk.{Desk}
+use Rattle.sheet_rules.specs.Rules.{ruleText}
+use Rattle.sheet_rules.specs.Desk.{slotOf, tableIn, Filled, inSize}
+use Rattle.sheet_question.specs.Desk.{TablesOf}
+use Rattle.sheet_reading.specs.Sheet.{Sheet}
+use Rattle.sheet_reading.specs.Desk.{OnDesk}
+use Rattle.sheet_reading.specs.declared.Desk.{Desk}
 use Rattle.sheet_reading.specs.Grammar.{WellFormed}
 use Rattle.sheet.specs.Answer.{SheetAsks}
 use Rattle.sheet.specs.Inner.{rightsIn, learnIn, questionIn, goalIn}

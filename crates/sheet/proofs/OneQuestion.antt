@@ -24,7 +24,7 @@ use Rattle.question.specs.Question.{systemOf, startOf}
 use Rattle.question.specs.declared.Question.{Question}
 use Rattle.sheet_words.proofs.Unique.{mask-one}
 use Rattle.sheet_reading.specs.Sheet.{Sheet}
-use Rattle.sheet_reading.proofs.Unique.{table-one, tables-one}
+use Rattle.sheet_question.proofs.Unique.{table-one, tables-one}
 use Rattle.sheet.specs.Answer.{SheetAsks, sheetBook, PrintsFound}
 
 -- ---- rights

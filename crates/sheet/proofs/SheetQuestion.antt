@@ -36,9 +36,10 @@ use Rattle.question.specs.Asks.{ValidQuestion}
 use Rattle.question.specs.declared.Question.{Question}
 use Rattle.question.proofs.SystemLaws.{lawful}
 use Rattle.sheet_words.specs.Words.{member}
-use Rattle.sheet_reading.specs.Sheet.{Known, Sheet, knownSettings, knownTrue}
-use Rattle.sheet_reading.specs.Desk.{TablesOf}
-use Rattle.sheet_reading.proofs.HoldLaws.{zero-at, zero-truth}
+use Rattle.sheet_question.specs.Asked.{Known, knownSettings, knownTrue}
+use Rattle.sheet_question.specs.Desk.{TablesOf}
+use Rattle.sheet_reading.specs.Sheet.{Sheet}
+use Rattle.sheet_question.proofs.Zeros.{zero-at, zero-truth}
 use Rattle.sheet_reading.specs.Grammar.{PostsFit, KnownFit, WellFormed}
 use Rattle.sheet.specs.Answer.{SheetAsks, sheetBook}
 

@@ -27,8 +27,8 @@ use Rattle.knowledge.specs.Goal.{Goal, learnTable}
 use Rattle.question.specs.Question.{systemOf, startOf, NoMaking}
 use Rattle.question.specs.declared.Question.{Question}
 use Rattle.finder.proofs.Theorems.{enough}
+use Rattle.sheet_question.specs.Desk.{TablesOf}
 use Rattle.sheet_reading.specs.Sheet.{Sheet}
-use Rattle.sheet_reading.specs.Desk.{TablesOf}
 use Rattle.sheet_reading.specs.Reading.{Meaning, refused, stated, sheetMeaning}
 use Rattle.sheet_reading.specs.Grammar.{WellFormed}
 use Rattle.sheet_reading.proofs.Taken.{stated-written}

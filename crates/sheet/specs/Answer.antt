@@ -20,8 +20,10 @@ use Rattle.print_answer.specs.Printed.{refusedText, cannotText, reachText, Prin
 use Rattle.question.specs.Question.{systemOf, startOf}
 use Rattle.question.specs.declared.Question.{Question}
 use Rattle.sheet_words.specs.Words.{member}
-use Rattle.sheet_reading.specs.Sheet.{Sheet, ruleText, knownSettings, knownTrue}
-use Rattle.sheet_reading.specs.Desk.{TablesOf}
+use Rattle.sheet_rules.specs.Rules.{ruleText}
+use Rattle.sheet_question.specs.Asked.{knownSettings, knownTrue}
+use Rattle.sheet_question.specs.Desk.{TablesOf}
+use Rattle.sheet_reading.specs.Sheet.{Sheet}
 use Rattle.sheet_reading.specs.Reading.{Meaning, refused, stated, sheetMeaning}
 
 -- the question that a sheet asks: "Every rule and goal is worked on as a table", and a mask has a bit for each post or setting that is named

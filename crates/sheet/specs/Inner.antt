@@ -7,7 +7,7 @@ use Rattle.knowledge.specs.Goal.{Goal, goalOf}
 use Rattle.question.specs.declared.Question.{Question}
 use Rattle.sheet_reading.specs.Sheet.{Sheet}
 use Rattle.sheet_reading.specs.Desk.{OnDesk}
-use Rattle.sheet_reading.specs.declared.desk.Desk.{Desk}
+use Rattle.sheet_reading.specs.declared.Desk.{Desk}
 use Rattle.sheet_reading.specs.Grammar.{WellFormed}
 
 -- a whole sheet is on the desk

@@ -3,7 +3,7 @@ use mathlib.Core.Bool.{false}
 use mathlib.Core.Path.{_≡_, refl, sym, ap, _∙_, subst}
 use mathlib.Core.Logic.{inl, inr, _↔_}
 use mathlib.Core.List.{List, [], _∷_, _++_, append-assoc, append-nil, map}
-use Prim.Native.Nat.{ℕ, suc, _≤_, _<_}
+use Prim.Native.Nat.{ℕ, _≤_, _<_}
 use native.Mathlib.Omega.{arith}
 use lib.Dec.{leb, leb→le}
 use lib.ListN.{length, take, drop}
@@ -13,17 +13,18 @@ use Rattle.refusal.specs.declared.Refusal.the-variants.{Malformed, Twice, Sheet
 use Rattle.refusal.specs.Refusals.{number}
 use Rattle.sheet_words.specs.Words.{split, newline}
 use Rattle.sheet_words.proofs.Split.{joined}
-use Rattle.sheet_reading.specs.Sheet.{Rule, Sheet}
-use Rattle.sheet_reading.specs.Steps.{fault}
-use Rattle.sheet_reading.specs.Forms.{isSize}
-use Rattle.sheet_reading.specs.LineSteps.{sizeStep}
-use Rattle.sheet_reading.specs.Reading.{refused, firstLine, sheetMeaning}
+use Rattle.sheet_words.specs.Steps.{fault}
+use Rattle.sheet_rules.specs.Rules.{Rule}
+use Rattle.sheet_rules.specs.Forms.{isSize}
+use Rattle.sheet_reading.specs.Sheet.{Sheet}
+use Rattle.sheet_reading.specs.Reading.{refused, sheetMeaning}
+use Rattle.sheet_reading.proofs.OnePass.{sizeStep, firstLine, after}
 use Rattle.sheet_reading.specs.Grammar.{ended, sizeText, ruleLines, rulesText, askedText, sheetText}
 use Rattle.sheet_reading.specs.Place.{allEnded, firstLines, MalformedAt}
-use Rattle.sheet_reading.specs.Faults.{Line, size-line, right-line, team-line, known-line, make-line, ask-line, linesOf, NamesTwice, FormulaRefused, SizeAbove}
+use Rattle.sheet_reading.specs.Faults.{Line, size-line, right-line, ask-line, linesOf, NamesTwice, FormulaRefused, SizeAbove}
 use Rattle.sheet_reading.specs.Faults.{above, again, in-formula, LineFault, Reaches, FaultAt, RefusedSheet, too-long, malformed, at-fault}
 use Rattle.sheet_reading.proofs.LineForms.{size-read, size-clear}
-use Rattle.sheet_reading.proofs.LineByLine.{split-ended, after, first-split}
+use Rattle.sheet_reading.proofs.LineByLine.{split-ended, first-split}
 use Rattle.sheet_reading.proofs.Lines.{first-lines, same-lines}
 use Rattle.sheet_reading.proofs.FaultLaws.{fault-number, above-only, again-only, formula-only}
 use Rattle.sheet_reading.proofs.Place.{meaning-lines}

@@ -9,12 +9,17 @@ use Rattle.formula_grammar.specs.Automaton.{isAtom, step, verdict}
 use Rattle.formula.specs.Computed.{sentenceAnswer, foreignAnswer, formulaAnswer}
 use Rattle.book_block.specs.declared.rule.Right.the-variants.{Look, Set}
 use Rattle.sheet_words.specs.Words.{onto, split, begins, among, isFalse, bare, isName, allNames, indexOf, indexes, twice}
-use Rattle.sheet_reading.specs.Sheet.{sizeOf, sameRight, concerns, isStated, knownSettings}
-use Rattle.sheet_reading.specs.Rules.{isSetting, isPost, isRule, ruleOf, withRule, ruleStep}
-use Rattle.sheet_reading.specs.Steps.{unlessRefused, sized}
-use Rattle.sheet_reading.specs.Forms.{isSize, digitAt, nameWords, isNames, isTeam, teamOf, isKnown, knownBy, knownOf}
-use Rattle.sheet_reading.specs.LineSteps.{withTeam, withKnown, withMake, withAsk, sizeStep, teamStep, knownStep, makeStep, askStep, rightsStep}
-use Rattle.sheet_reading.specs.Reading.{refused, stated, lines, firstLine, sheetMeaning}
+use Rattle.sheet_words.specs.Steps.{unlessRefused}
+use Rattle.sheet_rules.specs.Rules.{sizeOf, sameRight, concerns, isStated, withRule}
+use Rattle.sheet_rules.specs.Forms.{isSetting, isPost, isRule, ruleOf, isOfRules, isSize, digitAt}
+use Rattle.sheet_rules.specs.Steps.{sizeStep, ruleStep}
+use Rattle.sheet_rules.specs.Steps.{lineStep as rulesLine}
+use Rattle.sheet_rules.specs.Reading.{rulesFrom, sizeFrom, rulesRead}
+use Rattle.sheet_question.specs.Asked.{knownSettings}
+use Rattle.sheet_question.specs.Forms.{nameWords, isNames, isTeam, teamOf, isKnown, knownBy, knownOf}
+use Rattle.sheet_question.specs.LineSteps.{withTeam, withKnown, withMake, withAsk, teamStep, knownStep, makeStep, askStep, lineStep}
+use Rattle.sheet_question.specs.Question.{askedFrom}
+use Rattle.sheet_reading.specs.Reading.{refused, stated, sheetMeaning}
 
 pub sheets-computed :
     -- "Input: ..", paper 01's sheet
@@ -54,6 +59,6 @@ pub sheets-computed :
     × (sheetMeaning (bytes "size 1 1\nteam 1\nknown\nmake 1\nask a\nask a\nask a\nask a\nask a\n") ≡ refused (Malformed 9) 9)
 unfolding isLetter isSign isStray isPast isAtom step verdict sentenceAnswer foreignAnswer formulaAnswer sameRight concerns isStated
     knownSettings onto split begins among isSetting isPost isSize digitAt isRule ruleOf isFalse bare isName allNames indexOf indexes
-    nameWords isNames isTeam teamOf isKnown knownBy knownOf twice unlessRefused sized withRule withTeam withKnown withMake withAsk sizeStep
-    ruleStep teamStep knownStep makeStep askStep rightsStep lines firstLine sheetMeaning
+    nameWords isNames isTeam teamOf isKnown knownBy knownOf twice unlessRefused isOfRules withRule sizeStep ruleStep rulesLine rulesFrom sizeFrom
+    rulesRead withTeam withKnown withMake withAsk teamStep knownStep makeStep askStep lineStep askedFrom sheetMeaning
 sheets-computed = (refl, refl, refl, refl, refl, refl, refl, refl, refl, refl, refl, refl, refl, refl, refl)

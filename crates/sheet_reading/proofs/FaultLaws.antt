@@ -15,10 +15,10 @@ use Rattle.formula.specs.Read.{formulaRows}
 use Rattle.formula.specs.Computed.{formulaAnswer}
 use Rattle.formula.specs.declared.Answer.the-variants.{Accepted, Refused}
 use Rattle.formula.proofs.Computed.{Told, formula-told, read-computed}
+use Rattle.sheet_rules.proofs.FormulaLaws.{formula-number}
 use Rattle.sheet_reading.specs.Sheet.{Sheet}
-use Rattle.sheet_reading.specs.Faults.{Line, size-line, right-line, team-line, known-line, make-line, ask-line, linesOf}
-use Rattle.sheet_reading.specs.Faults.{NamesTwice, FormulaRefused, SizeAbove, Fault, above, again, in-formula, AtLine, LineFault}
-use Rattle.sheet_reading.proofs.FormulaLaws.{formula-number}
+use Rattle.sheet_reading.specs.Faults.{Line, size-line, right-line, make-line, ask-line, linesOf}
+use Rattle.sheet_reading.specs.Faults.{NamesTwice, FormulaRefused, SizeAbove, Fault, above, again, in-formula, LineFault}
 
 -- ---- a formula's refusal is the computed one
 

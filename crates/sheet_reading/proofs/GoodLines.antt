@@ -12,13 +12,15 @@ use Rattle.refusal.specs.declared.Refusal.the-variants.{Twice, SheetSettings}
 use Rattle.book_block.specs.declared.rule.Right.{Right}
 use Rattle.book_block.specs.declared.rule.Right.the-variants.{Look, Set}
 use Rattle.sheet_words.specs.Words.{begins, twice}
-use Rattle.sheet_reading.specs.Sheet.{Rule, Sheet, isStated, knownSettings}
-use Rattle.sheet_reading.specs.Rules.{isRule, ruleOf, withRule, ruleStep}
-use Rattle.sheet_reading.specs.Steps.{Step, next, unless, unlessRefused, sized}
-use Rattle.sheet_reading.specs.declared.desk.Due.{Due}
-use Rattle.sheet_reading.specs.declared.desk.Due.the-variants.{Rights, Known, Make, Asks}
-use Rattle.sheet_reading.specs.Forms.{isSize, digitAt, isTeam, teamOf, isKnown, knownOf}
-use Rattle.sheet_reading.specs.LineSteps.{withTeam, withKnown, withMake, withAsk, sizeStep, teamStep, knownStep, makeStep, askStep, rightOrTeam, rightsStep, step}
+use Rattle.sheet_words.specs.Steps.{next, unless, unlessRefused}
+use Rattle.sheet_rules.specs.Rules.{Rule, isStated}
+use Rattle.sheet_rules.specs.Forms.{isRule, ruleOf, isSize, digitAt}
+use Rattle.sheet_question.specs.Asked.{knownSettings}
+use Rattle.sheet_question.specs.Forms.{isTeam, teamOf, isKnown, knownOf}
+use Rattle.sheet_reading.specs.Sheet.{Sheet, sized}
+use Rattle.sheet_reading.proofs.OnePass.{SheetStep, withRule, ruleStep, withTeam, withKnown, withMake, withAsk, sizeStep, teamStep, knownStep, makeStep, askStep, rightOrTeam, rightsStep, step}
+use Rattle.sheet_question.specs.declared.desk.Due.{Due}
+use Rattle.sheet_question.specs.declared.desk.Due.the-variants.{Team, Known, Make, Asks}
 use Rattle.sheet_reading.specs.Grammar.{ended, sizeText, word, ruleLine, ruleLines, makeLine, askLines, rulesText, InLine, RulesFit, AsksFit, WellFormed}
 use Rattle.sheet_reading.proofs.LineForms.{begins-written, size-written, rule-written}
 use Rattle.sheet_reading.proofs.NameLines.{team-written, known-written}
@@ -31,13 +33,13 @@ unfolding sizeStep sized toRights rulesText ruleLines
 size-good line =
     let n : ℕ = digitAt line 5 in
     let m : ℕ = digitAt line 7 in
-    good-form 1 (ended line) (isSize line) (unless (leb n 5) SheetSettings (next Rights (sized n m))) (λ h.
+    good-form 1 (ended line) (isSize line) (unless (leb n 5) SheetSettings (next (Team, sized n m))) (λ h.
     let form = size-written line h in
-    let good : Good 1 (ended line) (next Rights (sized n m)) = (
+    let good : Good 1 (ended line) (next (Team, sized n m)) = (
       (record { settings-least = form .0 .0; settings-most = form .0 .1; posts-least = form .0 .2; posts-most = form .0 .3; rules = tt }, refl),
       append-nil (ended (sizeText n m)) ∙ ap ended (sym (form .1)),
     ) in
-    good-unless 1 (ended line) (leb n 5) SheetSettings (next Rights (sized n m)) (λ e. omega (arith, e)) (good-begins 1 (ended line) Rights (sized n m) good) good)
+    good-unless 1 (ended line) (leb n 5) SheetSettings (next (Team, sized n m)) (λ e. omega (arith, e)) (good-begins 1 (ended line) Team (sized n m) good) good)
 
 in-drop : (k : ℕ) (s : List ℕ) → InLine s → InLine (drop k s)
 in-drop zero s h = h
@@ -61,7 +63,7 @@ rule-good L v right line b i h =
     let s : List ℕ = toRights v ++ ended line in
     let r : Rule = ruleOf (word right) right line in
     let form = rule-written right (v .size .settings) (v .size .posts) line h in
-    let good : Good L s (next Rights (withRule v r)) = (
+    let good : Good L s (next (Team, withRule v r)) = (
       (
         record {
           settings-least = b .0 .settings-least;
@@ -75,17 +77,17 @@ rule-good L v right line b i h =
       ap (_++_ (ended (sizeText (v .size .settings) (v .size .posts)))) (rules-snoc (v .rules) r ∙ ap (λ (l : List ℕ). ruleLines (v .rules) ++ ended l) (sym (form .2)))
           ∙ sym (append-assoc (ended (sizeText (v .size .settings) (v .size .posts))) (ruleLines (v .rules)) (ended line)),
     ) in
-    good-unless L s (not (isStated (v .rules) (r .right) (r .setting) (r .post))) (Twice L) (unlessRefused (v .size .settings) (r .text) (next Rights (withRule v r))) (λ e. omega (arith, e))
-    (good-begins L s Rights (withRule v r) good) (good-refused L s (v .size .settings) (r .text) Rights (withRule v r) good)
+    good-unless L s (not (isStated (v .rules) (r .right) (r .setting) (r .post))) (Twice L) (unlessRefused (v .size .settings) (r .text) (next (Team, withRule v r))) (λ e. omega (arith, e))
+    (good-begins L s Team (withRule v r) good) (good-refused L s (v .size .settings) (r .text) Team (withRule v r) good)
 
 team-good : (L : ℕ) (v : Sheet) (line : List ℕ) → Begun v → Good L (toRights v ++ ended line) (teamStep L v line)
 unfolding teamStep withTeam toTeam toRights
 team-good L v line b =
     let s : List ℕ = toRights v ++ ended line in
-    good-form L s (isTeam (v .size .posts) line) (unless (not (twice (λ i. false) (teamOf line))) (Twice L) (next Known (withTeam v line))) (λ h.
+    good-form L s (isTeam (v .size .posts) line) (unless (not (twice (λ i. false) (teamOf line))) (Twice L) (next (Known, withTeam v line))) (λ h.
     let form = team-written (v .size .posts) line h in
-    let good : Good L s (next Known (withTeam v line)) = ((b, form .0, form .1), ap (λ (l : List ℕ). toRights v ++ ended l) (sym (form .2))) in
-    good-unless L s (not (twice (λ i. false) (teamOf line))) (Twice L) (next Known (withTeam v line)) (λ e. omega (arith, e)) (good-begins L s Known (withTeam v line) good) good)
+    let good : Good L s (next (Known, withTeam v line)) = ((b, form .0, form .1), ap (λ (l : List ℕ). toRights v ++ ended l) (sym (form .2))) in
+    good-unless L s (not (twice (λ i. false) (teamOf line))) (Twice L) (next (Known, withTeam v line)) (λ e. omega (arith, e)) (good-begins L s Known (withTeam v line) good) good)
 
 rights-good : (L : ℕ) (v : Sheet) (line : List ℕ) → Begun v → InLine line → Good L (toRights v ++ ended line) (rightsStep L v line)
 unfolding rightsStep word
@@ -95,7 +97,7 @@ rights-good L v line b i =
     (rule-good L v Look line b i) (rule-good L v Set line b i) (team-good L v line b)
   where
     by-form :
-        (look set? : Bool) (x y z : Step) → (T look → Good L (toRights v ++ ended line) x) → (T set? → Good L (toRights v ++ ended line) y) →
+        (look set? : Bool) (x y z : SheetStep) → (T look → Good L (toRights v ++ ended line) x) → (T set? → Good L (toRights v ++ ended line) y) →
         Good L (toRights v ++ ended line) z → Good L (toRights v ++ ended line) (rightOrTeam look x set? y z)
     by-form true set? x y z f g h = f tt
     by-form false true x y z f g h = g tt
@@ -106,17 +108,17 @@ unfolding knownStep withKnown toKnown toTeam toRights
 known-good L v line begun =
     let s : List ℕ = toTeam v ++ ended line in
     let once? : Bool = not (twice (λ i. false) (knownSettings (knownOf line))) in
-    good-form L s (isKnown (v .size .settings) line) (unless once? (Twice L) (next Make (withKnown v line))) (λ h.
+    good-form L s (isKnown (v .size .settings) line) (unless once? (Twice L) (next (Make, withKnown v line))) (λ h.
     let form = known-written (v .size .settings) line h in
-    let good : Good L s (next Make (withKnown v line)) = ((begun, form .0), ap (λ (l : List ℕ). toTeam v ++ ended l) (sym (form .1))) in
-    good-unless L s once? (Twice L) (next Make (withKnown v line)) (λ e. omega (arith, e)) (good-begins L s Make (withKnown v line) good) good)
+    let good : Good L s (next (Make, withKnown v line)) = ((begun, form .0), ap (λ (l : List ℕ). toTeam v ++ ended l) (sym (form .1))) in
+    good-unless L s once? (Twice L) (next (Make, withKnown v line)) (λ e. omega (arith, e)) (good-begins L s Make (withKnown v line) good) good)
 
 make-good : (L : ℕ) (v : Sheet) (line : List ℕ) → WellSoFar Make v → InLine line → Good L (toKnown v ++ ended line) (makeStep L v line)
 unfolding makeStep withMake toKnown toTeam toRights makeLine askLines
 make-good L v line so i =
     let s : List ℕ = toKnown v ++ ended line in
     let F : List ℕ = drop 5 line in
-    good-form L s (begins (bytes "make ") line) (unlessRefused (v .size .settings) F (next Asks (withMake v F))) (λ h.
+    good-form L s (begins (bytes "make ") line) (unlessRefused (v .size .settings) F (next (Asks, withMake v F))) (λ h.
     good-refused L s (v .size .settings) F Asks (withMake v F) (
       made v F so (in-drop 5 line i),
       ap (λ (Fs : List (List ℕ)). (toKnown v ++ ended (bytes "make " ++ F)) ++ askLines Fs) (so .0 .0 .1)
@@ -139,7 +141,7 @@ ask-good L v line b i =
     let before : List ℕ = toKnown v ++ ended (makeLine (v .asked .make)) in
     let s : List ℕ = (before ++ askLines (v .asked .asks)) ++ ended line in
     let F : List ℕ = drop 4 line in
-    good-form L s (begins (bytes "ask ") line && ltb (length (v .asked .asks)) 4) (unlessRefused (v .size .settings) F (next Asks (withAsk v F))) (λ h.
+    good-form L s (begins (bytes "ask ") line && ltb (length (v .asked .asks)) 4) (unlessRefused (v .size .settings) F (next (Asks, withAsk v F))) (λ h.
     let fewer = ltb→lt (length (v .asked .asks)) 4 (and-right (begins (bytes "ask ") line) (ltb (length (v .asked .asks)) 4) h) in
     good-refused L s (v .size .settings) F Asks (withAsk v F) (
       record {
@@ -161,7 +163,7 @@ ask-good L v line b i =
     ))
 
 pub step-good : (L : ℕ) (due : Due) (v : Sheet) (line : List ℕ) → WellSoFar due v → InLine line → Good L (soFar due v ++ ended line) (step L due v line)
-step-good L Rights v line h i = rights-good L v line h i
+step-good L Team v line h i = rights-good L v line h i
 step-good L Known v line h i = known-good L v line h
 step-good L Make v line h i = make-good L v line h i
 step-good L Asks v line h i = ask-good L v line h i

@@ -1,5 +1,5 @@
 -- A well-formed sheet is taken as what it is, or refused with a refusal that is not 22: what is left are 23, 24, 25 and a formula's refusal.
-use mathlib.Core.Path.{_≡_, refl, ap, subst}
+use mathlib.Core.Path.{_≡_, refl, sym, ap, subst}
 use mathlib.Core.Logic.{_⊎_, inl, inr}
 use mathlib.Core.Bool.{Bool, true, false, cond}
 use Prim.Native.Nat.{ℕ}
@@ -11,8 +11,10 @@ use Rattle.refusal.specs.declared.Refusal.the-variants.{SheetLength}
 use Rattle.refusal.specs.Refusals.{number}
 use Rattle.sheet_words.specs.Words.{split, newline}
 use Rattle.sheet_reading.specs.Sheet.{Sheet}
-use Rattle.sheet_reading.specs.Reading.{Meaning, refused, stated, firstLine, sheetMeaning}
+use Rattle.sheet_reading.specs.Reading.{Meaning, refused, stated, sheetMeaning}
+use Rattle.sheet_reading.proofs.OnePass.{firstLine}
 use Rattle.sheet_reading.specs.Grammar.{sheetText, WellFormed}
+use Rattle.sheet_reading.proofs.TwoParts.{sheet-meaning}
 use Rattle.sheet_reading.proofs.FaultLaws.{first-formed}
 use Rattle.sheet_reading.proofs.Judged.{Judged, lines-judged}
 
@@ -35,8 +37,7 @@ fine-out w (refused r p) h = inr (r, p, refl, h)
 fine-out w (stated v) h = inl (ap stated h)
 
 meaning-fine : (w : Sheet) → WellFormed w → Fine w (sheetMeaning (sheetText w))
-unfolding sheetMeaning
-meaning-fine w h = by-length (ltb 32768 (length (sheetText w)))
+meaning-fine w h = subst (Fine w) (sym (sheet-meaning (sheetText w))) (by-length (ltb 32768 (length (sheetText w))))
   where
     by-length : (over : Bool) → Fine w (cond over (refused SheetLength 0) (firstLine (split newline (sheetText w))))
     by-length true = λ e. omega (arith, e)

@@ -3,7 +3,7 @@
 use mathlib.Core.Path.{_≡_, refl, sym, ap, _∙_, subst}
 use mathlib.Core.Logic.{inl, inr}
 use mathlib.Core.List.{List, [], _∷_, _++_, append-assoc, append-nil, map, map-append}
-use mathlib.Core.Bool.{Bool, true, false, not, _&&_}
+use mathlib.Core.Bool.{Bool, true, false, not}
 use Prim.Native.Nat.{ℕ, suc, _<_}
 use native.Mathlib.Omega.{arith}
 use lib.Dec.{T, leb, ltb, lt→ltb, leb→le, le→leb}
@@ -20,13 +20,15 @@ use Rattle.formula.specs.Computed.{formulaAnswer}
 use Rattle.book_block.specs.declared.rule.Right.{Right}
 use Rattle.book_block.specs.declared.rule.Right.the-variants.{Look, Set}
 use Rattle.sheet_words.specs.Words.{split, newline, begins, twice}
-use Rattle.sheet_reading.specs.Sheet.{Rule, Sheet, nothingAsked, teamAs, knownAs, asksAs, askedAs, isStated, knownSettings}
-use Rattle.sheet_reading.specs.Rules.{isRule, ruleOf, withRule, ruleStep}
-use Rattle.sheet_reading.specs.Steps.{Step, next, unless, unlessAnswered, unlessRefused, sized}
-use Rattle.sheet_reading.specs.declared.desk.Due.the-variants.{Rights, Known, Make, Asks}
-use Rattle.sheet_reading.specs.Forms.{isSize, isTeam, isKnown}
-use Rattle.sheet_reading.specs.LineSteps.{withTeam, withKnown, withMake, withAsk, sizeStep, teamStep, knownStep, makeStep, askStep, rightsStep}
-use Rattle.sheet_reading.specs.Reading.{Meaning, refused, stated, lines, firstLine}
+use Rattle.sheet_words.specs.Steps.{next, unless, unlessAnswered, unlessRefused}
+use Rattle.sheet_rules.specs.Rules.{Rule, isStated}
+use Rattle.sheet_rules.specs.Forms.{isRule, ruleOf, isSize}
+use Rattle.sheet_question.specs.Asked.{nothingAsked, teamAs, knownAs, asksAs, knownSettings}
+use Rattle.sheet_question.specs.Forms.{isTeam, isKnown}
+use Rattle.sheet_reading.specs.Sheet.{Sheet, sized}
+use Rattle.sheet_reading.specs.Reading.{Meaning, refused, stated}
+use Rattle.sheet_reading.proofs.OnePass.{SheetStep, askedAs, withRule, ruleStep, withTeam, withKnown, withMake, withAsk, sizeStep, teamStep, knownStep, makeStep, askStep, rightsStep, lines, firstLine, after}
+use Rattle.sheet_question.specs.declared.desk.Due.the-variants.{Team, Known, Make, Asks}
 use Rattle.sheet_reading.specs.Grammar.{ended, sizeText, word, ruleLine, ruleLines, teamLine, knownLine, makeLine, askLines, rulesText, askedText, sheetText, RulesFit, AsksFit, WellFormed}
 use Rattle.sheet_reading.specs.Faults.{Line, size-line, right-line, team-line, known-line, make-line, ask-line, linesOf}
 use Rattle.sheet_reading.specs.Faults.{NamesTwice, FormulaRefused, Fault, above, again, in-formula, LineFault}
@@ -34,7 +36,7 @@ use Rattle.sheet_reading.proofs.Named.{repeats-out, repeats-in, stated-
 use Rattle.sheet_reading.proofs.FaultLaws.{refused-first, accepted-none, FirstFault, Turn, first-turn, faulty, onward, all-clean}
 use Rattle.sheet_reading.proofs.LineForms.{clear-append, size-read, size-clear, rule-read, rule-clear}
 use Rattle.sheet_reading.proofs.NameLines.{team-read, team-clear, known-read, known-clear}
-use Rattle.sheet_reading.proofs.LineByLine.{line-clear, after, lines-split, first-split}
+use Rattle.sheet_reading.proofs.LineByLine.{line-clear, lines-split, first-split}
 
 -- ---- what becomes of a well-formed sheet
 
@@ -49,16 +51,16 @@ not-most : (n : ℕ) → T (not (leb n 5)) → 5 < n
 not-most n h = elim (lt-or-ge 5 n) [ inl l ↦ l | inr l ↦ both (leb n 5) (le→leb n 5 l) h ]
 
 module _ {w : Sheet} {L : ℕ} {before : List Line} {line : Line} {behind : List Line} (t : Turn w L before (line ∷ behind)) (pieces : List (List ℕ)) where
-  judged-unless : (b : Bool) (r : Refusal) (later : Step) → (T (not b) → Fault (w .size .settings) L before line r) → (T b → Judged w (after L pieces later))
+  judged-unless : (b : Bool) (r : Refusal) (later : SheetStep) → (T (not b) → Fault (w .size .settings) L before line r) → (T b → Judged w (after L pieces later))
       → Judged w (after L pieces (unless b r later))
   judged-unless true r later f h = h tt
   judged-unless false r later f h = faulty t (f tt)
 
-  judged-names : (b : Bool) (later : Step) → (T b → NamesTwice before line) → (NamesTwice before line → T b)
+  judged-names : (b : Bool) (later : SheetStep) → (T b → NamesTwice before line) → (NamesTwice before line → T b)
       → ((NamesTwice before line → ⊥) → Judged w (after L pieces later)) → Judged w (after L pieces (unless (not b) (Twice L) later))
   judged-names b later f g h = judged-unless (not b) (Twice L) later (λ k. again (f (not-not b k))) (λ k. h (λ x. both b (g x) k))
 
-  judged-formula : (F : List ℕ) (later : Step) → ((r : Refusal) → First (formulaRows (w .size .settings) F) r → FormulaRefused (w .size .settings) line r)
+  judged-formula : (F : List ℕ) (later : SheetStep) → ((r : Refusal) → First (formulaRows (w .size .settings) F) r → FormulaRefused (w .size .settings) line r)
       → (NamesTwice before line → ⊥) → (((r : Refusal) → First (formulaRows (w .size .settings) F) r → ⊥) → Judged w (after L pieces later))
       → Judged w (after L pieces (unlessRefused (w .size .settings) F later))
   unfolding unlessRefused
@@ -106,7 +108,7 @@ module _ (w : Sheet) (h : WellFormed w) where
       let line : List ℕ = bytes "ask " ++ F in
       subst (Judged w) (sym (lines-split L Asks (asking w done) line (askLines Fs) (clear-append 10 (bytes "ask ") F (omega arith) (line-clear F (i .0)))))
       (rw (T→true (ltb (length done) 4) (lt→ltb (length done) 4 fewer))
-      (judged-formula t (split newline (askLines Fs)) F (next Asks (asking w (done ++ F ∷ []))) (λ r f. f) (λ x. x) (λ none.
+      (judged-formula t (split newline (askLines Fs)) F (next (Asks, asking w (done ++ F ∷ []))) (λ r f. f) (λ x. x) (λ none.
       asks-judged Fs (done ++ F ∷ []) (suc L) (before ++ ask-line F ∷ []) (i .1) (append-assoc done (F ∷ []) Fs ∙ e) (onward t (λ x. x) (λ x. x) none))))
 
   make-judged : (L : ℕ) (before : List Line) → Turn w L before (make-line (w .asked .make) ∷ map ask-line (w .asked .asks))
@@ -116,7 +118,7 @@ module _ (w : Sheet) (h : WellFormed w) where
       subst (Judged w)
       (sym (lines-split L Make (knowing w) (makeLine (w .asked .make)) (askLines (w .asked .asks))
       (clear-append 10 (bytes "make ") (w .asked .make) (omega arith) (line-clear (w .asked .make) (h .well-asked .make)))))
-      (judged-formula t (split newline (askLines (w .asked .asks))) (w .asked .make) (next Asks (asking w [])) (λ r f. f) (λ x. x) (λ none.
+      (judged-formula t (split newline (askLines (w .asked .asks))) (w .asked .make) (next (Asks, asking w [])) (λ r f. f) (λ x. x) (λ none.
       asks-judged (w .asked .asks) [] (suc L) (before ++ make-line (w .asked .make) ∷ []) (h .well-asked .asks) refl (onward t (λ x. x) (λ x. x) none)))
 
   known-judged : (L : ℕ) (before : List Line) → Turn w L before (known-line (w .asked .known) ∷ make-line (w .asked .make) ∷ map ask-line (w .asked .asks))
@@ -128,13 +130,13 @@ module _ (w : Sheet) (h : WellFormed w) where
       let form = known-read (w .size .settings) (h .ruled .settings-most) (w .asked .known) (h .well-asked .known) in
       subst (Judged w) (sym (lines-split L Known (teamed w) (knownLine (w .asked .known)) rest (known-clear (w .asked .known))))
       (rw (T→true (isKnown (w .size .settings) (knownLine (w .asked .known))) (form .0), form .1)
-      (judged-names t (split newline rest) (twice (λ i. false) names) (next Make (knowing w)) (repeats-out names) (repeats-in names) (λ once.
+      (judged-names t (split newline rest) (twice (λ i. false) names) (next (Make, knowing w)) (repeats-out names) (repeats-in names) (λ once.
       make-judged (suc L) (before ++ known-line (w .asked .known) ∷ []) (onward t (λ x. x) once (λ r x. x)))))
 
   team-judged : (L : ℕ) (before : List Line)
       → Turn w L before (team-line (w .asked .team) ∷ known-line (w .asked .known) ∷ make-line (w .asked .make) ∷ map ask-line (w .asked .asks))
       → Judged w
-      (lines L Rights (ruled w (w .rules))
+      (lines L Team (ruled w (w .rules))
       (split newline
       (ended (teamLine (w .asked .team))
       ++ (ended (knownLine (w .asked .known)) ++ (ended (makeLine (w .asked .make)) ++ askLines (w .asked .asks))))))
@@ -143,9 +145,9 @@ module _ (w : Sheet) (h : WellFormed w) where
       let rest : List ℕ = ended (knownLine (w .asked .known)) ++ (ended (makeLine (w .asked .make)) ++ askLines (w .asked .asks)) in
       let names : List ℕ = w .asked .team in
       let form = team-read (w .size .posts) (h .ruled .posts-most) (w .asked .team) (h .well-asked .someone) (h .well-asked .team) in
-      subst (Judged w) (sym (lines-split L Rights (ruled w (w .rules)) (teamLine (w .asked .team)) rest (team-clear (w .asked .team))))
+      subst (Judged w) (sym (lines-split L Team (ruled w (w .rules)) (teamLine (w .asked .team)) rest (team-clear (w .asked .team))))
       (rw (T→true (isTeam (w .size .posts) (teamLine (w .asked .team))) (form .0), form .1)
-      (judged-names t (split newline rest) (twice (λ i. false) names) (next Known (teamed w)) (repeats-out names) (repeats-in names) (λ once.
+      (judged-names t (split newline rest) (twice (λ i. false) names) (next (Known, teamed w)) (repeats-out names) (repeats-in names) (λ once.
       known-judged (suc L) (before ++ team-line (w .asked .team) ∷ []) (onward t (λ x. x) once (λ r x. x)))))
 
   -- the lines before a right: the size and the rights that are stated
@@ -154,24 +156,24 @@ module _ (w : Sheet) (h : WellFormed w) where
 
   rules-judged : (rs done : List Rule) (L : ℕ) (rest : List ℕ) (behind : List Line) → RulesFit (w .size .settings) (w .size .posts) rs → done ++ rs ≡ w .rules →
       Turn w L (stating done) (map right-line rs ++ behind) →
-      ((K : ℕ) → Turn w K (stating (w .rules)) behind → Judged w (lines K Rights (ruled w (w .rules)) (split newline rest))) →
-      Judged w (lines L Rights (ruled w done) (split newline (ruleLines rs ++ rest)))
+      ((K : ℕ) → Turn w K (stating (w .rules)) behind → Judged w (lines K Team (ruled w (w .rules)) (split newline rest))) →
+      Judged w (lines L Team (ruled w done) (split newline (ruleLines rs ++ rest)))
   unfolding ruleLines ruleStep withRule
   rules-judged [] done L rest behind i e t f =
       let all : w .rules ≡ done = sym e ∙ append-nil done in
-      subst (λ (rs : List Rule). Judged w (lines L Rights (ruled w rs) (split newline rest))) all
+      subst (λ (rs : List Rule). Judged w (lines L Team (ruled w rs) (split newline rest))) all
       (f L (subst (λ (rs : List Rule). Turn w L (stating rs) behind) (sym all) t))
   rules-judged (r ∷ rs) done L rest behind i e t f =
       let others : List ℕ = ruleLines rs ++ rest in
       let v : Sheet = ruled w done in
       subst (Judged w)
-      (sym (ap (λ (s : List ℕ). lines L Rights v (split newline s)) (append-assoc (ended (ruleLine r)) (ruleLines rs) rest)
-      ∙ lines-split L Rights v (ruleLine r) others (rule-clear r (line-clear (r .text) (i .0 .2)))
+      (sym (ap (λ (s : List ℕ). lines L Team v (split newline s)) (append-assoc (ended (ruleLine r)) (ruleLines rs) rest)
+      ∙ lines-split L Team v (ruleLine r) others (rule-clear r (line-clear (r .text) (i .0 .2)))
       ∙ ap (after L (split newline others)) (right-step L v r (i .0 .0) (i .0 .1))))
       (judged-names t (split newline others) (isStated done (r .right) (r .setting) (r .post))
-      (unlessRefused (w .size .settings) (r .text) (next Rights (withRule v r)))
+      (unlessRefused (w .size .settings) (r .text) (next (Team, withRule v r)))
       (λ k. inr (stated-out r done k)) (λ k. elim k [ inl x ↦ absurd x | inr x ↦ stated-in r done x ]) (λ once.
-      judged-formula t (split newline others) (r .text) (next Rights (withRule v r)) (λ x k. k) once (λ none.
+      judged-formula t (split newline others) (r .text) (next (Team, withRule v r)) (λ x k. k) once (λ none.
       rules-judged rs (done ++ r ∷ []) (suc L) rest behind (i .1) (append-assoc done (r ∷ []) rs ∙ e)
       (subst (λ (b : List Line). Turn w (suc L) (size-line (w .size) ∷ b) (map right-line rs ++ behind)) (sym (map-append right-line done (r ∷ [])))
       (onward t (λ x. x) once none))
@@ -189,7 +191,7 @@ module _ (w : Sheet) (h : WellFormed w) where
       subst (Judged w)
       (sym (ap (λ (s : List ℕ). firstLine (split newline s)) (append-assoc (ended line) (ruleLines (w .rules)) rest) ∙ first-split line whole (size-clear (w .size .settings) (w .size .posts))))
       (rw (T→true (isSize line) (form .0), form .1, form .2)
-      (judged-unless (first-turn w) (split newline whole) (leb (w .size .settings) 5) SheetSettings (next Rights (ruled w [])) (λ k. above (not-most (w .size .settings) k)) (λ k.
+      (judged-unless (first-turn w) (split newline whole) (leb (w .size .settings) 5) SheetSettings (next (Team, ruled w [])) (λ k. above (not-most (w .size .settings) k)) (λ k.
       rules-judged (w .rules) [] 2 rest behind (h .ruled .rules) refl
       (onward (first-turn w) (λ x. omega (arith, x, leb→le (w .size .settings) 5 k)) (λ x. x) (λ r x. x))
       (λ K t. team-judged K (stating (w .rules)) t))))

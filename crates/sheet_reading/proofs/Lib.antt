@@ -1,24 +1,12 @@
--- The laws of a sheet that is read. Of one line: the form it has, what it does, and that the desk then holds what the sheet has stated. Of the whole:
--- line by line, what the functions need; the grammar, where 22 stands, and every refusal exactly; how far a meaning goes; and that `read` gives
--- one thing alone.
-pub mod FormLaws
-pub mod StepLaws
-pub mod HoldLaws
-pub mod DeskLaws
-pub mod Turns
-pub mod RuleTurns
-pub mod Unique
-pub mod LineFormLaws
-pub mod LineStepLaws
-pub mod LineLaws
-pub mod LineTurns
-pub mod NameTurns
+-- The laws of a sheet that is read: what `read` needs of its two readers; one pass over the lines, which means the same; of one line, its form both ways
+-- and what it does; of the whole, the grammar, where 22 stands, and every refusal exactly; how far a meaning goes; and that `read` gives one thing alone.
 pub mod ReadLaws
+pub mod OnePass
+pub mod TwoParts
+pub mod LineByLine
 pub mod WordForms
 pub mod LineForms
 pub mod NameLines
-pub mod LineByLine
-pub mod FormulaLaws
 pub mod Named
 pub mod FaultLaws
 pub mod SoFar
@@ -33,3 +21,4 @@ pub mod RefusedExactly
 pub mod ByNumber
 pub mod Examples
 pub mod Bounds
+pub mod Unique

@@ -1,15 +1,13 @@
 -- One line and then the others: a line with its byte 10 in front of a text is the first piece of the two, so that the text goes on where the line
 -- is taken.
-use mathlib.Core.Path.{_≡_, refl, ap, _∙_}
+use mathlib.Core.Path.{_≡_, ap, _∙_}
 use mathlib.Core.List.{List, [], _∷_, _++_, append-assoc}
-use Prim.Native.Nat.{ℕ, suc}
+use Prim.Native.Nat.{ℕ}
 use Rattle.sheet_words.specs.Words.{split, newline}
 use Rattle.sheet_words.proofs.Split.{Clear, some-piece, split-marked}
 use Rattle.sheet_reading.specs.Sheet.{Sheet}
-use Rattle.sheet_reading.specs.Steps.{Step, fault, next}
-use Rattle.sheet_reading.specs.declared.desk.Due.{Due}
-use Rattle.sheet_reading.specs.LineSteps.{sizeStep, step}
-use Rattle.sheet_reading.specs.Reading.{Meaning, refused, lines, firstLine}
+use Rattle.sheet_reading.proofs.OnePass.{sizeStep, step, lines, firstLine, after, lines-after, first-after}
+use Rattle.sheet_question.specs.declared.desk.Due.{Due}
 use Rattle.sheet_reading.specs.Grammar.{ended, InLine}
 
 -- to be in a line is to be clear of byte 10
@@ -21,28 +19,7 @@ pub line-clear : (s : List ℕ) → InLine s → Clear newline s
 line-clear [] h = tt
 line-clear (c ∷ s) h = (h .0, line-clear s (h .1))
 
--- what comes of a sheet after line L, from what that line does
-abbrev pub after : ℕ → List (List ℕ) → Step → Meaning
-after L pieces (fault r) = refused r L
-after L pieces (next d v) = lines (suc L) d v pieces
-
-pub lines-after : (L : ℕ) (due : Due) (v : Sheet) (line another : List ℕ) (more : List (List ℕ)) → lines L due v (line ∷ another ∷ more) ≡ after L (another ∷ more) (step L due v line)
-unfolding lines
-lines-after L due v line another more = by-step (step L due v line)
-  where
-    by-step : (st : Step) → (elim st [ fault r ↦ refused r L | next d s ↦ lines (suc L) d s (another ∷ more) ]) ≡ after L (another ∷ more) st
-    by-step (fault r) = refl
-    by-step (next d s) = refl
-
-pub first-after : (line another : List ℕ) (more : List (List ℕ)) → firstLine (line ∷ another ∷ more) ≡ after 1 (another ∷ more) (sizeStep line)
-unfolding firstLine
-first-after line another more = by-step (sizeStep line)
-  where
-    by-step : (st : Step) → (elim st [ fault r ↦ refused r 1 | next d s ↦ lines 2 d s (another ∷ more) ]) ≡ after 1 (another ∷ more) st
-    by-step (fault r) = refl
-    by-step (next d s) = refl
-
--- the same where the pieces are those of a text
+-- the pieces of a text after the line
 pub lines-on : (L : ℕ) (due : Due) (v : Sheet) (line rest : List ℕ) → lines L due v (line ∷ split newline rest) ≡ after L (split newline rest) (step L due v line)
 lines-on L due v line rest = some-piece newline (λ q. lines L due v (line ∷ q) ≡ after L q (step L due v line)) (lines-after L due v line) rest
 

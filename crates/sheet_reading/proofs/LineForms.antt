@@ -17,9 +17,8 @@ use Rattle.book_block.specs.declared.rule.Right.the-variants.{Look, Set}
 use Rattle.sheet_words.specs.Words.{space, begins, among}
 use Rattle.sheet_words.proofs.Split.{Clear}
 use Rattle.sheet_words.proofs.NameForms.{five, among-in, among-out}
-use Rattle.sheet_reading.specs.Sheet.{Rule}
-use Rattle.sheet_reading.specs.Rules.{isSetting, isPost, isRule, ruleOf}
-use Rattle.sheet_reading.specs.Forms.{isSize, digitAt}
+use Rattle.sheet_rules.specs.Rules.{Rule}
+use Rattle.sheet_rules.specs.Forms.{isSetting, isPost, isRule, ruleOf, isSize, digitAt}
 use Rattle.sheet_reading.specs.Grammar.{sizeText, word, ruleLine}
 
 -- ---- a first word, and bytes at fixed places

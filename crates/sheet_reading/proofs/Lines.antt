@@ -8,7 +8,8 @@ use lib.Seq.{length-take-le, take-at}
 use Rattle.ground.specs.Text.{bytes}
 use Rattle.sheet_words.specs.Words.{split, newline}
 use Rattle.sheet_words.proofs.Split.{AllClear, joined, joined-split, split-clear}
-use Rattle.sheet_reading.specs.Sheet.{Rule, Sheet}
+use Rattle.sheet_rules.specs.Rules.{Rule}
+use Rattle.sheet_reading.specs.Sheet.{Sheet}
 use Rattle.sheet_reading.specs.Grammar.{ended, ruleLine, ruleLines, teamLine, knownLine, makeLine, askLines, rulesText, askedText, sheetText}
 use Rattle.sheet_reading.specs.Place.{allEnded, firstLines}
 use Rattle.sheet_reading.specs.Faults.{size-line, right-line, ask-line, lineText, linesOf}

@@ -14,8 +14,8 @@ use Rattle.ground.proofs.Bools.{T→true, T→false, decide}
 use Rattle.sheet_words.specs.Words.{space, split, begins, allNames, indexes}
 use Rattle.sheet_words.proofs.Split.{marked, Clear, some-piece, marked-some, joined-split, split-joined}
 use Rattle.sheet_words.proofs.NameForms.{three}
-use Rattle.sheet_reading.specs.Sheet.{Known}
-use Rattle.sheet_reading.specs.Forms.{nameWords, isNames, isTeam, teamOf, isKnown, knownBy, knownOf}
+use Rattle.sheet_question.specs.Asked.{Known}
+use Rattle.sheet_question.specs.Forms.{nameWords, isNames, isTeam, teamOf, isKnown, knownBy, knownOf}
 use Rattle.sheet_reading.specs.Grammar.{postsText, teamLine, knownWord, knownsText, knownLine, PostsFit, KnownFit}
 use Rattle.sheet_reading.proofs.WordForms.{postWord, posts-text, posts-clear, posts-written, posts-read, knowns-text, word-clear, knowns-clear, knowns-written, knowns-read}
 use Rattle.sheet_reading.proofs.LineForms.{begins-written, there, clear-append}

@@ -1,7 +1,7 @@
 -- What is named twice, told by the names alone, is what the tests of a line find: by induction on the names, and on the rights that are stated.
 use mathlib.Core.Path.{_≡_, refl, sym, subst}
 use mathlib.Core.Logic.{_⊎_, inl, inr, ⊎-elim}
-use mathlib.Core.List.{List, [], _∷_, map}
+use mathlib.Core.List.{List, _∷_, map}
 use mathlib.Core.Bool.{Bool, false, _&&_, _||_}
 use Prim.Native.Nat.{ℕ}
 use native.Mathlib.Omega.{arith}
@@ -11,7 +11,7 @@ use Rattle.book_block.specs.declared.rule.Right.{Right}
 use Rattle.book_block.specs.declared.rule.Right.the-variants.{Look, Set}
 use Rattle.sheet_words.specs.Words.{twice}
 use Rattle.sheet_words.proofs.NameForms.{three}
-use Rattle.sheet_reading.specs.Sheet.{Rule, sameRight, concerns, isStated}
+use Rattle.sheet_rules.specs.Rules.{Rule, sameRight, concerns, isStated}
 use Rattle.sheet_reading.specs.Faults.{right-line, LineStates, StatedIn, OneOf, Repeats}
 
 -- ---- posts and settings

@@ -16,9 +16,11 @@ use Rattle.refusal.specs.declared.Refusal.the-variants.{Malformed, SheetLength}
 use Rattle.refusal.specs.Refusals.{number}
 use Rattle.sheet_words.specs.Words.{split, newline}
 use Rattle.sheet_words.proofs.Split.{joined, some-piece}
-use Rattle.sheet_reading.specs.Reading.{Meaning, refused, stated, firstLine, sheetMeaning}
+use Rattle.sheet_reading.specs.Reading.{Meaning, refused, stated, sheetMeaning}
+use Rattle.sheet_reading.proofs.OnePass.{firstLine}
 use Rattle.sheet_reading.specs.Grammar.{sheetText}
 use Rattle.sheet_reading.specs.Place.{BeginsSheet, IsSheet, allEnded, firstLines, Breaks, MalformedAt, at-line, at-end}
+use Rattle.sheet_reading.proofs.TwoParts.{sheet-meaning}
 use Rattle.sheet_reading.proofs.Lines.{ended-append, first-lines}
 use Rattle.sheet_reading.proofs.SoFar.{begins-less}
 use Rattle.sheet_reading.proofs.Taken.{taken-only-well-formed}
@@ -39,12 +41,10 @@ fewer-lines s K L h b =
 -- ---- a refusal is the first line's fault, or 24
 
 pub meaning-long : (s : List ℕ) → 32768 < length s → sheetMeaning s ≡ refused SheetLength 0
-unfolding sheetMeaning
-meaning-long s h = ap (λ (over : Bool). cond over (refused SheetLength 0) (firstLine (split newline s))) (T→true (ltb 32768 (length s)) (lt→ltb 32768 (length s) h))
+meaning-long s h = sheet-meaning s ∙ ap (λ (over : Bool). cond over (refused SheetLength 0) (firstLine (split newline s))) (T→true (ltb 32768 (length s)) (lt→ltb 32768 (length s) h))
 
 pub meaning-lines : (s : List ℕ) → length s ≤ 32768 → sheetMeaning s ≡ firstLine (split newline s)
-unfolding sheetMeaning
-meaning-lines s h = elim (decide (ltb 32768 (length s))) [
+meaning-lines s h = sheet-meaning s ∙ elim (decide (ltb 32768 (length s))) [
   | inl over ↦ absurd (omega (arith, h, ltb→lt 32768 (length s) over))
   | inr fits ↦ ap (λ (over : Bool). cond over (refused SheetLength 0) (firstLine (split newline s))) (T→false (ltb 32768 (length s)) fits)
 ]

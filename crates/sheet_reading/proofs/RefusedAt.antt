@@ -11,15 +11,15 @@ use Rattle.refusal.specs.declared.Refusal.the-variants.{Malformed}
 use Rattle.refusal.specs.Refusals.{number}
 use Rattle.sheet_words.specs.Words.{split, newline}
 use Rattle.sheet_words.proofs.Split.{AllClear, some-piece, split-clear}
-use Rattle.sheet_reading.specs.Sheet.{Sheet}
-use Rattle.sheet_reading.specs.Steps.{Step, fault, next, sized}
-use Rattle.sheet_reading.specs.declared.desk.Due.{Due}
-use Rattle.sheet_reading.specs.declared.desk.Due.the-variants.{Rights, Known, Make, Asks}
-use Rattle.sheet_reading.specs.LineSteps.{sizeStep, step}
-use Rattle.sheet_reading.specs.Reading.{Meaning, refused, stated, ending, lines, firstLine}
+use Rattle.sheet_words.specs.Steps.{fault, next}
+use Rattle.sheet_reading.specs.Sheet.{Sheet, sized}
+use Rattle.sheet_reading.specs.Reading.{Meaning, refused, stated}
+use Rattle.sheet_reading.proofs.OnePass.{SheetStep, sizeStep, step, ending, lines, firstLine, after, lines-after, first-after}
+use Rattle.sheet_question.specs.declared.desk.Due.{Due}
+use Rattle.sheet_question.specs.declared.desk.Due.the-variants.{Team, Known, Make, Asks}
 use Rattle.sheet_reading.specs.Grammar.{ended}
 use Rattle.sheet_reading.specs.Place.{BeginsSheet, allEnded}
-use Rattle.sheet_reading.proofs.LineByLine.{in-line, after, lines-after, first-after, lines-split, first-split}
+use Rattle.sheet_reading.proofs.LineByLine.{in-line, lines-split, first-split}
 use Rattle.sheet_reading.proofs.SoFar.{soFar, WellSoFar, begins-less, so-far-begins, Good}
 use Rattle.sheet_reading.proofs.GoodLines.{size-good, step-good}
 
@@ -53,7 +53,7 @@ module _ (before : List ℕ) (run : List ℕ → Meaning) (K : ℕ) (b : BeginsS
   }
 
   -- in a line, or after it
-  at-step : (line : List ℕ) (st : Step) (another : List ℕ) (more : List (List ℕ)) → Good K (before ++ ended line) st →
+  at-step : (line : List ℕ) (st : SheetStep) (another : List ℕ) (more : List (List ℕ)) → Good K (before ++ ended line) st →
       ((rest : List ℕ) → run (ended line ++ rest) ≡ after K (split newline rest) st) →
       ((d : Due) (u : Sheet) → WellSoFar d u →
       Placed (soFar d u) (another ∷ more) (λ s. lines (suc K) d u (split newline s)) (suc K) (lines (suc K) d u (another ∷ more))) →
@@ -67,7 +67,7 @@ module _ (before : List ℕ) (run : List ℕ → Meaning) (K : ℕ) (b : BeginsS
     formed = ⊎-elim inl (λ f. inr (f .0, omega arith, subst (λ (s : List ℕ). BeginsSheet (before ++ s)) (sym (append-nil (ended line))) (f .1))) g;
     same = λ l rest. ap (λ (s : List ℕ). run (s ++ rest)) (append-nil (ended line)) ∙ e rest;
   }
-  at-step line (next d u) another more g e f = onward (lines (suc K) d u (another ∷ more)) (f d u (g .0))
+  at-step line (next (d, u)) another more g e f = onward (lines (suc K) d u (another ∷ more)) (f d u (g .0))
     where
       onward : (o : Meaning) → Placed (soFar d u) (another ∷ more) (λ s. lines (suc K) d u (split newline s)) (suc K) o → Placed before (line ∷ another ∷ more) run K o
       onward (refused r L) a =
@@ -91,7 +91,7 @@ unfolding lines
 lines-placed [] rest K due v c h = by-due due v rest h
   where
     by-due : (due : Due) (v : Sheet) (rest : List ℕ) → WellSoFar due v → Placed (soFar due v) (rest ∷ []) (λ s. lines K due v (split newline s)) K (ending due v rest K)
-    by-due Rights v rest h = at-last (soFar Rights v) (λ s. lines K Rights v (split newline s)) K (so-far-begins Rights v h) rest
+    by-due Team v rest h = at-last (soFar Team v) (λ s. lines K Team v (split newline s)) K (so-far-begins Team v h) rest
     by-due Known v rest h = at-last (soFar Known v) (λ s. lines K Known v (split newline s)) K (so-far-begins Known v h) rest
     by-due Make v rest h = at-last (soFar Make v) (λ s. lines K Make v (split newline s)) K (so-far-begins Make v h) rest
     by-due Asks v [] h = tt
@@ -107,8 +107,8 @@ lines-placed (another ∷ more) line K due v c h =
 pub empty-begins : BeginsSheet []
 unfolding sized
 empty-begins =
-    begins-less [] (soFar Rights (sized 1 1))
-    (so-far-begins Rights (sized 1 1) ((record { settings-least = omega arith; settings-most = omega arith; posts-least = omega arith; posts-most = omega arith; rules = tt }, refl)))
+    begins-less [] (soFar Team (sized 1 1))
+    (so-far-begins Team (sized 1 1) ((record { settings-least = omega arith; settings-most = omega arith; posts-least = omega arith; posts-most = omega arith; rules = tt }, refl)))
 
 first-placed : (line : List ℕ) (more : List (List ℕ)) → AllClear newline (line ∷ more) → Placed [] (line ∷ more) (λ s. firstLine (split newline s)) 1 (firstLine (line ∷ more))
 unfolding firstLine

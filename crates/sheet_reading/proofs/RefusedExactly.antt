@@ -12,7 +12,8 @@ use Rattle.refusal.specs.Refusals.{number}
 use Rattle.sheet_words.specs.Words.{split, newline}
 use Rattle.sheet_words.proofs.Split.{joined}
 use Rattle.sheet_reading.specs.Sheet.{Sheet}
-use Rattle.sheet_reading.specs.Reading.{Meaning, refused, stated, firstLine, sheetMeaning}
+use Rattle.sheet_reading.specs.Reading.{Meaning, refused, stated, sheetMeaning}
+use Rattle.sheet_reading.proofs.OnePass.{firstLine}
 use Rattle.sheet_reading.specs.Grammar.{sheetText, WellFormed}
 use Rattle.sheet_reading.specs.Place.{BeginsSheet, allEnded, firstLines}
 use Rattle.sheet_reading.specs.Faults.{LineFault, FaultAt, RefusedSheet, too-long, malformed, at-fault}

@@ -15,15 +15,16 @@ use Rattle.refusal.specs.Refusals.{number}
 use Rattle.formula.specs.declared.Answer.{Answer}
 use Rattle.formula.specs.declared.Answer.the-variants.{Accepted, Refused}
 use Rattle.formula.specs.Computed.{formulaAnswer}
-use Rattle.sheet_reading.specs.Sheet.{Size, Rule, Sheet, teamAs, knownAs, askedAs}
-use Rattle.sheet_reading.specs.Steps.{Step, fault, next, unless, unlessAnswered, unlessRefused}
-use Rattle.sheet_reading.specs.declared.desk.Due.{Due}
-use Rattle.sheet_reading.specs.declared.desk.Due.the-variants.{Rights, Known, Make, Asks}
-use Rattle.sheet_reading.specs.LineSteps.{withMake}
-use Rattle.sheet_reading.specs.Grammar.{ended, sizeText, ruleLines, teamLine, knownLine, makeLine, askLines, rulesText, askedText, sheetText}
-use Rattle.sheet_reading.specs.Grammar.{InLine, RulesFit, PostsFit, KnownFit, AsksFit, WellRuled, WellAsked, WellFormed}
+use Rattle.sheet_words.specs.Steps.{fault, next, unless, unlessAnswered, unlessRefused}
+use Rattle.sheet_rules.proofs.FormulaLaws.{formula-number}
+use Rattle.sheet_question.specs.Asked.{teamAs, knownAs}
+use Rattle.sheet_reading.specs.Sheet.{Sheet}
+use Rattle.sheet_reading.proofs.OnePass.{SheetStep, askedAs, withMake}
+use Rattle.sheet_question.specs.declared.desk.Due.{Due}
+use Rattle.sheet_question.specs.declared.desk.Due.the-variants.{Team, Known, Make, Asks}
+use Rattle.sheet_reading.specs.Grammar.{ended, teamLine, knownLine, makeLine, askLines, rulesText, askedText, sheetText}
+use Rattle.sheet_reading.specs.Grammar.{InLine, PostsFit, KnownFit, AsksFit, WellRuled, WellFormed}
 use Rattle.sheet_reading.specs.Place.{BeginsSheet}
-use Rattle.sheet_reading.proofs.FormulaLaws.{formula-not-malformed}
 
 -- ---- the text of the lines so far, by what is due
 
@@ -37,7 +38,7 @@ unfoldable pub toKnown : Sheet → List ℕ
 toKnown v = toTeam v ++ ended (knownLine (v .asked .known))
 
 abbrev pub soFar : Due → Sheet → List ℕ
-soFar Rights v = toRights v
+soFar Team v = toRights v
 soFar Known v = toTeam v
 soFar Make v = toKnown v
 soFar Asks v = (toKnown v ++ ended (makeLine (v .asked .make))) ++ askLines (v .asked .asks)
@@ -52,7 +53,7 @@ abbrev pub Teamed : Sheet → Type 0
 Teamed v = Begun v × (1 ≤ length (v .asked .team)) × PostsFit (v .size .posts) (v .asked .team)
 
 abbrev pub WellSoFar : Due → Sheet → Type 0
-WellSoFar Rights v = Begun v
+WellSoFar Team v = Begun v
 WellSoFar Known v = Teamed v
 WellSoFar Make v = Teamed v × KnownFit (v .size .settings) (v .asked .known)
 WellSoFar Asks v = WellFormed v
@@ -97,14 +98,14 @@ known-begins v h =
     begins-less (toTeam v) (ended (knownLine []))
     (make-begins (askedAs v (knownAs (v .asked) [])) (h, tt))
 
-rights-begin : (v : Sheet) → WellSoFar Rights v → BeginsSheet (toRights v)
+rights-begin : (v : Sheet) → WellSoFar Team v → BeginsSheet (toRights v)
 unfolding toTeam toRights
 rights-begin v h =
     begins-less (toRights v) (ended (teamLine (0 ∷ [])))
     (known-begins (askedAs v (teamAs (v .asked) (0 ∷ []))) (h, omega arith, (h .0 .posts-least, tt)))
 
 pub so-far-begins : (due : Due) (v : Sheet) → WellSoFar due v → BeginsSheet (soFar due v)
-so-far-begins Rights v h = rights-begin v h
+so-far-begins Team v h = rights-begin v h
 so-far-begins Known v h = known-begins v h
 so-far-begins Make v h = make-begins v h
 so-far-begins Asks v h = asks-begin v h
@@ -116,28 +117,28 @@ abbrev pub GoodFault : ℕ → List ℕ → Refusal → Type 0
 GoodFault L s r = (r ≡ Malformed L) ⊎ ((number r ≡ 22 → ⊥) × BeginsSheet s)
 
 -- where the sheet goes on, s is the text so far, all of it well formed
-abbrev pub Good : ℕ → List ℕ → Step → Type 0
+abbrev pub Good : ℕ → List ℕ → SheetStep → Type 0
 Good L s (fault r) = GoodFault L s r
-Good L s (next d v) = WellSoFar d v × (soFar d v ≡ s)
+Good L s (next (d, v)) = WellSoFar d v × (soFar d v ≡ s)
 
 module _ (L : ℕ) (s : List ℕ) where
-  pub good-begins : (d : Due) (v : Sheet) → Good L s (next d v) → BeginsSheet s
+  pub good-begins : (d : Due) (v : Sheet) → Good L s (next (d, v)) → BeginsSheet s
   good-begins d v g = subst BeginsSheet (g .1) (so-far-begins d v (g .0))
 
   -- the line's form
-  pub good-form : (b : Bool) (later : Step) → (T b → Good L s later) → Good L s (unless b (Malformed L) later)
+  pub good-form : (b : Bool) (later : SheetStep) → (T b → Good L s later) → Good L s (unless b (Malformed L) later)
   good-form true later h = h tt
   good-form false later h = inl refl
 
   -- and its other faults
-  pub good-unless : (b : Bool) (r : Refusal) (later : Step) → (number r ≡ 22 → ⊥) → BeginsSheet s → Good L s later → Good L s (unless b r later)
+  pub good-unless : (b : Bool) (r : Refusal) (later : SheetStep) → (number r ≡ 22 → ⊥) → BeginsSheet s → Good L s later → Good L s (unless b r later)
   good-unless true r later o f h = h
   good-unless false r later o f h = inr (o, f)
 
-  pub good-refused : (n : ℕ) (F : List ℕ) (d : Due) (v : Sheet) → Good L s (next d v) → Good L s (unlessRefused n F (next d v))
+  pub good-refused : (n : ℕ) (F : List ℕ) (d : Due) (v : Sheet) → Good L s (next (d, v)) → Good L s (unlessRefused n F (next (d, v)))
   unfolding unlessRefused
-  good-refused n F d v g = by-answer (formulaAnswer n F) (formula-not-malformed n F)
+  good-refused n F d v g = by-answer (formulaAnswer n F) (λ r e z. omega (arith, formula-number n F r e, z))
     where
-      by-answer : (a : Answer) → ((r : Refusal) → a ≡ Refused r → number r ≡ 22 → ⊥) → Good L s (unlessAnswered a (next d v))
+      by-answer : (a : Answer) → ((r : Refusal) → a ≡ Refused r → number r ≡ 22 → ⊥) → Good L s (unlessAnswered a (next (d, v)))
       by-answer Accepted o = g
       by-answer (Refused r) o = inr (o r refl, good-begins d v g)

@@ -9,15 +9,16 @@ use lib.ListN.{length}
 use Rattle.refusal.specs.declared.Refusal.the-variants.{SheetLength}
 use Rattle.sheet_words.specs.Words.{split, newline}
 use Rattle.sheet_words.proofs.Split.{joined, AllClear, joined-split, split-clear}
+use Rattle.sheet_words.specs.Steps.{fault, next}
 use Rattle.sheet_reading.specs.Sheet.{Sheet}
-use Rattle.sheet_reading.specs.Steps.{Step, fault, next}
-use Rattle.sheet_reading.specs.declared.desk.Due.{Due}
-use Rattle.sheet_reading.specs.declared.desk.Due.the-variants.{Rights, Known, Make, Asks}
-use Rattle.sheet_reading.specs.LineSteps.{sizeStep, step}
-use Rattle.sheet_reading.specs.Reading.{Meaning, refused, stated, ending, lines, firstLine, sheetMeaning}
+use Rattle.sheet_reading.specs.Reading.{Meaning, refused, stated, sheetMeaning}
+use Rattle.sheet_reading.proofs.OnePass.{SheetStep, sizeStep, step, ending, lines, firstLine, after, lines-after, first-after}
+use Rattle.sheet_question.specs.declared.desk.Due.{Due}
+use Rattle.sheet_question.specs.declared.desk.Due.the-variants.{Team, Known, Make, Asks}
 use Rattle.sheet_reading.specs.Grammar.{ended, sheetText, WellFormed}
 use Rattle.sheet_reading.specs.Place.{IsSheet}
-use Rattle.sheet_reading.proofs.LineByLine.{in-line, after, lines-after, first-after}
+use Rattle.sheet_reading.proofs.TwoParts.{sheet-meaning}
+use Rattle.sheet_reading.proofs.LineByLine.{in-line}
 use Rattle.sheet_reading.proofs.SoFar.{soFar, WellSoFar, whole, Good}
 use Rattle.sheet_reading.proofs.GoodLines.{size-good, step-good}
 
@@ -28,7 +29,7 @@ Written s (stated w) = WellFormed w × (sheetText w ≡ s)
 
 -- after the last byte 10
 ending-written : (due : Due) (v : Sheet) (rest : List ℕ) (L : ℕ) → WellSoFar due v → Written (soFar due v ++ rest) (ending due v rest L)
-ending-written Rights v rest L h = tt
+ending-written Team v rest L h = tt
 ending-written Known v rest L h = tt
 ending-written Make v rest L h = tt
 ending-written Asks v [] L h = (h, whole v ∙ sym (append-nil (soFar Asks v)))
@@ -39,11 +40,11 @@ regroup : (s line rest : List ℕ) → (s ++ ended line) ++ rest ≡ s ++ (line 
 unfolding ended
 regroup s line rest = simp append-assoc
 
-after-written : (s : List ℕ) (st : Step) (L : ℕ) (pieces : List (List ℕ)) → Good L s st →
+after-written : (s : List ℕ) (st : SheetStep) (L : ℕ) (pieces : List (List ℕ)) → Good L s st →
     ((d : Due) (v : Sheet) → WellSoFar d v → Written (soFar d v ++ joined newline pieces) (lines (suc L) d v pieces)) →
     Written (s ++ joined newline pieces) (after L pieces st)
 after-written s (fault r) L pieces g f = tt
-after-written s (next d v) L pieces g f = subst (λ (x : List ℕ). Written (x ++ joined newline pieces) (lines (suc L) d v pieces)) (g .1) (f d v (g .0))
+after-written s (next (d, v)) L pieces g f = subst (λ (x : List ℕ). Written (x ++ joined newline pieces) (lines (suc L) d v pieces)) (g .1) (f d v (g .0))
 
 lines-written : (pieces : List (List ℕ)) (L : ℕ) (due : Due) (v : Sheet) → AllClear newline pieces → WellSoFar due v → Written (soFar due v ++ joined newline pieces) (lines L due v pieces)
 unfolding lines
@@ -64,8 +65,7 @@ first-written (line ∷ another ∷ more) c =
     (after-written (ended line) (sizeStep line) 1 (another ∷ more) (size-good line) (λ d u k. lines-written (another ∷ more) 2 d u (c .1) k))
 
 meaning-written : (s : List ℕ) → Written s (sheetMeaning s)
-unfolding sheetMeaning
-meaning-written s = by-length (ltb 32768 (length s))
+meaning-written s = subst (Written s) (sym (sheet-meaning s)) (by-length (ltb 32768 (length s)))
   where
     by-length : (over : Bool) → Written s (cond over (refused SheetLength 0) (firstLine (split newline s)))
     by-length true = tt

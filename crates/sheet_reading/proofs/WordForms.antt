@@ -12,8 +12,8 @@ use Rattle.ground.proofs.Bools.{T→true, T→false, and-in, and-left, and-righ
 use Rattle.sheet_words.specs.Words.{space, among, isFalse, bare, isName, allNames, indexOf, indexes}
 use Rattle.sheet_words.proofs.Split.{marked, Clear, AllClear}
 use Rattle.sheet_words.proofs.NameForms.{three, among-in, bare-word, unsigned, signed, plain}
-use Rattle.sheet_reading.specs.Sheet.{Known}
-use Rattle.sheet_reading.specs.Forms.{knownBy}
+use Rattle.sheet_question.specs.Asked.{Known}
+use Rattle.sheet_question.specs.Forms.{knownBy}
 use Rattle.sheet_reading.specs.Grammar.{postsText, knownWord, knownsText, PostsFit, KnownFit}
 
 -- ---- the words of the line `team`

@@ -11,7 +11,9 @@ use Rattle.refusal.specs.declared.Refusal.the-variants.{Malformed, Twice, Sheet
 use Rattle.refusal.specs.Order.{First}
 use Rattle.formula.specs.Read.{formulaRows}
 use Rattle.sheet_words.specs.Words.{split, newline}
-use Rattle.sheet_reading.specs.Sheet.{Size, Rule, Known, Sheet, knownSettings}
+use Rattle.sheet_rules.specs.Rules.{Size, Rule}
+use Rattle.sheet_question.specs.Asked.{Known, knownSettings}
+use Rattle.sheet_reading.specs.Sheet.{Sheet}
 use Rattle.sheet_reading.specs.Grammar.{sizeText, ruleLine, teamLine, knownLine, makeLine}
 use Rattle.sheet_reading.specs.Place.{BeginsSheet, firstLines, MalformedAt}
 

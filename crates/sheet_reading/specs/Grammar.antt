@@ -9,7 +9,9 @@ use Rattle.ground.specs.Text.{byte, bytes}
 use Rattle.book_block.specs.declared.rule.Right.{Right}
 use Rattle.book_block.specs.declared.rule.Right.the-variants.{Look, Set}
 use Rattle.sheet_words.specs.Words.{newline, space}
-use Rattle.sheet_reading.specs.Sheet.{Size, Rule, Known, Asked, Sheet}
+use Rattle.sheet_rules.specs.Rules.{Size, Rule}
+use Rattle.sheet_question.specs.Asked.{Known, Asked}
+use Rattle.sheet_reading.specs.Sheet.{Sheet}
 
 -- "Lines [..] end in byte 10"
 unfoldable pub ended : List ℕ → List ℕ

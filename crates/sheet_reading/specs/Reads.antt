@@ -1,8 +1,8 @@
 -- What is read of a sheet, with the desk beside it.
 use mathlib.Core.Path.{_≡_}
-use Rattle.sheet_reading.specs.Steps.{sized}
+use Rattle.sheet_reading.specs.Sheet.{sized}
 use Rattle.sheet_reading.specs.Desk.{OnDesk}
-use Rattle.sheet_reading.specs.declared.desk.Desk.{Desk}
+use Rattle.sheet_reading.specs.declared.Desk.{Desk}
 use Rattle.sheet_reading.specs.Reading.{Meaning, refused, stated}
 use Rattle.sheet_reading.specs.declared.SheetTold.{SheetTold}
 use Rattle.sheet_reading.specs.declared.SheetTold.the-variants.{Stated, Refused}

@@ -1,17 +1,10 @@
--- `read` meets its contract: the length, the size, and the lines after it.
-use mathlib.Core.Path.{sym, subst}
-use Prim.Native.Nat.{ℕ}
-use native.Mathlib.Numerals.{add-one}
+-- `read` meets its contract: the length, the rules, and the question from the byte where they end.
+use mathlib.Core.Bool.{false}
 use native.Mathlib.Omega.{arith}
-use lib.ListN.{take, drop}
-use lib.Seq.{length-take-le}
-use Rattle.refusal.specs.declared.Refusal.the-variants.{Malformed, SheetLength}
-use Rattle.sheet_words.specs.Words.{split, newline}
-use Rattle.sheet_words.proofs.Pieces.{piece-is}
-use Rattle.sheet_reading.specs.LineSteps.{sizeStep}
-use Rattle.sheet_reading.specs.Reading.{Meaning, lines}
-use Rattle.sheet_reading.specs.Reads.{ReadsSheet}
-use Rattle.sheet_reading.proofs.ReadLaws.{faulted-by, went-on-by, refused-is, too-long, no-line, size-faults, size-goes-on}
+use Rattle.refusal.specs.declared.Refusal.the-variants.{SheetLength}
+use Rattle.sheet_rules.specs.Reading.{rulesOf}
+use Rattle.sheet_rules.proofs.MeaningLaws.{refused-by, upto-by}
+use Rattle.sheet_reading.proofs.ReadLaws.{too-long, rules-at-fault, rules-fit, sheet-stated, question-at-fault, refused-is}
 use borrow.Author.Needs.{needs}
 use Rattle.sheet_reading.proofs.read.Statement.{statement}
 use Rattle.sheet_reading.proofs.read.Tie as tie
@@ -23,99 +16,100 @@ returns : tie.Need-returns
 returns c =
     let start : tie.Start = search in
     let yes1 : tie.Then1 = search in
-    let s = start .args .sheet .now in
-    refused-is (c .refused .result .desk) SheetLength 0 (too-long s (yes1 .if1 .taken)) (c .refused .ensures)
+    refused-is (c .refused .result .desk) SheetLength 0 (too-long (start .args .sheet .now) (yes1 .if1 .taken)) (c .refused .ensures)
 
-piece-end-requires : tie.Need-piece-end-requires
-piece-end-requires c κs = search needs
+cast-rules-of : tie.Need-cast-rules-of
+cast-rules-of c = search needs
+
+rules-of-requires : tie.Need-rules-of-requires
+rules-of-requires c κs = search needs
+
+enum-known-ruled : tie.Need-enum-known-ruled
+enum-known-ruled c = search needs
 
 refused-requires-2 : tie.Need-refused-requires-2
 refused-requires-2 c κs = search needs
 
-returns-2 : tie.Need-returns-2
-returns-2 c =
+enum-known-ruled-2 : tie.Need-enum-known-ruled-2
+enum-known-ruled-2 c = search needs
+
+sub-question-of : tie.Need-sub-question-of
+sub-question-of c =
     let start : tie.Start = search in
-    let piece-end-point : tie.After-piece-end = search in
+    let rules-point : tie.After-rules-of = search in
+    let ruled-point : tie.After-ruled2 = search in
+    let s = start .args .sheet .now in
+    let first = rules-point .rules-of in
+    upto-by s (rulesOf false 5 s) (first .result .desk) (ruled-point .ruled2 .given .1) (first .ensures) .fits
+
+part-question-of-start : tie.Need-part-question-of-start
+part-question-of-start c = sub-question-of c
+
+part-question-of-end : tie.Need-part-question-of-end
+part-question-of-end c = search needs
+
+cast-question-of : tie.Need-cast-question-of
+cast-question-of c =
+    let start : tie.Start = search in
     let no1 : tie.Else1 = search in
-    let yes2 : tie.Then2 = search in
+    let rules-point : tie.After-rules-of = search in
+    let ruled-point : tie.After-ruled2 = search in
     let s = start .args .sheet .now in
-    let end = piece-end-point .piece-end in
-    let p = piece-is s 0 newline (end .result) (omega arith) (end .ensures) in
-    refused-is (c .refused2 .result .desk) (Malformed 1) 1 (no-line s (no1 .if1 .left) (end .result) p (yes2 .if2 .taken)) (c .refused2 .ensures)
+    let first = rules-point .rules-of in
+    let e = upto-by s (rulesOf false 5 s) (first .result .desk) (ruled-point .ruled2 .given .1) (first .ensures) in
+    let z = rules-fit s (no1 .if1 .left) e in
+    record { fits = omega (arith, z .0, z .1) }
 
-slice-aggregate-size-line : tie.Need-slice-aggregate-size-line
-slice-aggregate-size-line c =
-    let start : tie.Start = search in
-    let piece-end-point : tie.After-piece-end = search in
-    let s = start .args .sheet .now in
-    let end = piece-end-point .piece-end in
-    let p = piece-is s 0 newline (end .result) (omega arith) (end .ensures) in
-    sym (length-take-le (end .result) s (p .within))
+question-of-requires : tie.Need-question-of-requires
+question-of-requires c κs = search needs
 
-size-line-requires : tie.Need-size-line-requires
-size-line-requires c κs = search needs
-
-enum-known-taken : tie.Need-enum-known-taken
-enum-known-taken c = search needs
+enum-known-told : tie.Need-enum-known-told
+enum-known-told c = search needs
 
 refused-requires-3 : tie.Need-refused-requires-3
 refused-requires-3 c κs = search needs
 
-enum-known-taken-2 : tie.Need-enum-known-taken-2
-enum-known-taken-2 c = search needs
+enum-told : tie.Need-enum-told
+enum-told c = search needs
 
-add-rest : tie.Need-add-rest
-add-rest c = search needs
-
-rest-requires : tie.Need-rest-requires
-rest-requires c κs =
+returns-2 : tie.Need-returns-2
+returns-2 c =
     let start : tie.Start = search in
-    let piece-end-point : tie.After-piece-end = search in
-    let size-line-point : tie.After-size-line = search in
-    let taken2-point : tie.After-taken2 = search in
-    let no2 : tie.Else2 = search in
     let no1 : tie.Else1 = search in
+    let rules-point : tie.After-rules-of = search in
+    let ruled-point : tie.After-ruled = search in
     let s = start .args .sheet .now in
-    let end = piece-end-point .piece-end in
-    let p = piece-is s 0 newline (end .result) (omega arith) (end .ensures) in
-    let turn = size-line-point .size-line in
-    let w = went-on-by (sizeStep (take (end .result) s)) (turn .result .desk) (taken2-point .taken2 .given .1) (turn .ensures) in
-    ((w .0, w .2), omega (arith, no2 .if2 .left), omega arith, no1 .if1 .left)
+    let first = rules-point .rules-of in
+    let ruled = ruled-point .ruled .given in
+    refused-is (c .refused2 .result .desk) _ _ (rules-at-fault s (no1 .if1 .left) (refused-by s (rulesOf false 5 s) (first .result .desk) (ruled .1) (first .ensures))) (c .refused2 .ensures)
 
 returns-3 : tie.Need-returns-3
 returns-3 c =
     let start : tie.Start = search in
-    let piece-end-point : tie.After-piece-end = search in
-    let size-line-point : tie.After-size-line = search in
-    let taken-point : tie.After-taken = search in
     let no1 : tie.Else1 = search in
-    let no2 : tie.Else2 = search in
+    let rules-point : tie.After-rules-of = search in
+    let ruled-point : tie.After-ruled2 = search in
+    let question-point : tie.After-question-of = search in
+    let told-point : tie.After-told = search in
     let s = start .args .sheet .now in
-    let end = piece-end-point .piece-end in
-    let p = piece-is s 0 newline (end .result) (omega arith) (end .ensures) in
-    let turn = size-line-point .size-line in
-    let why = taken-point .taken .given in
-    let w = faulted-by (sizeStep (take (end .result) s)) (turn .result .desk) (why .1) (turn .ensures) in
-    refused-is (c .refused3 .result .desk) (why .0 .0) 1 (size-faults s (no1 .if1 .left) (end .result) p (no2 .if2 .left) w) (c .refused3 .ensures)
+    let first = rules-point .rules-of in
+    let second = question-point .question-of in
+    let e = upto-by s (rulesOf false 5 s) (first .result .desk) (ruled-point .ruled2 .given .1) (first .ensures) in
+    refused-is (c .refused3 .result .desk) _ _ (question-at-fault s (no1 .if1 .left) e (second .result .told) (second .result .desk) (told-point .told .given .1) (second .ensures)) (c .refused3 .ensures)
 
 returns-4 : tie.Need-returns-4
 returns-4 c =
     let start : tie.Start = search in
-    let piece-end-point : tie.After-piece-end = search in
-    let size-line-point : tie.After-size-line = search in
-    let taken2-point : tie.After-taken2 = search in
     let no1 : tie.Else1 = search in
-    let no2 : tie.Else2 = search in
+    let rules-point : tie.After-rules-of = search in
+    let ruled-point : tie.After-ruled2 = search in
+    let question-point : tie.After-question-of = search in
+    let told-point : tie.After-enum-told = search in
     let s = start .args .sheet .now in
-    let end = piece-end-point .piece-end in
-    let p = piece-is s 0 newline (end .result) (omega arith) (end .ensures) in
-    let turn = size-line-point .size-line in
-    let due = taken2-point .taken2 .given in
-    let w = went-on-by (sizeStep (take (end .result) s)) (turn .result .desk) (due .1) (turn .ensures) in
-    let told = c .rest .result .told in
-    let desk = c .rest .result .desk in
-    subst (λ (o : Meaning). ReadsSheet o told desk) (sym (size-goes-on s (no1 .if1 .left) (end .result) p (no2 .if2 .left) (w .1)))
-    (subst (λ (k : ℕ). ReadsSheet (lines 2 (due .0 .0) (w .0) (split newline (drop k s))) told desk) (add-one (end .result)) (c .rest .ensures (w .0) (w .2)))
+    let first = rules-point .rules-of in
+    let second = question-point .question-of in
+    let e = upto-by s (rulesOf false 5 s) (first .result .desk) (ruled-point .ruled2 .given .1) (first .ensures) in
+    sheet-stated s (no1 .if1 .left) e (second .result .told) (second .result .desk) (told-point .enum-told .given .1) (second .ensures)
 
 pub read-spec : {M : Type 1} → statement M
 read-spec =
@@ -123,15 +117,19 @@ read-spec =
     (tie.spec
     refused-requires
     returns
-    piece-end-requires
+    cast-rules-of
+    rules-of-requires
+    enum-known-ruled
     refused-requires-2
-    returns-2
-    slice-aggregate-size-line
-    size-line-requires
-    enum-known-taken
+    enum-known-ruled-2
+    sub-question-of
+    part-question-of-start
+    part-question-of-end
+    cast-question-of
+    question-of-requires
+    enum-known-told
     refused-requires-3
-    enum-known-taken-2
-    add-rest
-    rest-requires
+    enum-told
+    returns-2
     returns-3
     returns-4)
