@@ -20,13 +20,17 @@ use Rattle.print_room.specs.Decimal.{decimal}
 use Rattle.print_answer.specs.Printed.{refusedText, reachText, cannotText, fitted}
 use Rattle.sheet_words.specs.Words.{onto, split, begins, among, isFalse, bare, isName, allNames, indexOf, indexes, twice}
 use Rattle.sheet_words.specs.Steps.{unlessRefused}
-use Rattle.sheet_rules.specs.Rules.{sameRight, concerns, isStated}
-use Rattle.sheet_rules.specs.Forms.{isSetting, isPost, isRule, ruleOf, isSize, digitAt}
+use Rattle.sheet_rules.specs.Rules.{sameRight, concerns, isStated, withRule}
+use Rattle.sheet_rules.specs.Forms.{isSetting, isPost, isRule, ruleOf, isOfRules, isSize, digitAt}
+use Rattle.sheet_rules.specs.Steps.{sizeStep, ruleStep}
+use Rattle.sheet_rules.specs.Steps.{lineStep as rulesLine}
+use Rattle.sheet_rules.specs.Reading.{rulesFrom, sizeFrom, rulesRead}
 use Rattle.sheet_question.specs.Asked.{knownSettings}
 use Rattle.sheet_question.specs.Forms.{nameWords, isNames, isTeam, teamOf, isKnown, knownBy, knownOf}
-use Rattle.sheet_reading.specs.Sheet.{Sheet, sized}
+use Rattle.sheet_question.specs.LineSteps.{withTeam, withKnown, withMake, withAsk, teamStep, knownStep, makeStep, askStep, lineStep}
+use Rattle.sheet_question.specs.Question.{askedFrom}
+use Rattle.sheet_reading.specs.Sheet.{Sheet}
 use Rattle.sheet_reading.specs.Reading.{Meaning, refused, stated, sheetMeaning}
-use Rattle.sheet_reading.proofs.OnePass.{withRule, ruleStep, withTeam, withKnown, withMake, withAsk, sizeStep, teamStep, knownStep, makeStep, askStep, rightsStep, lines, firstLine}
 use Rattle.marked.specs.Row.{Row, reads, refuses, sums, reaches, faults, prints, sheet-reaches, sheet-cannot, RowHolds, Of, Reaches, NoneReaches}
 use Rattle.marked.proofs.Tests.{every, pick, same, same-out}
 use Rattle.marked.proofs.FormulaRows.{reads-so, row-reads, refuses-so, row-refuses}
@@ -81,8 +85,8 @@ unfoldable pub decided : Row → Bool
 unfolding every same reads-so refuses-so formed asks-so search-in shows catches byteOf actOf decimal checkOf sumsAfter added
     isLetter isSign isStray isPast isAtom step verdict sentenceAnswer foreignAnswer formulaAnswer sameRight concerns isStated
     knownSettings onto split begins among isSetting isPost isSize digitAt isRule ruleOf isFalse bare isName allNames indexOf indexes
-    nameWords isNames isTeam teamOf isKnown knownBy knownOf twice unlessRefused sized withRule withTeam withKnown withMake withAsk sizeStep
-    ruleStep teamStep knownStep makeStep askStep rightsStep lines firstLine sheetMeaning
+    nameWords isNames isTeam teamOf isKnown knownBy knownOf twice unlessRefused isOfRules withRule sizeStep ruleStep rulesLine rulesFrom sizeFrom
+    rulesRead withTeam withKnown withMake withAsk teamStep knownStep makeStep askStep lineStep askedFrom sheetMeaning
 decided (reads n s byte) = reads-so n s byte
 decided (refuses n s x p) = refuses-so n s x p
 decided (sums block s t) = two (checkOf (drop 0 block)) s t
