@@ -58,7 +58,7 @@ cast-question-of c =
     let first = rules-point .rules-of in
     let e = upto-by s (rulesOf false 5 s) (first .result .desk) (ruled-point .ruled2 .given .1) (first .ensures) in
     let z = rules-fit s (no1 .if1 .left) e in
-    record { fits = omega (arith, z .0, z .1) }
+    record { fits = omega (arith, z .0, z .1, e .fits) }
 
 question-of-requires : tie.Need-question-of-requires
 question-of-requires c κs = search needs
