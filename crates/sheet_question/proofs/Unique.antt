@@ -1,4 +1,5 @@
--- The contract of `question_of` settles all that it gives. One desk alone holds what is asked: byte by byte and bit by bit.
+-- The contract of `question_of` settles all that it gives; and that of a line what it gives, but for the desk beside a fault. One desk alone holds what is
+-- asked: byte by byte and bit by bit.
 use mathlib.Core.Path.{_≡_, refl, sym, ap, ap₂, _∙_, subst}
 use mathlib.Core.Logic.{inl, inr}
 use mathlib.Core.List.{List, [], _∷_, _++_}
@@ -10,11 +11,16 @@ use Rattle.ground.proofs.Bools.{lt-or-ge}
 use Rattle.formula.specs.Read.{Accepts}
 use Rattle.formula.specs.declared.Answer.the-variants.{Accepted}
 use Rattle.formula.proofs.Unique.{read-unique}
+use Rattle.sheet_words.specs.Steps.{fault, next}
 use Rattle.sheet_words.proofs.Unique.{mask-one}
 use Rattle.sheet_question.specs.Asked.{Asked, nothingAsked}
-use Rattle.sheet_question.specs.Desk.{TablesOf, AskedOnDesk}
+use Rattle.sheet_question.specs.Desk.{TablesOf, AskedOnDesk, Steps}
+use Rattle.sheet_question.specs.LineSteps.{AskedStep}
 use Rattle.sheet_question.specs.Places.{askedLaid}
 use Rattle.sheet_question.specs.declared.desk.AskedDesk.{AskedDesk}
+use Rattle.sheet_question.specs.declared.desk.Due.{Due}
+use Rattle.sheet_question.specs.declared.desk.Taken.{Taken}
+use Rattle.sheet_question.specs.declared.desk.Taken.the-variants.{Next, No}
 use Rattle.sheet_question.specs.Question.{QuestionMeaning, refused, asked}
 use Rattle.sheet_question.specs.Reads.{ReadsQuestion}
 use Rattle.sheet_question.specs.declared.QuestionTold.{QuestionTold}
@@ -54,6 +60,13 @@ module _ (n : ℕ) (asked : Asked) (a b : AskedDesk) (h : AskedOnDesk n asked a)
       let l : a .learn ≡ b .learn = same-learn in
       let e : askedLaid (a .team) (a .known) (a .values) (a .make) (a .asks) (a .learn) ≡ askedLaid (b .team) (b .known) (b .values) (b .make) (b .asks) (b .learn) = cc in
       e
+
+-- ---- what comes of a line
+
+-- one thing alone, but for the desk beside a fault, which says nothing
+pub turn-one : (n : ℕ) (st : AskedStep) (x y : Taken) (a b : AskedDesk) → Steps n st x a → Steps n st y b → (x ≡ y) × ((due : Due) → x ≡ Next due → a ≡ b)
+turn-one n (fault r) (No why) (No else) a b e f = (ap No (e ∙ sym f), λ due z. (let y : _≡_ {A = ℕ} 0 1 = cc in absurd (omega arith)))
+turn-one n (next (due, v)) (Next d) (Next c) a b (e, h) (f, k) = (ap Next (e ∙ sym f), λ x z. asked-one n v a b h k)
 
 -- ---- what is read
 

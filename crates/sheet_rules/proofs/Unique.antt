@@ -1,5 +1,6 @@
--- The contracts of `rules_of` and `read_rules` settle all that they give, the desk included. One desk alone holds what rules state: byte by byte. The
--- byte where rules end is settled by what is left of the text, since joining undoes splitting.
+-- The contracts of `rules_of` and `read_rules` settle all that they give, the desk included; and that of a line what it gives, but for the desk beside a
+-- fault. One desk alone holds what rules state: byte by byte. The byte where rules end is settled by what is left of the text, since joining undoes
+-- splitting.
 use mathlib.Core.Path.{_≡_, refl, sym, ap, ap₂, _∙_, subst}
 use mathlib.Core.Logic.{inl, inr}
 use mathlib.Core.Bool.{Bool, true, false}
@@ -17,15 +18,18 @@ use Rattle.book_block.specs.Rule.{tablePlace}
 use Rattle.book_block.specs.declared.rule.Right.{Right}
 use Rattle.book_block.specs.declared.rule.Right.the-variants.{Look, Set}
 use Rattle.sheet_words.specs.Words.{split, newline}
+use Rattle.sheet_words.specs.Steps.{Step, fault, next}
 use Rattle.sheet_words.proofs.Split.{joined, joined-split}
-use Rattle.sheet_rules.specs.Rules.{Size, Rule, sizeOf, ruleText}
+use Rattle.sheet_rules.specs.Rules.{Size, Rule, Rules, sizeOf, ruleText}
 use Rattle.sheet_rules.specs.Desk.{slotOf, tableIn, Filled, inSize, RulesOnDesk}
-use Rattle.sheet_rules.specs.Turns.{rulesLaid}
+use Rattle.sheet_rules.specs.Turns.{rulesLaid, Turns}
 use Rattle.sheet_rules.specs.Reading.{Reading, refused, upTo}
 use Rattle.sheet_rules.specs.Meaning.{Meaning, stated}
 use Rattle.sheet_rules.specs.Meaning.{refused as whole-refused}
 use Rattle.sheet_rules.specs.Reads.{ReadsUpto, ReadsRules}
 use Rattle.sheet_rules.specs.declared.desk.RulesDesk.{RulesDesk}
+use Rattle.sheet_rules.specs.declared.desk.Taken.{Taken}
+use Rattle.sheet_rules.specs.declared.desk.Taken.the-variants.{Next, No}
 use Rattle.sheet_rules.specs.declared.RulesTold.{RulesTold}
 use Rattle.sheet_rules.specs.declared.RulesTold.the-variants.{Upto, Refused}
 use Rattle.sheet_rules.specs.declared.WholeTold.{WholeTold}
@@ -86,6 +90,13 @@ module _ (size : Size) (rules : List Rule) (a b : RulesDesk) (h : RulesOnDesk si
       let s : a .stated ≡ b .stated = same-marks in
       let e : rulesLaid (a .settings) (a .posts) (a .rights) (a .stated) ≡ rulesLaid (b .settings) (b .posts) (b .rights) (b .stated) = cc in
       e
+
+-- ---- what comes of a line
+
+-- one thing alone, but for the desk beside a fault, which says nothing
+pub turn-one : (st : Step Rules) (x y : Taken) (a b : RulesDesk) → Turns st x a → Turns st y b → (x ≡ y) × (x ≡ Next → a ≡ b)
+turn-one (fault r) (No why) (No else) a b e f = (ap No (e ∙ sym f), λ z. (let y : _≡_ {A = ℕ} 0 1 = cc in absurd (omega arith)))
+turn-one (next v) Next Next a b h k = (refl, λ z. rules-one (v .size) (v .rules) a b h k)
 
 -- ---- the byte where rules end
 
