@@ -5,3 +5,4 @@ pub mod Formula
 pub mod Book
 pub mod Find
 pub mod Check
+pub mod Texts

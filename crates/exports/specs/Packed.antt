@@ -8,6 +8,10 @@ use Rattle.refusal.specs.Refusals.{number, place, second}
 unfoldable pub packed : Refusal → ℕ
 packed r = second r * 2 ^ 40 + number r * 2 ^ 32 + place r % 2 ^ 32
 
+-- a refusal of a text, with the line in the place of its own
+unfoldable pub packedAt : Refusal → ℕ → ℕ
+packedAt r line = second r * 2 ^ 40 + number r * 2 ^ 32 + line % 2 ^ 32
+
 -- the lower half of a result, and of its upper half the low byte and what is above it
 abbrev pub lower : ℕ → ℕ
 lower result = result % 2 ^ 32

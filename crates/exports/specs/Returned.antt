@@ -10,7 +10,9 @@ use Rattle.finder.specs.declared.answer.Answer.{Answer}
 use Rattle.finder.specs.declared.answer.Answer.the-variants.{Reach, Cannot, Refused}
 use Rattle.plancheck.specs.declared.answer.CheckAnswer.{CheckAnswer}
 use Rattle.plancheck.specs.declared.answer.CheckAnswer.the-variants.{Yes, Refused as NotAccepted}
-use Rattle.exports.specs.Packed.{packed}
+use Rattle.sheet_book.specs.declared.MakeAnswer.{MakeAnswer}
+use Rattle.sheet_book.specs.declared.MakeAnswer.the-variants.{Made, Refused as NotMade}
+use Rattle.exports.specs.Packed.{packed, packedAt}
 
 -- `pj_formula_read`: 0, or the refusal as one number
 abbrev pub formulaReturned : FormulaAnswer → ℕ
@@ -37,3 +39,8 @@ findReturned (Refused r) = packed r
 abbrev pub checkReturned : CheckAnswer → ℕ
 checkReturned Yes = 0
 checkReturned (NotAccepted r) = packed r
+
+-- `pj_rules`: the book's length, or the refusal as one number, with the line of the text
+abbrev pub rulesReturned : MakeAnswer → ℕ
+rulesReturned (Made size) = size
+rulesReturned (NotMade r line) = packedAt r line

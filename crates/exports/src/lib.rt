@@ -8,14 +8,18 @@ ghost use Rattle.exports.specs.Formula.{FormulaRead};
 ghost use Rattle.exports.specs.Find.{asked, PlanFound};
 ghost use Rattle.exports.specs.Check.{PlanChecked};
 ghost use Rattle.exports.specs.Book.{BookRead, BookWritten};
+ghost use Rattle.exports.specs.Texts.{RulesMade};
 ghost use Rattle.sheet.specs.Answer.{AnswersSheet};
+ghost use Rattle.sheet_ask.specs.Asks.{AsksBook};
 use book::WriteAnswer;
 use book_sound::ReadAnswer;
 use finder::Answer as Found;
 use formula::Answer;
 use packing::packed;
+use packing::packed_at;
 use plancheck::CheckAnswer;
 use question::Question;
+use sheet_book::MakeAnswer;
 
 // The table of a formula. 0, or a refusal, which leaves the 16 bytes as they were.
 #[no_mangle]
@@ -117,4 +121,26 @@ pub extern "C" fn pj_sheet(sheet: &[u8], out: &mut [u8]) -> u64
     ensures { λ r. ⌜ AnswersSheet (now (sheet .entry)) (now (out .entry)) r (now (out .exit)) ⌝ }
 {
     sheet::answer(sheet, out) as u64
+}
+
+// The book of a rules text, at the start of the lent room: its length, or a refusal with its line, which leaves
+// the room as it was.
+#[no_mangle]
+pub extern "C" fn pj_rules(rules: &[u8], book: &mut [u8]) -> u64
+    ensures { λ r. ⌜ RulesMade (now (rules .entry)) (now (book .entry)) r (now (book .exit)) ⌝ }
+{
+    match sheet_book::make_book(rules, book) {
+        MakeAnswer::Made(length) => length as u64,
+        MakeAnswer::Refused(why, line) => packed_at(why, line),
+    }
+}
+
+// What is printed for a question text that is put to a book, in the lent room as far as it fits: the length of all
+// of it, which is at most `sheet_ask::ASK_MOST`. Nothing is refused: a rank table that is too short is answered
+// so, and is otherwise left as `pj_find` leaves it. The rest of the room keeps what it held.
+#[no_mangle]
+pub extern "C" fn pj_ask(book: &[u8], question: &[u8], ranks: &mut [u8], out: &mut [u8]) -> u64
+    ensures { λ r. ⌜ AsksBook (now (book .entry)) (now (question .entry)) (now (ranks .entry)) (now (out .entry)) r (now (ranks .exit)) (now (out .exit)) ⌝ }
+{
+    sheet_ask::ask(book, question, ranks, out) as u64
 }

@@ -2,7 +2,7 @@
 use refusal::Refusal;
 ghost use mathlib.Core.Path.{_≡_};
 ghost use Prim.Native.Nat.{_+_, _*_, _%_, _^_, _<_};
-ghost use Rattle.exports.specs.Packed.{packed};
+ghost use Rattle.exports.specs.Packed.{packed, packedAt};
 
 // The second number in bits 40 to 47, the number in bits 32 to 39, and the low 32 bits of the place.
 fn joined(second: u8, number: u64, place: usize) -> u64
@@ -19,4 +19,12 @@ pub fn packed(why: Refusal) -> u64
 {
     let told = why.numbers();
     joined(told.second, told.number, told.place)
+}
+
+// A refusal of a text, with its line in the place of its own.
+pub fn packed_at(why: Refusal, line: usize) -> u64
+    ensures { λ r. ⌜ r ≡ packedAt why line ⌝ }
+{
+    let told = why.numbers();
+    joined(told.second, told.number, line)
 }
