@@ -30,25 +30,32 @@ use Rattle.plancheck.specs.Checks.{Checks}
 use Rattle.plancheck.specs.declared.answer.CheckAnswer.{CheckAnswer}
 use Rattle.plancheck.specs.declared.answer.CheckAnswer.the-variants.{Yes, Refused as NotAccepted}
 use Rattle.plancheck.proofs.Small as CheckSmall
-use Rattle.exports.specs.Packed.{packed, upper, lower, numberIn, secondIn}
-use Rattle.exports.specs.Returned.{formulaReturned, readReturned, writeReturned, findReturned, checkReturned}
+use Rattle.sheet_book.specs.declared.MakeAnswer.the-variants.{Made, Refused as NotMade}
+use Rattle.sheet_book.proofs.Theorems.{line-most, length-most}
+use Rattle.exports.specs.Texts.{RulesMade}
+use Rattle.exports.specs.Packed.{packed, packedAt, upper, lower, numberIn, secondIn}
+use Rattle.exports.specs.Returned.{formulaReturned, readReturned, writeReturned, findReturned, checkReturned, rulesReturned}
 use Rattle.exports.specs.Formula.{FormulaRead}
 use Rattle.exports.specs.Book.{BookRead, BookWritten}
 use Rattle.exports.specs.Find.{PlanFound}
 use Rattle.exports.specs.Check.{PlanChecked}
 
--- a result that tells this refusal
-pub record Tells-refusal (result : ℕ) (r : Refusal) : Type 0 where
+-- a result that tells this refusal, at this place
+pub record Tells-at (result : ℕ) (r : Refusal) (at : ℕ) : Type 0 where
   pub some : 0 < number r
   pub number-is : numberIn result ≡ number r
   pub second-is : secondIn result ≡ second r
-  pub place-is : lower result ≡ place r
+  pub place-is : lower result ≡ at
 
-apart : {result : ℕ} (r : Refusal) → result ≡ packed r → place r < 2 ^ 32 → Tells-refusal result r
-unfolding packed
-apart {result} r e small =
-    let low : place r % 2 ^ 32 ≡ place r = mod-eq-of-lt small in
-    let is : result ≡ (second r * 256 + number r) * 2 ^ 32 + place r = omega (arith, e, low) in
+-- at its own
+abbrev pub Tells-refusal : ℕ → Refusal → Type 0
+Tells-refusal result r = Tells-at result r (place r)
+
+apart-at : {result : ℕ} (r : Refusal) (at : ℕ) → result ≡ packedAt r at → at < 2 ^ 32 → Tells-at result r at
+unfolding packedAt
+apart-at {result} r at e small =
+    let low : at % 2 ^ 32 ≡ at = mod-eq-of-lt small in
+    let is : result ≡ (second r * 256 + number r) * 2 ^ 32 + at = omega (arith, e, low) in
     let up : upper result ≡ second r * 256 + number r = ap upper is ∙ digits-div (second r * 256 + number r) small in
     record {
       some = number-some r;
@@ -56,6 +63,10 @@ apart {result} r e small =
       second-is = ap (λ (x : ℕ). x / 256) up ∙ digits-div (second r) (number-small r);
       place-is = ap lower is ∙ digits-mod (second r * 256 + number r) small;
     }
+
+apart : {result : ℕ} (r : Refusal) → result ≡ packed r → place r < 2 ^ 32 → Tells-refusal result r
+unfolding packed packedAt
+apart r e small = apart-at r (place r) e small
 
 pub formula-apart : {n : ℕ} {s old new : List ℕ} {r : ℕ} (c : FormulaRead n s old r new)
     → (c .answer ≡ Accepted → upper r ≡ 0) × ((w : Refusal) → c .answer ≡ NoFormula w → Tells-refusal r w)
@@ -111,4 +122,12 @@ plan-check-apart {book} {q} {goal} {plan} c = (
   λ e. ap upper (c .result-is ∙ ap checkReturned e),
   λ w e. let checks = subst (λ (a : CheckAnswer). Checks book q goal plan a) e (c .checks) in
       apart w (c .result-is ∙ ap checkReturned e) (omega (arith, CheckSmall.place-small book q goal plan w checks)),
+)
+
+pub rules-apart : {rules old new : List ℕ} {r : ℕ} (c : RulesMade rules old r new)
+    → ((size : ℕ) → c .answer ≡ Made size → (upper r ≡ 0) × (r ≡ size)) × ((w : Refusal) (line : ℕ) → c .answer ≡ NotMade w line → Tells-at r w line)
+rules-apart {rules} {old} {new} {r} c = (
+  λ size e. let is : r ≡ size = c .result-is ∙ ap rulesReturned e in
+      (div-eq-of-lt (omega (arith, is, length-most rules old (c .answer) size new e (c .makes))), is),
+  λ w line e. apart-at w line (c .result-is ∙ ap rulesReturned e) (omega (arith, line-most rules old (c .answer) w line new e (c .makes))),
 )

@@ -1,5 +1,6 @@
 -- Any two results that a C function's contract allows are equal, lent memory included: each is a function of what the crate behind it answers,
--- which is settled there. `pj_sheet` hands on the contract of `answer`, settled by sheet's `answer-unique`.
+-- which is settled there. `pj_sheet` hands on the contract of `answer`, settled by sheet's `answer-unique`, and `pj_ask` that of `ask`, settled by sheet_ask's
+-- `ask-unique`.
 use mathlib.Core.Path.{_≡_, sym, ap, _∙_}
 use mathlib.Core.List.{List}
 use Prim.Native.Nat.{ℕ}
@@ -10,11 +11,14 @@ use Rattle.knowledge.specs.Goal.{Goal}
 use Rattle.question.specs.declared.Question.{Question}
 use Rattle.finder.proofs.Unique.{find-unique}
 use Rattle.plancheck.proofs.OneAnswer.{checks-one}
-use Rattle.exports.specs.Returned.{formulaReturned, readReturned, writeReturned, findReturned, checkReturned}
+use Rattle.exports.specs.Returned.{formulaReturned, readReturned, writeReturned, findReturned, checkReturned, rulesReturned}
 use Rattle.exports.specs.Find.{PlanFound}
 use Rattle.exports.specs.Check.{PlanChecked}
 use Rattle.exports.specs.Formula.{onReturn, FormulaRead}
+use Rattle.sheet_rules.specs.Meaning.{rulesMeaning}
+use Rattle.sheet_book.proofs.Theorems.{makes-one}
 use Rattle.exports.specs.Book.{BookRead, BookWritten}
+use Rattle.exports.specs.Texts.{RulesMade}
 
 pub formula-read-unique : {n : ℕ} {s old : List ℕ} {r q : ℕ} {new other : List ℕ} → FormulaRead n s old r new → FormulaRead n s old q other → (r ≡ q) × (new ≡ other)
 formula-read-unique {n} {s} {old} a b =
@@ -42,3 +46,8 @@ find-one {book} {q} {goal} {ranks} {plan} {x = x} {y = y} {u = u} {v = v} a b =
 pub plan-check-one : {book : List ℕ} {q : Question} {goal : Goal} {plan : List ℕ} {r s : ℕ} → PlanChecked book q goal plan r → PlanChecked book q goal plan s → r ≡ s
 plan-check-one {book} {q} {goal} {plan} a b =
     a .result-is ∙ ap checkReturned (checks-one book q goal plan (a .answer) (b .answer) (a .checks) (b .checks)) ∙ sym (b .result-is)
+
+pub rules-unique : {rules old : List ℕ} {r q : ℕ} {new other : List ℕ} → RulesMade rules old r new → RulesMade rules old q other → (r ≡ q) × (new ≡ other)
+rules-unique {rules} {old} {new = new} {other = other} a b =
+    let e = makes-one (rulesMeaning rules) old (a .answer) (b .answer) new other (a .makes) (b .makes) in
+    (a .result-is ∙ ap rulesReturned (e .0) ∙ sym (b .result-is), e .1)

@@ -106,3 +106,21 @@ made-within (stated rules) room size after m = omega (arith, m .0, m .1)
 
 pub made-fits : (o : Meaning) (room : List ℕ) (a : MakeAnswer) (size : ℕ) (after : List ℕ) → a ≡ Made size → MakesBook o room a after → size ≤ length room
 made-fits o room a size after e m = made-within o room size after (subst (λ (x : MakeAnswer). MakesBook o room x after) e m)
+
+-- the line of a refusal is small: "rules and question texts have at most 65,536 bytes"
+line-within : (o : Meaning) (room : List ℕ) (why : Refusal) (line : ℕ) (after : List ℕ) → MeaningGoes o → MakesBook o room (Refused why line) after → line ≤ 65538
+line-within (refused r at) room why line after goes m = omega (arith, m .1, goes .0)
+line-within (stated rules) room why line after goes m = omega (arith, m .1)
+
+pub line-most : (s room : List ℕ) (a : MakeAnswer) (why : Refusal) (line : ℕ) (after : List ℕ) → a ≡ Refused why line → MakesBook (rulesMeaning s) room a after → line ≤ 65538
+line-most s room a why line after e m =
+    line-within (rulesMeaning s) room why line after (meaning-goes s) (subst (λ (x : MakeAnswer). MakesBook (rulesMeaning s) room x after) e m)
+
+-- and so is a book's length
+length-within : (o : Meaning) (room : List ℕ) (size : ℕ) (after : List ℕ) → MeaningGoes o → MakesBook o room (Made size) after → size ≤ 4096
+length-within (refused r at) room size after goes m = absurd m
+length-within (stated rules) room size after goes m = omega (arith, m .0, goes .settings-most)
+
+pub length-most : (s room : List ℕ) (a : MakeAnswer) (size : ℕ) (after : List ℕ) → a ≡ Made size → MakesBook (rulesMeaning s) room a after → size ≤ 4096
+length-most s room a size after e m =
+    length-within (rulesMeaning s) room size after (meaning-goes s) (subst (λ (x : MakeAnswer). MakesBook (rulesMeaning s) room x after) e m)
