@@ -1,5 +1,5 @@
 -- From what was read to what is said: one law for each return, by what the texts mean.
-use mathlib.Core.Path.{_≡_, refl, sym, ap, ap₂, _∙_, subst}
+use mathlib.Core.Path.{_≡_, refl, sym, ap, ap₂, subst}
 use mathlib.Core.Bool.{true}
 use mathlib.Core.List.{List}
 use Prim.Native.Nat.{ℕ, _≤_}
@@ -9,7 +9,6 @@ use Rattle.refusal.specs.declared.Refusal.{Refusal}
 use Rattle.book_sound.specs.Sound.{Sound}
 use Rattle.knowledge.specs.Goal.{Goal}
 use Rattle.question.specs.declared.Question.{Question}
-use Rattle.print_answer.specs.Printed.{Prints}
 use Rattle.print_answer.proofs.Theorems.{fitted-length, prints-whole}
 use Rattle.plancheck.specs.Checks.{Checks}
 use Rattle.plancheck.specs.declared.answer.CheckAnswer.{CheckAnswer}

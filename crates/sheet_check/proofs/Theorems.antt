@@ -1,7 +1,7 @@
--- What is promised of what `check` says, about its contract: it is one thing alone; yes is said exactly of the text of a plan that works; what `ask` prints
--- for "reach" gets a yes; and of a plan's bytes nothing but 16 to 21 is refused. By what the three texts mean.
+-- What is promised of what `check` says, about its contract: it is one thing alone; yes is said exactly of the text of a plan that works; and what `ask`
+-- prints for "reach" gets a yes. By what the three texts mean.
 use mathlib.Core.Path.{_≡_, refl, sym, ap, _∙_, subst, subst₂}
-use mathlib.Core.Logic.{_⊎_, inl, inr, _↔_}
+use mathlib.Core.Logic.{inl, inr, _↔_}
 use mathlib.Core.Bool.{true}
 use mathlib.Core.List.{List}
 use Prim.Native.Nat.{ℕ, _≤_}
@@ -10,10 +10,6 @@ use lib.Dec.{T}
 use lib.ListN.{length, take}
 use Rattle.ground.specs.Text.{bytes}
 use Rattle.ground.specs.Search.{Least}
-use Rattle.refusal.specs.declared.Refusal.{Refusal}
-use Rattle.refusal.specs.declared.Refusal.the-variants.{PlanLength}
-use Rattle.refusal.specs.Refusals.{number}
-use Rattle.refusal.specs.Order.{First}
 use Rattle.refusal.proofs.OrderLaws.{first-unique, first-clear}
 use Rattle.book_sound.specs.Sound.{Sound}
 use Rattle.book_sound.proofs.SoundLaws.{sound-clear}
@@ -22,7 +18,6 @@ use Rattle.knowledge.specs.Goal.{Goal}
 use Rattle.plan.specs.Plans.{Plan, Works, height}
 use Rattle.plan.specs.Ranks.{Reach, Written}
 use Rattle.plan.specs.Bytes.{encode}
-use Rattle.plan.specs.Check.{Fault, no-act, not-permitted, not-settled, too-soon, left-over}
 use Rattle.plan.proofs.Check.{check-exact}
 use Rattle.plan.proofs.Size.{works-permitted}
 use Rattle.plan.proofs.Written.{written-works, written-height}
@@ -33,12 +28,10 @@ use Rattle.question.specs.Question.{systemOf, startOf}
 use Rattle.question.specs.Asks.{ValidQuestion}
 use Rattle.question.specs.declared.Question.{Question}
 use Rattle.question.proofs.SystemLaws.{lawful, few}
-use Rattle.question.proofs.RowLaws.{question-clear}
 use Rattle.plancheck.specs.Checks.{Checks}
-use Rattle.plancheck.specs.Refusals.{refusalOf}
 use Rattle.plancheck.specs.declared.answer.CheckAnswer.{CheckAnswer}
 use Rattle.plancheck.specs.declared.answer.CheckAnswer.the-variants.{Yes as Accepted, Refused}
-use Rattle.plancheck.proofs.OneAnswer.{checks-one, refused-by}
+use Rattle.plancheck.proofs.OneAnswer.{checks-one}
 use Rattle.plancheck.proofs.Theorems as Plans
 use Rattle.plancheck_text.specs.Meaning as Text
 use Rattle.plancheck_text.specs.Meaning.{planTextMeaning}
@@ -51,7 +44,7 @@ use Rattle.sheet_ask.specs.Asks.{QuestionAsks, PrintsQuestion, AsksBook}
 use Rattle.sheet_ask.proofs.AskedQuestion.{asked-valid, same-goal, same-question}
 use Rattle.sheet_check.specs.Checks.{toldOf, ChecksText, ChecksQuestion, ChecksTexts}
 use Rattle.sheet_check.specs.declared.CheckTold.{CheckTold}
-use Rattle.sheet_check.specs.declared.CheckTold.the-variants.{Yes, BookRefused, QuestionRefused, TextRefused, PlanRefused}
+use Rattle.sheet_check.specs.declared.CheckTold.the-variants.{Yes, BookRefused}
 
 -- ---- one result alone
 
@@ -82,7 +75,7 @@ module _ {book : List ℕ} (question : List ℕ) {n m : ℕ} {a : Asked} {q : Qu
   valid = asked-valid (asked-fits n m 0 true question a means) asks sound
 
   -- what is said of a plan's text is what its meaning gets
-  text-told : (plan : List ℕ) (r : CheckTold) → ChecksText book q goal (planTextMeaning plan) r → ChecksTexts book question plan r
+  pub text-told : (plan : List ℕ) (r : CheckTold) → ChecksText book q goal (planTextMeaning plan) r → ChecksTexts book question plan r
   text-told plan r c = inr (n, m, sound, subst (λ (o : QuestionMeaning). ChecksQuestion n book o plan r) (sym means) (q, goal, asks, c))
 
   -- of a text of these bytes, it is what the plan check answers to them
@@ -164,45 +157,3 @@ module _ (out new : List ℕ) (r : ℕ) (fits : r ≤ length out) (reach : T (be
     pub asked-yes : AsksBook book question ranks out r left new → told ≡ Yes
     asked-yes (inl (why, f, p)) = absurd (not-refused _ _ (p .printed))
     asked-yes (inr (n, m, sound, printed)) = reach-yes sound (questionMeaning 0 true n m question) refl printed
-
--- ---- of a plan's bytes nothing but 16 to 21 is refused: the question is valid, so 10 to 12 are not
-
-abbrev PlansOwn : Refusal → Type 0
-PlansOwn why = (why ≡ PlanLength) ⊎ ((f : Fault) × (i : ℕ) × (why ≡ refusalOf f i))
-
-own-text : {book : List ℕ} {q : Question} {goal : Goal} {n m : ℕ} → ValidQuestion book q goal n m → (why : Refusal) (o : Text.Meaning)
-    → ChecksText book q goal o (PlanRefused why) → PlansOwn why
-own-text valid why (Text.refused w) e = absurd (let z : _≡_ {A = ℕ} 0 1 = cc in omega arith)
-own-text valid why (Text.plan b) (Accepted, c, e) = absurd (let z : _≡_ {A = ℕ} 0 1 = cc in omega arith)
-own-text {book} {q} {goal} valid why (Text.plan b) (Refused w, c, e) =
-    let same : w ≡ why = cc in
-    subst PlansOwn same (elim (refused-by book q goal b w c) [
-      | inl f ↦ first-clear f (question-clear valid)
-      | inr (inl (l, long)) ↦ inl l
-      | inr (inr (f, i, s, j)) ↦ inr (f, i, s)
-    ])
-
-pub plan-refusals : (book question plan : List ℕ) (why : Refusal) → ChecksTexts book question plan (PlanRefused why)
-    → (why ≡ PlanLength) ⊎ ((f : Fault) × (i : ℕ) × (why ≡ refusalOf f i))
-plan-refusals book question plan why (inl (w, f, e)) = absurd (let z : _≡_ {A = ℕ} 0 1 = cc in omega arith)
-plan-refusals book question plan why (inr (n, m, sound, c)) = by-question (questionMeaning 0 true n m question) refl c
-  where
-    by-question : (o : QuestionMeaning) → questionMeaning 0 true n m question ≡ o → ChecksQuestion n book o plan (PlanRefused why)
-        → (why ≡ PlanLength) ⊎ ((f : Fault) × (i : ℕ) × (why ≡ refusalOf f i))
-    by-question (refused w line) e d = absurd (let z : _≡_ {A = ℕ} 0 1 = cc in omega arith)
-    by-question (asked a) e (q, goal, k, t) = own-text (asked-valid (asked-fits n m 0 true question a e) k sound) why (planTextMeaning plan) t
-
-fault-number : (f : Fault) (i : ℕ) → (17 ≤ number (refusalOf f i)) × (number (refusalOf f i) ≤ 21)
-fault-number no-act i = (omega arith, omega arith)
-fault-number not-permitted i = (omega arith, omega arith)
-fault-number not-settled i = (omega arith, omega arith)
-fault-number too-soon i = (omega arith, omega arith)
-fault-number left-over i = (omega arith, omega arith)
-
-pub plan-numbers : (book question plan : List ℕ) (why : Refusal) → ChecksTexts book question plan (PlanRefused why) → (16 ≤ number why) × (number why ≤ 21)
-plan-numbers book question plan why c = elim (plan-refusals book question plan why c) [
-  | inl l ↦ (let e : number why ≡ 16 = ap number l in (omega (arith, e), omega (arith, e)))
-  | inr (f, i, s) ↦ (let e : number why ≡ number (refusalOf f i) = ap number s in
-      let x = fault-number f i in
-      (omega (arith, e, x .0), omega (arith, e, x .1)))
-]

@@ -12,8 +12,6 @@ use sheet_question::AskedDesk;
 use sheet_question::QuestionTold;
 use sheet_question::read_question;
 ghost use mathlib.Core.Bool.{true};
-ghost use Prim.Native.Nat.{_*_, _≤_};
-ghost use lib.ListN.{length};
 ghost use Rattle.book_sound.specs.Sound.{Sound};
 ghost use Rattle.plancheck.specs.Checks.{Checks};
 ghost use Rattle.plancheck_text.specs.Meaning.{planTextMeaning};

@@ -1,5 +1,5 @@
 -- `check` meets its contract: the book's refusal is said as it is, and a sound book is asked.
-use mathlib.Core.Path.{_≡_, refl, subst}
+use mathlib.Core.Path.{refl, subst}
 use mathlib.Core.Logic.{inl, inr}
 use Rattle.book_sound.specs.Promise.{Judges}
 use borrow.Author.Needs.{needs}
