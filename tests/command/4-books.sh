@@ -1,0 +1,69 @@
+# book, ask and check: the examples of books/, statuses, troubles with files, and hints.
+for rules in books/*.rules; do
+    name=$(basename "$rules" .rules)
+    book=$room/$name.book
+    expect "book of $name" 0 '' '' book "$rules" "$book"
+    for question in books/"$name"/*.question; do
+        expected=${question%.question}.expected
+        case $(head -n 1 "$expected") in reach*) status=0 ;; *) status=1 ;; esac
+        expect "ask $question" "$status" "$(cat "$expected")" '' ask "$book" "$question"
+        [ "$status" -ne 0 ] || { cp "$expected" "$room/plan" && expect "check $question: its own plan" 0 yes '' check "$book" "$question" "$room/plan"; }
+    done
+    for plan in books/"$name"/*.plan; do
+        [ -e "$plan" ] || continue
+        question=${plan%-*}.question
+        expect "check $plan" 1 "$(cat "${plan%.plan}.expected")" "$plan, line" check "$book" "$question" "$plan"
+    done
+done
+night=$room/night.book
+expect 'several questions: a table, and the highest status' 1 "$(for q in books/night/*.question; do echo "$q $(head -n 1 "${q%.question}.expected")"; done)" '' \
+    ask "$night" books/night/*.question
+expect 'several questions, one of them missing' 3 "books/night/both.question reach 4" 'nofile: there is no such file' ask "$night" "$room/nofile" books/night/both.question
+expect 'several questions, one of them refused' 2 "$room/bad.question refused 22 1
+books/night/both.question reach 4" "bad.question, line 1: due here is 'team" ask "$night" "$(printf 'make a\n' >"$room/bad.question"; echo "$room/bad.question")" books/night/both.question
+
+# a book is made, and never overwritten
+cp "$night" "$room/kept"
+expect 'a book that is there' 3 '' 'is there already' book books/night.rules "$room/kept"
+holds 'it is as it was' cmp -s "$night" "$room/kept"
+printf 'size 2 2\nread a 1 a&\n' >"$room/bad.rules"
+expect 'rules that are refused' 2 'refused 4 2' 'bad.rules, line 2: column 12: the formula ends too soon' book "$room/bad.rules" "$room/bad.book"
+holds 'no book is made of them' test ! -e "$room/bad.book"
+expect 'a folder that is not there' 3 '' 'No such file or directory' book books/night.rules "$room/nofolder/book"
+expect 'rules that are not there' 3 '' 'there is no such file' book "$room/nofile" "$room/x.book"
+expect 'one word for two' 3 '' 'usage: ./parjolenc book RULES BOOK' book books/night.rules
+if [ "$(uname -m)" = x86_64 ]; then
+    # a file may have 1,024 bytes here: the write of a book fails in its midst
+    (ulimit -f 1; trap '' XFSZ; ./parjolenc book books/night.rules "$room/cut.book" >/dev/null 2>"$room/said")
+    holds 'a write that fails: the status' test $? -eq 3
+    holds 'a write that fails leaves no book' test ! -e "$room/cut.book"
+fi
+
+# rules and questions: passed-over lines are counted
+printf '# one\n\nsize 2 1\n# four\nread a 1 1\nteam 1\n' >"$room/team.rules"
+expect 'a team line in rules' 2 'refused 22 6' "due here is 'read P G F'" book "$room/team.rules" "$room/x.book"
+printf '# one\nteam 1 2\n\nknown ~c ~d\nread a 1 1\n' >"$room/read.question"
+expect 'a read line in a question' 2 'refused 22 5' 'a question has no rights' ask "$night" "$room/read.question"
+printf 'team 1 4\n' >"$room/post.question"
+expect 'a post past the book' 2 'refused 22 1' 'post 4 is past the size, which has 3' ask "$night" "$room/post.question"
+printf 'team 1\nknown\nmake a|e\n' >"$room/letter.question"
+expect 'a letter past the book' 2 'refused 3 3' 'column 8: setting e is past the size: the last of 4 is d' ask "$night" "$room/letter.question"
+printf 'team 1\nknown\nmake a\n# end' >"$room/open.question"
+expect 'a last comment without its end' 2 'refused 22 4' 'no byte 10' ask "$night" "$room/open.question"
+
+# books that are none
+expect 'a text for a book' 2 'refused 6 0' 'this is no book' ask books/night.rules books/night/both.question
+{ head -c 600 "$night"; printf '\001'; tail -c +602 "$night"; } >"$room/damaged.book"
+expect 'a damaged book' 2 'refused 7 1' 'block 1 is damaged' ask "$room/damaged.book" books/night/both.question
+expect 'a folder for a book' 3 '' 'this is a folder' ask "$room" books/night/both.question
+
+# plans
+printf 'reach 4\n0 look a 2\n1 dance\n' >"$room/dance.plan"
+expect 'a plan with a stray line' 2 'refused 22 3' "dance.plan, line 3: due here is a plan's line" check "$night" books/night/both.question "$room/dance.plan"
+printf 'reach 0\n' >"$room/empty.plan"
+expect 'a plan of nothing' 1 'refused 20 0' 'the plan ends too soon' check "$night" books/night/both.question "$room/empty.plan"
+{ cat books/night/both.expected; echo '0 stop'; } >"$room/long.plan"
+expect 'a plan with a line too many' 1 'refused 21 8' 'line 10: the plan was whole before this line' check "$night" books/night/both.question "$room/long.plan"
+printf 'reach 1\n0 set d 3 1\n1 stop\n' >"$room/outside.plan"
+expect 'a plan by a post outside the team' 1 'refused 17 0' 'names no act of this book and team' check "$night" books/night/both.question "$room/outside.plan"
+expect 'two words for three' 3 '' 'usage: ./parjolenc check BOOK QUESTION PLAN' check "$night" books/night/both.question
