@@ -8,4 +8,5 @@ fi
 readable "$sheet" || exit 3
 run parjolenc <"$sheet"
 hint sheet "$sheet" "$name"
+empty_hint "$sheet" "$name"
 exit "$status"

@@ -12,6 +12,7 @@ asked() {
     case $(whose) in
     book) book_hint "$book" ;;
     question) question_hint "$book" "$1" ;;
+    *) empty_hint "$1" "$1" -v n="$(od -An -tu1 -N1 "$book" | tr -d ' ')" -v able="$(able "$book")" ;;
     esac
 }
 

@@ -99,3 +99,18 @@ question_hint() {
     read -r n m < <(od -An -tu1 -N2 "$1")
     hint question "$2" "$2" -v n="$n" -v m="$m"
 }
+
+# empty_hint FILE NAME [WORDS..]: after an answer, a line on standard error where the question asks nothing. WORDS are settings
+# of empty.awk.
+empty_hint() {
+    local file=$1 name=$2
+    shift 2
+    [ "$status" -gt 1 ] || awk -v name="$name" "$@" -f "$home/command/empty.awk" "$file" >&2
+}
+
+# able BOOK: the digits of the posts that have a right that can hold. A setting's block has 16 rows of 32 bytes, and the first
+# eight are its posts' tables.
+able() {
+    od -An -v -tu1 -w32 -j512 "$1" | awk '(NR - 1) % 16 < 8 { for (i = 1; i <= NF; i++) if ($i) post[(NR - 1) % 16 + 1] = 1 }
+        END { for (q in post) printf "%s", q }'
+}

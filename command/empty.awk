@@ -1,0 +1,47 @@
+# empty.awk: whether a question that was answered asks nothing: a make formula that is never or always true, or a team none of whose
+# posts has a right that can ever hold. Help, and no promise. The text is a sheet or a question without a fault. Settings: name (the
+# file's); able, the digits of the posts with a right that can hold, and n, where a book has the rules.
+
+function hint(text) { printf "parjolenc: %s: %s\n", name, text }
+
+# truth(V): the truth of the formula `text` from byte `at` on, where setting i is bit i of V: a sum, a product, a unit.
+function sum(v,   t) {
+    t = product(v)
+    while (substr(text, at, 1) == "|") { at++; if (product(v)) t = 1 }
+    return t
+}
+function product(v,   t) {
+    t = unit(v)
+    while (substr(text, at, 1) == "&") { at++; if (!unit(v)) t = 0 }
+    return t
+}
+function unit(v,   c, t) {
+    c = substr(text, at++, 1)
+    if (c == "~") return !unit(v)
+    if (c == "(") { t = sum(v); at++; return t }
+    if (c == "0" || c == "1") return c + 0
+    return int(v / 2 ^ (index("abcdefg", c) - 1)) % 2
+}
+
+# counted F: at how many of the 2^n valuations it is true.
+function counted(F,   v, count) {
+    text = F
+    count = 0
+    for (v = 0; v < 2 ^ n; v++) { at = 1; count += sum(v) }
+    return count
+}
+
+$1 == "size" { n = $2 }
+$1 == "read" || $1 == "write" { if (index(able, $3) == 0 && counted($4) > 0) able = able $3 }
+$1 == "team" { for (i = 2; i <= NF; i++) team[$i] = 1 }
+$1 == "make" { make = $2 }
+$1 == "ask" { asks++ }
+
+END {
+    true_at = counted(make)
+    if (true_at == 0) hint("the make formula is never true, so no team can make it so")
+    if (true_at == 2 ^ n && !asks) hint("the make formula is always true and nothing is asked, so there is nothing to do")
+    else if (true_at == 2 ^ n && make != "1") hint("the make formula is always true")
+    for (post in team) if (index(able, post)) acts = 1
+    if (!acts) hint("no post of the team has a right that can ever hold, so the team can do nothing")
+}
