@@ -12,6 +12,27 @@ pub struct Asked {
     pub make: [u8; 16],
 }
 
+impl Asked {
+    /// The same question as text: what is to be made is a conjunction, so a setting stands in it where it has one value
+    /// at all valuations that are to be made.
+    pub fn text(&self) -> String {
+        let make = u128::from_le_bytes(self.make);
+        let mut literals = Vec::new();
+        for (i, name) in ('a'..='g').enumerate() {
+            if make & letter(i) == make {
+                literals.push(name.to_string());
+            } else if make & !letter(i) == make {
+                literals.push(format!("~{name}"));
+            }
+        }
+        if literals.is_empty() {
+            literals.push("1".to_string());
+        }
+        let posts: String = (0..M).filter(|q| self.team >> q & 1 == 1).map(|q| format!(" {}", q + 1)).collect();
+        format!("team{posts}\nknown\nmake {}\n", literals.join("&"))
+    }
+}
+
 /// Where setting i is true.
 fn letter(i: usize) -> u128 {
     (0..128).filter(|v| v >> i & 1 == 1).fold(0, |bits, v| bits | 1 << v)

@@ -24,6 +24,9 @@ use rng::Rng;
 
 const STATES: usize = 823_543;
 const PLAN: usize = 32_640;
+/// The most bytes that pj_ask prints.
+#[cfg(linked)]
+const ANSWER: usize = 456_970;
 /// How many rules in a hundred are closed: dense, middling and sparse books.
 const CLOSED: [u32; 3] = [15, 50, 85];
 const TURNS: usize = 7;
@@ -85,6 +88,31 @@ fn line(name: &str, count: usize, sums: &[Duration]) {
     }
 }
 
+/// The least times of `pj_find` and of `pj_ask` on the same questions, summed: reading the text and printing the plan is what
+/// the second does more.
+#[cfg(linked)]
+fn asked_as_text(questions: &[Asked]) -> [Duration; 2] {
+    let mut sums = [Duration::ZERO; 2];
+    for asked in questions {
+        let mut least = [Duration::MAX; 2];
+        let text = asked.text();
+        for _ in 0..TURNS {
+            let found = timed(proved::find, asked);
+            least[0] = found.time.min(least[0]);
+            let mut ranks = vec![170; STATES];
+            let mut out = vec![170; ANSWER];
+            let begun = Instant::now();
+            let length = proved::ask(&asked.book, text.as_bytes(), &mut ranks, &mut out);
+            least[1] = begun.elapsed().min(least[1]);
+            assert!(ranks == found.ranks && length <= ANSWER as u64, "the two differ");
+        }
+        for (sum, time) in sums.iter_mut().zip(least) {
+            *sum += time;
+        }
+    }
+    sums
+}
+
 fn main() {
     #[cfg(linked)]
     let finders: &[Finder] = &[plain, proved::find];
@@ -106,4 +134,15 @@ fn main() {
     }
     line("all random books", CLOSED.len() * asked::M, &random);
     line("the book of rank 254", 1, &total(finders, &[asked::hard()]));
+    #[cfg(linked)]
+    {
+        let mut questions: Vec<Asked> = (1..=asked::M).map(|posts| asked::random(&mut rng, posts, CLOSED[1])).collect();
+        questions.push(asked::hard());
+        let [find, ask] = asked_as_text(&questions);
+        println!(
+            "{} questions as text: pj_ask to pj_find, ratio {:.3}",
+            questions.len(),
+            ask.as_secs_f64() / find.as_secs_f64()
+        );
+    }
 }

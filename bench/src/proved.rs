@@ -1,4 +1,4 @@
-//! The proved finder, through the C interface. Nothing checks this declaration against the library's source.
+//! The proved finder and the proved answer to a question text, through the C interface. Nothing checks this declaration against the library's source.
 
 use crate::asked::Asked;
 
@@ -17,6 +17,16 @@ extern "C" {
         ranks_len: u64,
         plan: *mut u8,
         plan_len: u64,
+    ) -> u64;
+    fn pj_ask(
+        book: *const u8,
+        book_len: u64,
+        question: *const u8,
+        question_len: u64,
+        ranks: *mut u8,
+        ranks_len: u64,
+        out: *mut u8,
+        out_len: u64,
     ) -> u64;
 }
 
@@ -38,6 +48,21 @@ pub fn find(asked: &Asked, ranks: &mut [u8], plan: &mut [u8]) -> u64 {
             ranks.len() as u64,
             plan.as_mut_ptr(),
             plan.len() as u64,
+        )
+    }
+}
+
+pub fn ask(book: &[u8], question: &[u8], ranks: &mut [u8], out: &mut [u8]) -> u64 {
+    unsafe {
+        pj_ask(
+            book.as_ptr(),
+            book.len() as u64,
+            question.as_ptr(),
+            question.len() as u64,
+            ranks.as_mut_ptr(),
+            ranks.len() as u64,
+            out.as_mut_ptr(),
+            out.len() as u64,
         )
     }
 }
