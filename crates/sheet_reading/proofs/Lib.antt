@@ -19,6 +19,7 @@ pub mod Lines
 pub mod Place
 pub mod RefusedExactly
 pub mod ByNumber
+pub mod Texts
 pub mod Examples
 pub mod Bounds
 pub mod Unique
