@@ -27,7 +27,8 @@ use Rattle.sheet_question.specs.Asked.{nothingAsked, teamAs, knownAs, asksAs, k
 use Rattle.sheet_question.specs.Forms.{isTeam, isKnown}
 use Rattle.sheet_reading.specs.Sheet.{Sheet, sized}
 use Rattle.sheet_reading.specs.Reading.{Meaning, refused, stated}
-use Rattle.sheet_reading.proofs.OnePass.{SheetStep, askedAs, withRule, ruleStep, withTeam, withKnown, withMake, withAsk, sizeStep, teamStep, knownStep, makeStep, askStep, rightsStep, lines, firstLine, after}
+use Rattle.sheet_reading.proofs.OnePass.{SheetStep, askedAs, withRule, ruleStep, withTeam, withKnown, withMake, withAsk, sizeStep, teamStep, knownStep}
+use Rattle.sheet_reading.proofs.OnePass.{makeStep, askStep, rightsStep, lines, firstLine, after}
 use Rattle.sheet_question.specs.declared.desk.Due.the-variants.{Team, Known, Make, Asks}
 use Rattle.sheet_reading.specs.Grammar.{ended, sizeText, word, ruleLine, ruleLines, teamLine, knownLine, makeLine, askLines, rulesText, askedText, sheetText, RulesFit, AsksFit, WellFormed}
 use Rattle.sheet_reading.specs.Faults.{Line, size-line, right-line, team-line, known-line, make-line, ask-line, linesOf}

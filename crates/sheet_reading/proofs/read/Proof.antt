@@ -95,7 +95,8 @@ returns-3 c =
     let first = rules-point .rules-of in
     let second = question-point .question-of in
     let e = upto-by s (rulesOf false 5 s) (first .result .desk) (ruled-point .ruled2 .given .1) (first .ensures) in
-    refused-is (c .refused3 .result .desk) _ _ (question-at-fault s (no1 .if1 .left) e (second .result .told) (second .result .desk) (told-point .told .given .1) (second .ensures)) (c .refused3 .ensures)
+    refused-is (c .refused3 .result .desk) _ _
+    (question-at-fault s (no1 .if1 .left) e (second .result .told) (second .result .desk) (told-point .told .given .1) (second .ensures)) (c .refused3 .ensures)
 
 returns-4 : tie.Need-returns-4
 returns-4 c =
