@@ -18,7 +18,7 @@ void *realloc(void *old, u64 size);
 _Noreturn void _exit(int status);
 
 enum { GUARD = 32, ROOMS_MOST = 8 };
-enum { FORMULA_READ = 1, BOOK_READ = 2, BOOK_WRITE = 3, FIND = 4, PLAN_CHECK = 5, SHEET = 6 };
+enum { FORMULA_READ = 1, BOOK_READ = 2, BOOK_WRITE = 3, FIND = 4, PLAN_CHECK = 5, SHEET = 6, RULES = 7, ASK = 8 };
 
 static void fill(void *bytes, u64 size) {
     for (u64 done = 0; done < size;) {
@@ -46,6 +46,8 @@ static u64 call(u64 function, const u64 *number, u8 *const *room, const u64 *len
     case PLAN_CHECK: return pj_plan_check(room[0], lent[0], (u8)number[0], (u8)number[1], (u8)number[2], room[1],
                                           lent[1], room[2], lent[2], room[3], lent[3]);
     case SHEET: return pj_sheet(room[0], lent[0], room[1], lent[1]);
+    case RULES: return pj_rules(room[0], lent[0], room[1], lent[1]);
+    case ASK: return pj_ask(room[0], lent[0], room[1], lent[1], room[2], lent[2], room[3], lent[3]);
     }
     _exit(2);
 }

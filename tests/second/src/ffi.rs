@@ -50,3 +50,14 @@ pub fn plan_check(book: &mut Room, masks: [u8; 3], make: &mut Room, learn: &mut 
 pub fn sheet(sheet: &mut Room, out: &mut Room) -> u64 {
     route::sheet(sheet, out)
 }
+
+/// Makes a book of rules text and leaves it in `book`. Success is the book's length.
+pub fn rules(rules: &mut Room, book: &mut Room) -> u64 {
+    route::rules(rules, book)
+}
+
+/// Puts a question text to a book, leaves the ranks in `ranks`, and as much of what is printed in `out` as fits. The
+/// result is the whole answer's length.
+pub fn ask(book: &mut Room, question: &mut Room, ranks: &mut Room, out: &mut Room) -> u64 {
+    route::ask(book, question, ranks, out)
+}

@@ -1,5 +1,6 @@
-//! The second program: paper 01 written again, independently, and compared with the proved library on many inputs,
-//! valid and damaged, to the last bit of every result and every lent byte. ../README.md tells how it is run.
+//! The second program: paper 01 and issue 18's texts written again, independently, and compared with the proved library
+//! on many inputs, valid and damaged, to the last bit of every result and every lent byte. ../README.md tells how it
+//! is run.
 //!
 //! An area of the library is two files: what the paper says (`formula.rs`) and the cases to try (`formulas.rs`). It
 //! has a line in `AREAS` once its functions are in the library.
@@ -16,7 +17,10 @@ mod formula;
 mod formulas;
 mod grow;
 mod knowledge;
+mod lines;
 mod plan;
+mod plan_text;
+mod plan_texts;
 mod plans;
 mod question;
 mod questions;
@@ -29,7 +33,10 @@ mod secrets;
 mod sentences;
 mod sheet;
 mod sheets;
+mod spoilt;
 mod tables;
+mod text;
+mod texts;
 
 use std::process::ExitCode;
 use std::sync::atomic::{AtomicUsize, Ordering::Relaxed};
@@ -60,6 +67,10 @@ const AREAS: &[Area] = &[
     Area { name: "checking plans", functions: &["pj_plan_check"], test: checking::test },
     Area { name: "secrets", functions: &["pj_find"], test: secrets::test },
     Area { name: "sheets", functions: &["pj_sheet"], test: sheets::test },
+    Area { name: "rules texts", functions: &["pj_rules"], test: texts::rules::test },
+    Area { name: "question texts", functions: &["pj_ask"], test: texts::questions::test },
+    Area { name: "sheets cut in two", functions: &["pj_sheet", "pj_rules", "pj_ask"], test: texts::cut::test },
+    Area { name: "plan texts", functions: &["pj_ask"], test: plan_texts::test },
 ];
 
 fn main() -> ExitCode {

@@ -2,7 +2,7 @@
 
 mod by_hand;
 mod faulty;
-mod made;
+pub mod made;
 
 use std::fs;
 use std::path::Path;
@@ -10,14 +10,13 @@ use std::path::Path;
 use crate::damage::{deleted, inserted};
 use crate::ffi;
 use crate::report::{shown, Group, Subject};
+use crate::rng::Rng;
 use crate::room::Room;
 use crate::sheet::{answer, read, SHEET_MOST};
+use crate::spoilt::{cut_short, every_byte, joined, moved_lines, odd_lines, two_bytes, Lines, Texts};
 use by_hand::{by_hand, P6};
-use faulty::{
-    cut_short, every_byte, every_line, formula_lengths, lengths, moved_lines, odd_lines, rubbish, sizes, twice,
-    two_bytes,
-};
-use made::{any_sheet, climb, joined, longest_sheet, Lines};
+use faulty::{every_line, formula_lengths, lengths, rubbish, sizes, twice};
+use made::{any_sheet, climb, longest_sheet, small_sheet};
 
 /// Lines of the longest sheet: a size, 2 × 5 × 8 rights, a team, what is known, a make and four asks.
 const LINES_MOST: u32 = 88;
@@ -36,11 +35,11 @@ pub fn test(subject: &mut Subject) {
     subject.group("the longest sheets that are answered", longest_sheets);
     subject.group("the longest answers", longest_answers);
     subject.group("every room up to the answer's length and past it", rooms);
-    subject.group("odd lines at every place of a sheet", odd_lines);
-    subject.group("lines lost, doubled and in another order", moved_lines);
-    subject.group("damaged at every byte", every_byte);
-    subject.group("damaged at two bytes", two_bytes);
-    subject.group("cut short at every byte", cut_short);
+    subject.group("odd lines at every place of a sheet", |group| odd_lines::<Sheets>(group, 6));
+    subject.group("lines lost, doubled and in another order", |group| moved_lines::<Sheets>(group, 60));
+    subject.group("damaged at every byte", |group| every_byte::<Sheets>(group, 5));
+    subject.group("damaged at two bytes", |group| two_bytes::<Sheets>(group, 6_000));
+    subject.group("cut short at every byte", |group| cut_short::<Sheets>(group, 20));
     subject.group("every size that a first line can name", sizes);
     subject.group("rights, posts and settings named twice", twice);
     subject.group("each fault in each line of the longest sheet", every_line);
@@ -54,6 +53,25 @@ pub fn test(subject: &mut Subject) {
     subject.must_reach(23, 2..=KNOWN_LINE);
     subject.must_reach(24, 0..=0);
     subject.must_reach(25, 1..=1);
+}
+
+struct Sheets;
+
+impl Texts for Sheets {
+    type To = ();
+
+    fn any(rng: &mut Rng) -> ((), Lines) {
+        let n = rng.between(1, 3);
+        ((), any_sheet(rng, n))
+    }
+
+    fn small(rng: &mut Rng) -> ((), Lines) {
+        ((), small_sheet(rng))
+    }
+
+    fn compare(group: &mut Group, (): &(), sheet: &[u8]) {
+        compare(group, sheet);
+    }
 }
 
 /// One case: the library and this program on the same sheet, in a room that is long enough or, now and then, not.

@@ -13,6 +13,8 @@ const BOOK_WRITE: u64 = 3;
 const FIND: u64 = 4;
 const PLAN_CHECK: u64 = 5;
 const SHEET: u64 = 6;
+const RULES: u64 = 7;
+const ASK: u64 = 8;
 
 pub fn formula_read(n: u64, text: &mut Room, table: &mut Room) -> u64 {
     call(FORMULA_READ, &[n], &mut [text, table])
@@ -43,6 +45,14 @@ pub fn plan_check(book: &mut Room, masks: [u8; 3], make: &mut Room, learn: &mut 
 
 pub fn sheet(sheet: &mut Room, out: &mut Room) -> u64 {
     call(SHEET, &[], &mut [sheet, out])
+}
+
+pub fn rules(rules: &mut Room, book: &mut Room) -> u64 {
+    call(RULES, &[], &mut [rules, book])
+}
+
+pub fn ask(book: &mut Room, question: &mut Room, ranks: &mut Room, out: &mut Room) -> u64 {
+    call(ASK, &[], &mut [book, question, ranks, out])
 }
 
 struct Host {

@@ -36,6 +36,17 @@ extern "C" {
         plan_len: u64,
     ) -> u64;
     fn pj_sheet(sheet: *const u8, len: u64, out: *mut u8, out_len: u64) -> u64;
+    fn pj_rules(rules: *const u8, len: u64, book: *mut u8, book_len: u64) -> u64;
+    fn pj_ask(
+        book: *const u8,
+        book_len: u64,
+        question: *const u8,
+        question_len: u64,
+        ranks: *mut u8,
+        ranks_len: u64,
+        out: *mut u8,
+        out_len: u64,
+    ) -> u64;
 }
 
 /// The pointer may be used over the whole room, guards too, so a stray store is found and is not undefined.
@@ -112,4 +123,23 @@ pub fn plan_check(
 
 pub fn sheet(sheet: &mut Room, out: &mut Room) -> u64 {
     unsafe { pj_sheet(start(sheet), size(sheet), start(out), size(out)) }
+}
+
+pub fn rules(rules: &mut Room, book: &mut Room) -> u64 {
+    unsafe { pj_rules(start(rules), size(rules), start(book), size(book)) }
+}
+
+pub fn ask(book: &mut Room, question: &mut Room, ranks: &mut Room, out: &mut Room) -> u64 {
+    unsafe {
+        pj_ask(
+            start(book),
+            size(book),
+            start(question),
+            size(question),
+            start(ranks),
+            size(ranks),
+            start(out),
+            size(out),
+        )
+    }
 }

@@ -1,115 +1,13 @@
-//! Sheets with faults: odd lines and bytes, lines out of place, things named twice, and lengths around the limits.
+//! Sheets with faults of their own kind: things named twice, each fault in each line, and lengths around the limits.
 
 use super::by_hand::P6;
-use super::made::{any_sheet, any_sheet_of, joined, small_sheet, Lines};
+use super::made::{any_sheet, any_sheet_of};
 use super::{compare, expect, KNOWN_LINE, LINES_MOST, MAKE_LINE, TEAM_LINE};
-use crate::damage::{deleted, inserted, replaced, swapped};
-use crate::formula::LENGTH_MOST;
 use crate::refusal::Refusal;
 use crate::report::Group;
 use crate::rng::Rng;
 use crate::sheet::SHEET_MOST;
-
-/// Lines that are wrong somewhere, or everywhere, or in a small sheet twice.
-const ODD_LINES: &[&[u8]] = &[
-    b"", b" ", b"  ", b"\t", b"\r", b"\0", b"\xff", b"#", b"size", b"size 1 1", b"size 2 2", b"size 6 1", b"team",
-    b"team ", b"team 1", b"team 1 ", b"team  1", b" team 1", b"team 2 1", b"team 1 1", b"team 0", b"team 9",
-    b"team 12", b"team a", b"team 1\r", b"Team 1", b"teams 1", b"known", b"known ", b"known a", b"known ~a",
-    b"known ~", b"known ~~a", b"known a~", b"known a a", b"known ~a a", b"known  a", b"known a ", b"known g",
-    b"known A", b"known 1", b"known\r", b"known\ta", b"knowna", b"make", b"make ", b"make a", b"make  a", b"make a ",
-    b"make 1", b"make (", b"make g", b"make A", b"make a\r", b"make\ta", b"makea", b"ask", b"ask ", b"ask a",
-    b"ask  a", b"ask a ", b"ask ~", b"ask g", b"ask ?", b"ask a\0", b"read", b"read ", b"read a", b"read a ",
-    b"read a 1", b"read a 1 ", b"read a 1 1", b"read a 1  1", b"read a  1 1", b"read  a 1 1", b" read a 1 1",
-    b"read a 1 1 ", b"read a 1 a b", b"read a 1 (", b"read a 1 g", b"read a 1 1\r", b"read a 0 1", b"read a 9 1",
-    b"read a 12 1", b"read g 1 1", b"read aa 1 1", b"read A 1 1", b"read 1 a 1", b"READ a 1 1", b"reads a 1 1",
-    b"write", b"write a 1", b"write a 1 ", b"write a 1 1", b"write a 1 ~1", b"write a 1 )", b"write\ta 1 1",
-    b"write a\t1 1", b"write a 1\t1",
-];
-
-pub fn odd_lines(group: &mut Group) {
-    for _ in group.times(6) {
-        let lines = small_sheet(&mut group.rng);
-        for place in 0..=lines.len() {
-            for &odd in ODD_LINES {
-                let mut more = lines.clone();
-                more.insert(place, odd.to_vec());
-                compare(group, &joined(&more));
-                if place < lines.len() {
-                    more.remove(place + 1);
-                    compare(group, &joined(&more));
-                }
-            }
-        }
-    }
-}
-
-pub fn moved_lines(group: &mut Group) {
-    for _ in group.times(60) {
-        let n = group.rng.between(1, 3);
-        let lines = any_sheet(&mut group.rng, n);
-        for place in 0..lines.len() {
-            let other = group.rng.below(lines.len());
-            let mut fewer = lines.clone();
-            fewer.remove(place);
-            let mut doubled = lines.clone();
-            doubled.insert(other, lines[place].clone());
-            let mut exchanged = lines.clone();
-            exchanged.swap(place, other);
-            for lines in [fewer, doubled, exchanged, lines[..place].to_vec(), lines[place..].to_vec()] {
-                compare(group, &joined(&lines));
-            }
-        }
-    }
-}
-
-/// Blanks, ends of lines, bytes of formulas and of nothing.
-const ODD_BYTES: &[u8] = b" \n\t\r\0\x7f\xff\xa0a1~09ghA(&";
-
-pub fn every_byte(group: &mut Group) {
-    for _ in group.times(5) {
-        let sheet = joined(&small_sheet(&mut group.rng));
-        for place in 0..sheet.len() {
-            compare(group, &deleted(&sheet, place));
-            compare(group, &swapped(&sheet, place, (place + 1) % sheet.len()));
-            for &byte in ODD_BYTES {
-                compare(group, &replaced(&sheet, place, byte));
-                compare(group, &inserted(&sheet, place, byte));
-            }
-        }
-        for &byte in ODD_BYTES {
-            compare(group, &inserted(&sheet, sheet.len(), byte));
-        }
-    }
-}
-
-pub fn two_bytes(group: &mut Group) {
-    for _ in group.times(6_000) {
-        let mut sheet = joined(&small_sheet(&mut group.rng));
-        for _ in 0..2 {
-            let place = group.rng.below(sheet.len());
-            let byte = if group.rng.chance(80) { group.rng.one_of(ODD_BYTES) } else { group.rng.byte() };
-            sheet = match group.rng.below(3) {
-                0 => replaced(&sheet, place, byte),
-                1 => inserted(&sheet, place, byte),
-                _ => deleted(&sheet, place),
-            };
-        }
-        compare(group, &sheet);
-    }
-}
-
-pub fn cut_short(group: &mut Group) {
-    for _ in group.times(20) {
-        let sheet = joined(&small_sheet(&mut group.rng));
-        for end in 0..=sheet.len() {
-            compare(group, &sheet[..end]);
-            compare(group, &[&sheet[..end], b"\n"].concat());
-        }
-        for start in 1..sheet.len() {
-            compare(group, &sheet[start..]);
-        }
-    }
-}
+use crate::spoilt::{joined, line_faults, Lines, ODD_LINES};
 
 pub fn sizes(group: &mut Group) {
     let rest = "team 1\nknown\nmake 1\n";
@@ -182,39 +80,10 @@ pub fn every_line(group: &mut Group) {
         expect(group, &joined(&lines), 20, &format!("{refused}\n"));
     };
     for line in 0..lines.len() {
-        let old = lines[line].clone();
-        expect_at(group, line, [b" ", &old[..]].concat(), 22);
-        expect_at(group, line, old[..3].to_vec(), 22);
-        let words: Vec<&[u8]> = old.splitn(4, |&byte| byte == b' ').collect();
-        let before_formula = match words[0] {
-            b"read" | b"write" => Some(words[..3].join(&b' ')),
-            b"make" | b"ask" => Some(words[0].to_vec()),
-            _ => None,
-        };
-        let Some(before) = before_formula else {
-            expect_at(group, line, [&old[..], b" "].concat(), 22);
-            expect_at(group, line, [&old[..], b" ?"].concat(), 22);
-            continue;
-        };
-        expect_at(group, line, before.clone(), 22);
-        let long = |end: &[u8]| [&[b'~'; LENGTH_MOST - 1][..], end].concat();
-        let faults: &[(&[u8], u32)] = &[
-            (b"", 1),
-            (&long(b"~a"), 1),
-            (b" 1", 2),
-            (b"1 ", 2),
-            (&long(b"\t"), 2),
-            (b"a|f", 3),
-            (&long(b"g"), 3),
-            (b"(a", 4),
-            (b"a)", 4),
-            (&long(b"&"), 4),
-            (&long(b"~"), 4),
-        ];
-        for &(formula, number) in faults {
-            expect_at(group, line, [&before[..], b" ", formula].concat(), number);
+        for (new, number) in line_faults(&lines[line], Some(b'f')) {
+            expect_at(group, line, new, number);
         }
-        if line > 1 && before != b"make" && before != b"ask" {
+        if (2..TEAM_LINE as usize - 1).contains(&line) {
             let earlier = group.rng.between(1, line - 1);
             expect_at(group, line, lines[earlier].clone(), 23);
         }

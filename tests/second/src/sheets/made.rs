@@ -3,13 +3,7 @@
 use crate::formula::LENGTH_MOST;
 use crate::grow::{sentence, SHAPES};
 use crate::rng::Rng;
-
-/// A sheet's lines, without the byte 10 at their ends.
-pub type Lines = Vec<Vec<u8>>;
-
-pub fn joined(lines: &[Vec<u8>]) -> Vec<u8> {
-    lines.iter().flat_map(|line| [line, &b"\n"[..]].concat()).collect()
-}
+use crate::spoilt::{joined, Lines};
 
 fn any_formula(rng: &mut Rng, n: usize) -> Vec<u8> {
     match rng.below(8) {
@@ -63,8 +57,20 @@ pub fn any_sheet(rng: &mut Rng, n: usize) -> Lines {
 }
 
 pub fn any_sheet_of(rng: &mut Rng, n: usize, m: usize, percent: u32) -> Lines {
+    let rules = any_rules_of(rng, n, m, percent);
+    [rules, any_question_of(rng, n, m)].concat()
+}
+
+/// The lines of a sheet before its team.
+pub fn any_rules_of(rng: &mut Rng, n: usize, m: usize, percent: u32) -> Lines {
     let mut lines = vec![format!("size {n} {m}").into_bytes()];
     lines.extend(any_rights(rng, n, m, percent));
+    lines
+}
+
+/// The lines of a sheet from its team on.
+pub fn any_question_of(rng: &mut Rng, n: usize, m: usize) -> Lines {
+    let mut lines = Lines::new();
     let posts = shuffled(rng, (1..=m).collect());
     let count = rng.between(1, m);
     lines.push(
