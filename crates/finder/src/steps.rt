@@ -2,6 +2,7 @@
 // lower rank, or a stop. The two tables have, for each setting and present side, a bit for each post
 // of the team that may set it, or look at it.
 use finder_sides::SIDES;
+use ground::POSTS_MOST;
 use ground::SETTINGS_MOST;
 use knowledge::Knowledge;
 use knowledge_acts::Act;
@@ -25,6 +26,9 @@ const LOOKS: u8 = 2 * SETTINGS;
 
 const PAIRS: u8 = 3 * SETTINGS;
 
+// The index of the last post that there can be.
+const LAST_POST: u8 = POSTS_MOST as u8 - 1;
+
 pub enum Step {
     Stop,
     Do(Act),
@@ -36,13 +40,13 @@ fn lowest(posts: u8) -> u8
     ensures { λ r. ⌜ Least (λ q. T (bit posts q)) r × (r < 8) ⌝ }
 {
     let mut q: u8 = 0;
-    while q < 7 {
+    while q < LAST_POST {
         if (posts >> q) % 2 == 1 {
             return q;
         }
         q += 1;
     }
-    7
+    LAST_POST
 }
 
 // The knowledge number after a set. For this crate alone: k has at most seven digits.

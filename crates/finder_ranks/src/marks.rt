@@ -23,6 +23,12 @@ fn mark_of(made: u8, learnt: u8) -> u8
     0
 }
 
+// How many digits a setting may have.
+const DIGITS: u8 = 7;
+
+// The states that differ in setting 0 alone stand together, as many.
+const TOGETHER: usize = DIGITS as usize;
+
 // The seven states that differ in setting 0 alone: `rest` has the digits of the other settings.
 fn mark_seven(n: u8, rest: usize, made: &[u8; SIDES], learnt: &[u8; SIDES], ranks: &mut [u8])
     requires { ⌜ (0 < n) × (n ≤ 7) × (rest < 7 ^ (n - 1)) × (7 ^ n ≤ length (now ranks)) ⌝ }
@@ -32,10 +38,10 @@ fn mark_seven(n: u8, rest: usize, made: &[u8; SIDES], learnt: &[u8; SIDES], rank
     let now = parts.now * 3;
     let start = parts.start * 3;
     let mut digit: u8 = 0;
-    while digit < 7 {
+    while digit < DIGITS {
         let done = made[now + now_of(digit)];
         let known = learnt[start + start_of(digit)];
-        ranks[rest * 7 + digit as usize] = mark_of(done, known);
+        ranks[rest * TOGETHER + digit as usize] = mark_of(done, known);
         digit += 1;
     }
 }

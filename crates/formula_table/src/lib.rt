@@ -1,6 +1,8 @@
 // The truths of a formula at all 128 valuations of seven settings, in two words: its table while it is worked
 // on. A letter, `~`, `&` and `|` are one or two operations. Every function takes any words and any number;
 // nothing is refused.
+use ground::SETTINGS_MOST;
+use ground::TABLE;
 ghost use mathlib.Core.Path.{_≡_};
 ghost use mathlib.Core.Bool.{true, false, not, _&&_, _||_, cond};
 ghost use Prim.Native.Nat.{ℕ, _<_, _^_};
@@ -13,6 +15,9 @@ pub struct Truths {
     pub low: u64,
     pub high: u64,
 }
+
+// The bytes of a word.
+const WORD: usize = TABLE / 2;
 
 const EVERY: u64 = 0xffff_ffff_ffff_ffff;
 
@@ -94,7 +99,7 @@ impl Truths {
     pub fn within(self, n: usize) -> Truths
         ensures { λ r. ⌜ WordsOf r (λ v. has self v && ltb v (2 ^ n)) ⌝ }
     {
-        if 7 <= n {
+        if SETTINGS_MOST <= n {
             return self;
         }
         if n == 6 {
@@ -113,7 +118,7 @@ impl Truths {
     fn word(self, j: usize) -> u64
         ensures { λ r. ⌜ r ≡ cond (ltb j 8) (self .low) (self .high) ⌝ }
     {
-        if j < 8 {
+        if j < WORD {
             return self.low;
         }
         self.high
@@ -123,16 +128,16 @@ impl Truths {
         ensures { λ r. ⌜ r ≡ wordsByte self j ⌝ }
     {
         let word = self.word(j);
-        ((word >> (8 * (j % 8))) % 256) as u8
+        ((word >> (8 * (j % WORD))) % 256) as u8
     }
 
     // The sixteen bytes of the table.
-    pub fn bytes(self) -> [u8; 16]
+    pub fn bytes(self) -> [u8; TABLE]
         ensures { λ r. ⌜ BytesOf self r ⌝ }
     {
-        let mut table = [0u8; 16];
+        let mut table = [0u8; TABLE];
         let mut j = 0;
-        while j < 16 {
+        while j < TABLE {
             table[j] = self.byte(j);
             j += 1;
         }
