@@ -18,10 +18,10 @@ use Rattle.book.proofs.RoundTrip.{written-sound}
 use Rattle.knowledge.specs.Goal.{Goal}
 use Rattle.question.specs.declared.Question.{Question}
 use Rattle.print_answer.specs.Printed.{refusedText, Prints}
-use Rattle.sheet_words.specs.Words.{firstPiece, split, newline}
+use Rattle.sheet_words.specs.Words.{firstPiece, split, newline, nonePassed}
 use Rattle.sheet_rules.specs.Rules.{Rules}
 use Rattle.sheet_rules.specs.Forms.{isOfRules}
-use Rattle.sheet_rules.specs.Reading.{upTo, rulesOf, nonePassed}
+use Rattle.sheet_rules.specs.Reading.{upTo, rulesOf}
 use Rattle.sheet_rules.specs.Reading.{refused as rules-refused}
 use Rattle.sheet_rules.specs.Meaning.{Meaning as RulesMeaning, whole, wholeReading, rulesMeaning}
 use Rattle.sheet_rules.specs.Meaning.{refused as text-refused, stated as rules-stated}
@@ -30,7 +30,7 @@ use Rattle.sheet_rules.proofs.MeaningLaws.{MeaningGoes, meaning-goes}
 use Rattle.sheet_question.specs.Asked.{Asked}
 use Rattle.sheet_question.specs.Forms.{isTeam}
 use Rattle.sheet_question.specs.Question.{QuestionMeaning, asked, questionMeaning}
-use Rattle.sheet_question.specs.Question.{refused as question-refused, nonePassed as noneAsked}
+use Rattle.sheet_question.specs.Question.{refused as question-refused}
 use Rattle.sheet_reading.specs.Sheet.{sheetOf}
 use Rattle.sheet_reading.specs.Reading.{Meaning}
 use Rattle.sheet_reading.specs.Grammar.{ended, sizeText}
@@ -93,7 +93,7 @@ module _ (R Q : List ℕ) (short : length (R ++ Q) ≤ 32768) (plain : T (nonePa
     stray-refuse-book room answer after b = refused-so room answer after (subst (λ (o : RulesMeaning). MakesBook o room answer after) (ap wholeReading e ∙ stray-left rules L line another more) b)
 
   -- ---- the rules are whole, of at most 5 settings
-  module _ {rules : Rules} (e : rulesMeaning R ≡ rules-stated rules) (few : rules .size .settings ≤ 5) (without : T (noneAsked (split newline Q))) where
+  module _ {rules : Rules} (e : rulesMeaning R ≡ rules-stated rules) (few : rules .size .settings ≤ 5) (without : T (nonePassed (split newline Q))) where
     abbrev n : ℕ
     n = rules .size .settings
 

@@ -14,7 +14,7 @@ const QUESTION_WORD: usize = 2;
 // One byte more than a book and a question may have, so that longer ones are seen to be too long.
 const BOOK_READ_MOST: usize = sheet_book::BOOK_MOST + 1;
 
-const QUESTION_READ_MOST: usize = sheet_question::QUESTION_MOST + 1;
+const QUESTION_READ_MOST: usize = sheet_words::TEXT_MOST + 1;
 
 // 7^7: the ranks of seven settings.
 const RANKS_MOST: usize = 7 * 7 * 7 * 7 * 7 * 7 * 7;

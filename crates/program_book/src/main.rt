@@ -9,7 +9,7 @@ const RULES_WORD: usize = 1;
 const BOOK_WORD: usize = 2;
 
 // One byte more than rules may have, so that a longer text is seen to be too long.
-const READ_MOST: usize = sheet_rules::TEXT_MOST + 1;
+const READ_MOST: usize = sheet_words::TEXT_MOST + 1;
 
 // Makes the file, and says what came of it.
 fn store(book: &[u8]) {

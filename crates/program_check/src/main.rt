@@ -7,7 +7,7 @@ use program_files::Input;
 use program_files::read_named;
 use program_outcome::Outcome;
 use sheet_check::CheckTold;
-use sheet_question::QUESTION_MOST;
+use sheet_words::TEXT_MOST;
 ghost use mathlib.Core.Path.{_≡_};
 ghost use Prim.Native.Nat.{_<_, _≤_};
 
@@ -21,7 +21,7 @@ const PLAN_WORD: usize = 3;
 // book of 7 settings has 8 blocks.
 const BOOK_ROOM: usize = BLOCK * 8 + 1;
 
-const QUESTION_ROOM: usize = QUESTION_MOST + 1;
+const QUESTION_ROOM: usize = TEXT_MOST + 1;
 
 const PLAN_ROOM: usize = PLAN_TEXT_MOST + 1;
 

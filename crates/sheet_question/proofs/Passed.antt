@@ -7,11 +7,11 @@ use Prim.Native.Nat.{ℕ, suc}
 use lib.Dec.{T}
 use lib.ListN.{length}
 use Rattle.ground.proofs.Bools.{lt-or-ge, T→false, and-left, and-right}
-use Rattle.sheet_words.specs.Words.{split, newline, passedOver}
+use Rattle.sheet_words.specs.Words.{split, newline, passedOver, nonePassed}
 use Rattle.sheet_words.specs.Steps.{fault, next}
 use Rattle.sheet_question.specs.Asked.{Asked, nothingAsked}
 use Rattle.sheet_question.specs.LineSteps.{AskedStep, lineStep}
-use Rattle.sheet_question.specs.Question.{askedFrom, questionMeaning, nonePassed}
+use Rattle.sheet_question.specs.Question.{askedFrom, questionMeaning}
 use Rattle.sheet_question.specs.declared.desk.Due.{Due}
 use Rattle.sheet_question.specs.declared.desk.Due.the-variants.{Team}
 use Rattle.sheet_question.proofs.StepLaws.{not-passed}

@@ -39,9 +39,3 @@ askedFrom passes n m L due a (line ∷ another ∷ more) =
 unfoldable pub questionMeaning : ℕ → Bool → ℕ → ℕ → List ℕ → QuestionMeaning
 questionMeaning before passes n m text =
     cond (ltb 65536 (length text)) (refused SheetLength 0) (askedFrom passes n m (suc before) Team nothingAsked (split newline text))
-
--- a text "without `#` lines and empty lines": none of its lines is one; what follows the last byte 10 is no line
-unfoldable pub nonePassed : List (List ℕ) → Bool
-nonePassed [] = true
-nonePassed (rest ∷ []) = true
-nonePassed (line ∷ another ∷ more) = not (passedOver line) && nonePassed (another ∷ more)

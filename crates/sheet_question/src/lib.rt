@@ -14,6 +14,7 @@ pub use desk::AskedDesk;
 use ground::POSTS_MOST;
 use ground::SETTINGS_MOST;
 use refusal::Refusal;
+use sheet_words::TEXT_MOST;
 use sheet_words::piece_end;
 ghost use mathlib.Core.Path.{_≡_};
 ghost use mathlib.Core.Bool.{true};
@@ -24,9 +25,6 @@ ghost use Rattle.sheet_question.specs.Asked.{Asked, nothingAsked};
 ghost use Rattle.sheet_question.specs.Desk.{AskedOnDesk};
 ghost use Rattle.sheet_question.specs.Question.{ending, askedFrom, questionMeaning};
 ghost use Rattle.sheet_question.specs.Reads.{within, ReadsQuestion};
-
-// The most bytes of a question text: "at most 65,536 bytes (else 24)".
-pub const QUESTION_MOST: usize = 65536;
 
 // The most formulas to learn: "up to four `ask F`".
 pub const ASKS_MOST: usize = 4;
@@ -130,7 +128,7 @@ pub fn question_of(
 ) -> QuestionReading
     ensures { λ r. ⌜ ReadsQuestion (within 7 settings) (questionMeaning before passes (within 7 settings) (within 8 posts) (now (text .entry))) (r .told) (r .desk) ⌝ }
 {
-    if QUESTION_MOST < text.len() {
+    if TEXT_MOST < text.len() {
         return refused(Refusal::SheetLength, 0);
     }
     let n = within(SETTINGS_MOST as u8, settings);

@@ -13,12 +13,12 @@ use Rattle.ground.proofs.Bools.{decide, T→false}
 use Rattle.refusal.specs.declared.Refusal.{Refusal}
 use Rattle.refusal.specs.declared.Refusal.the-variants.{Malformed, Twice, SheetLength}
 use Rattle.refusal.specs.Refusals.{number}
-use Rattle.sheet_words.specs.Words.{firstPiece, split, newline, begins, twice}
+use Rattle.sheet_words.specs.Words.{firstPiece, split, newline, begins, twice, nonePassed}
 use Rattle.sheet_words.specs.Steps.{next, unless}
 use Rattle.sheet_words.proofs.Split.{joined, some-piece}
 use Rattle.sheet_rules.specs.Rules.{Rules}
 use Rattle.sheet_rules.specs.Forms.{isRule, isOfRules}
-use Rattle.sheet_rules.specs.Reading.{Reading, upTo, rulesFrom, rulesRead, rulesOf, nonePassed}
+use Rattle.sheet_rules.specs.Reading.{Reading, upTo, rulesFrom, rulesRead, rulesOf}
 use Rattle.sheet_rules.specs.Reading.{refused as rules-refused}
 use Rattle.sheet_rules.specs.Meaning.{whole, wholeReading, rulesMeaning}
 use Rattle.sheet_rules.specs.Meaning.{stated as rules-stated}
@@ -31,7 +31,6 @@ use Rattle.sheet_question.specs.Asked.{Asked, nothingAsked}
 use Rattle.sheet_question.specs.Forms.{isTeam, teamOf}
 use Rattle.sheet_question.specs.LineSteps.{withTeam, teamStep}
 use Rattle.sheet_question.specs.Question.{QuestionMeaning, asked, askedFrom, questionMeaning}
-use Rattle.sheet_question.specs.Question.{nonePassed as noneAsked}
 use Rattle.sheet_question.specs.Question.{refused as question-refused}
 use Rattle.sheet_question.specs.declared.desk.Due.the-variants.{Team, Known}
 use Rattle.sheet_question.proofs.StepLaws.{line-by}
@@ -150,7 +149,7 @@ module _ (R Q : List ℕ) (short : length (R ++ Q) ≤ 32768) (none : T (nonePas
         (z .0) (omega (arith, z .1)) short
 
   -- WHOLE RULES, of at most 5 settings, and a question
-  module _ {rules : Rules} (e : rulesMeaning R ≡ rules-stated rules) (few : rules .size .settings ≤ 5) (without : T (noneAsked (split newline Q))) where
+  module _ {rules : Rules} (e : rulesMeaning R ≡ rules-stated rules) (few : rules .size .settings ≤ 5) (without : T (nonePassed (split newline Q))) where
     abbrev n : ℕ
     n = rules .size .settings
 

@@ -8,12 +8,12 @@ use lib.Dec.{T, ltb}
 use lib.ListN.{length}
 use Rattle.ground.proofs.Bools.{decide, T→true, T→false, and-left, and-right}
 use Rattle.refusal.specs.declared.Refusal.the-variants.{SheetLength}
-use Rattle.sheet_words.specs.Words.{split, newline, passedOver}
+use Rattle.sheet_words.specs.Words.{split, newline, passedOver, nonePassed}
 use Rattle.sheet_words.specs.Steps.{Step, fault, next}
 use Rattle.sheet_rules.specs.Rules.{Rules}
 use Rattle.sheet_rules.specs.Forms.{isOfRules}
 use Rattle.sheet_rules.specs.Steps.{sizeStep, lineStep}
-use Rattle.sheet_rules.specs.Reading.{refused, rulesFrom, afterSize, sizeFrom, rulesRead, rulesOf, nonePassed}
+use Rattle.sheet_rules.specs.Reading.{refused, rulesFrom, afterSize, sizeFrom, rulesRead, rulesOf}
 use Rattle.sheet_rules.proofs.ReadLaws.{rules-line, rules-end}
 
 -- ---- one line

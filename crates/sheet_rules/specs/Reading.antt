@@ -47,9 +47,3 @@ rulesRead passes most pieces = sizeFrom passes most 1 pieces
 -- of a text: "at most 65,536 bytes (else 24)"
 unfoldable pub rulesOf : Bool → ℕ → List ℕ → Reading
 rulesOf passes most text = cond (ltb 65536 (length text)) (refused SheetLength 0) (rulesRead passes most (split newline text))
-
--- "without `#` lines and empty lines": no line that ends in byte 10 is passed over
-unfoldable pub nonePassed : List (List ℕ) → Bool
-nonePassed [] = true
-nonePassed (rest ∷ []) = true
-nonePassed (line ∷ another ∷ more) = not (passedOver line) && nonePassed (another ∷ more)

@@ -14,6 +14,7 @@ use crate::line::rules_line;
 use crate::line::size_line;
 pub use desk::RulesDesk;
 use refusal::Refusal;
+use sheet_words::TEXT_MOST;
 use sheet_words::piece_end;
 ghost use mathlib.Core.Path.{_≡_};
 ghost use mathlib.Core.List.{[]};
@@ -27,11 +28,8 @@ ghost use Rattle.sheet_rules.specs.Reading.{rulesFrom, afterSize, rulesO
 ghost use Rattle.sheet_rules.specs.Meaning.{rulesMeaning};
 ghost use Rattle.sheet_rules.specs.Reads.{ReadsUpto, ReadsRules};
 
-// "Rules and question texts have at most 65,536 bytes (else 24)."
-pub const TEXT_MOST: usize = 65536;
-
 // "N up to 7": the most settings of a text of rules.
-const RULES_SETTINGS_MOST: u8 = 7;
+const RULES_SETTINGS_MOST: u8 = ground::SETTINGS_MOST as u8;
 
 // What is said of the rules at the beginning of a text.
 pub enum RulesTold {

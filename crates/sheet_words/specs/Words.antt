@@ -45,6 +45,12 @@ unfoldable pub passedOver : List ℕ → Bool
 passedOver [] = true
 passedOver (c ∷ line) = eqb c (byte "#")
 
+-- the pieces of a text "without `#` lines and empty lines": none of its lines is one; what follows the last byte 10 is no line
+unfoldable pub nonePassed : List (List ℕ) → Bool
+nonePassed [] = true
+nonePassed (rest ∷ []) = true
+nonePassed (line ∷ another ∷ more) = not (passedOver line) && nonePassed (another ∷ more)
+
 -- ---- names
 
 -- c is one of the `count` signs from `first` on

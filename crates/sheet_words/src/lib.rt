@@ -9,6 +9,9 @@ pub use names::marks_of;
 ghost use mathlib.Core.Path.{_≡_};
 ghost use Rattle.sheet_words.specs.Words.{pieceEnd, begins, passedOver, among};
 
+// "Rules and question texts have at most 65,536 bytes (else 24)."
+pub const TEXT_MOST: usize = 65536;
+
 // Where the piece that begins at `at` ends: the place of the next mark, or the text's end; `at` itself
 // where that is past the end.
 pub fn piece_end(text: &[u8], at: usize, mark: u8) -> usize
