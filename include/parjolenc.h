@@ -1,4 +1,4 @@
-// The C interface of Parjolenc, version 1.0, for x86-64 Linux: what a host has to know stands in this file.
+// The C interface of Parjolenc, version 1.1, for x86-64 Linux: what a host has to know stands in this file.
 //
 // `rt staticlib exports` writes the library. A program is compiled with it by the ordinary line, in C99 or C++11:
 //
@@ -14,6 +14,9 @@
 // Bits at or past 2^n are 0. `team` has bit q for the post with index q; `known` has bit i for setting i, and `values`
 // the same bit where it is known to be true. The learn tables, 0 to 4, stand one after the other. Where there is
 // nothing to make, the make formula is `1`.
+//
+// Rules and questions are also taken as text: a rules text, a question text, or a sheet, which is the one followed by
+// the other. Their lines are told below, under "texts".
 //
 // WHAT A CALLER OWES. A slice is a pointer and a length. Nothing has to be checked first: bytes and lengths of any kind
 // are answered, and nothing but the lent bytes is written. What is owed is what C asks of any pointer: the bytes are
@@ -35,9 +38,9 @@ extern "C" {
 // The version of this interface, and not of what is behind it. The first number grows where a program that was
 // written for the header before it would not compile or would mean something else, the second where something is added.
 #define PJ_VERSION_FIRST 1
-#define PJ_VERSION_SECOND 0
+#define PJ_VERSION_SECOND 1
 #define PJ_VERSION (100 * PJ_VERSION_FIRST + PJ_VERSION_SECOND)
-#define PJ_VERSION_TEXT "1.0"
+#define PJ_VERSION_TEXT "1.1"
 
 typedef unsigned char pj_u8;
 typedef unsigned long long pj_u64;
@@ -50,7 +53,7 @@ static inline pj_u64 pj_number(pj_u64 result) { return (result >> 32) & 0xff; }
 static inline pj_u64 pj_second(pj_u64 result) { return result >> 40; }
 static inline pj_u64 pj_place(pj_u64 result) { return result & 0xffffffff; }
 
-// A success of pj_book_read: n and m.
+// A success of pj_rules, pj_sheet and pj_ask is a length. A success of pj_book_read: n and m.
 static inline pj_u64 pj_settings(pj_u64 result) { return result >> 8; }
 static inline pj_u64 pj_posts(pj_u64 result) { return result & 0xff; }
 
@@ -61,8 +64,10 @@ static inline pj_u64 pj_length(pj_u64 result) { return result & 0xffff; }
 // The numbers of the refusals, and when each is given: the words of docs/CONTRACTS.md, "Every refusal", which names the
 // definitions. Of several the first is given, in this order: pj_formula_read 5, 1, the lowest place of 2 or 3, 4;
 // pj_book_read 6, 7, 8, 9, 15; pj_book_write 5, 8, 6, 9, 15; pj_find 6 to 14; pj_plan_check 6 to 12, 16, then the
-// first of 17 to 21 as the plan is read. pj_sheet prints 1 to 4 and 22 to 25, with the sheet's line as the place.
-// The place is 0 where none is named in brackets.
+// first of 17 to 21 as the plan is read; pj_rules 24, line by line 22, 23 and the formula's 1 to 4, then 15.
+// pj_sheet and pj_ask print theirs: pj_sheet 24, line by line 22, 23 and 1 to 4, and 25 directly after line 1; pj_ask
+// the book's 6 to 9, 24, line by line 22, 23 and 1 to 4, then 13.
+// The place is 0 where none is named in brackets. Of a text the place of 1 to 4 is the line.
 enum {
     // The formula has no byte or more than 255.
     PJ_REFUSED_FORMULA_LENGTH = 1,
@@ -108,11 +113,12 @@ enum {
     PJ_REFUSED_TOO_SOON = 20,
     // A byte follows a whole plan. [its index]
     PJ_REFUSED_LEFT_OVER = 21,
-    // A line of the sheet has not its form, is absent or is out of place. [the line]
+    // A line has not its form, is absent or is out of place. [the line]
     PJ_REFUSED_MALFORMED = 22,
-    // A line of the sheet names a right, a post or a setting that was named already. [the line]
+    // A line names a right, a post or a setting that was named already. [the line]
     PJ_REFUSED_TWICE = 23,
-    // The sheet has more than 32,768 bytes.
+    // The sheet has more than 32,768 bytes, the text of rules or of a question more than 65,536, or that of a plan more
+    // than 524,288.
     PJ_REFUSED_SHEET_LENGTH = 24,
     // The sheet's size has 6 or 7 settings, and the program takes 5. [1]
     PJ_REFUSED_SHEET_SETTINGS = 25
@@ -133,14 +139,17 @@ enum {
     PJ_RANKS_MOST = 823543, // of the ranks of seven settings: 7^7
     PJ_PLAN_MOST = 32640,   // of a plan: 2^7 branches of 254 acts and a stop
     PJ_SHEET_MOST = 32768,  // of a sheet
-    PJ_ANSWER_MOST = 28234  // of what pj_sheet prints
+    PJ_ANSWER_MOST = 28234, // of what pj_sheet prints
+    PJ_TEXT_MOST = 65536,   // of a rules text and of a question text
+    PJ_ASK_MOST = 456970    // of what pj_ask prints: 10, and 14 for each byte of a plan
 };
 
 // The room that each function needs for n settings, 1 to 7. With rooms of these lengths 13, 14 and 15 are never given.
-// pj_formula_read writes a table, and pj_plan_check nothing; pj_sheet takes any room, and fits PJ_ANSWER_MOST.
-//   `rights` of pj_book_read, 256 × n, and `book` of pj_book_write, 512 × (1 + n): no less will do
+// pj_formula_read writes a table, and pj_plan_check nothing; `out` of pj_sheet and of pj_ask may have any length, and
+// PJ_ANSWER_MOST and PJ_ASK_MOST fit all that they print. Where n is not known yet, the most of each will do.
+//   `rights` of pj_book_read, 256 × n, and `book` of pj_book_write and pj_rules, 512 × (1 + n): no less will do
 //   `plan` of pj_find, 2^n × (2^(n+1) - 1): no plan is longer, and room for the plan that is found will do
-//   `ranks` of pj_find, 7^n: no less will do
+//   `ranks` of pj_find and pj_ask, 7^n: no less will do
 #define PJ_RIGHTS_ROOM(n) (PJ_TABLES * (n))
 #define PJ_BOOK_ROOM(n) (PJ_BLOCK * (1 + (n)))
 #define PJ_PLAN_ROOM(n) ((1 << (n)) * ((2 << (n)) - 1))
@@ -150,17 +159,19 @@ enum {
 // Stack that a call takes at most, whatever its arguments, rounded up to 4,096 bytes. It is measured and not proved:
 // tests/host/stack.c paints a stack, calls the function where it goes deepest, and finds the lowest byte that changed.
 // On x86-64, with the library that kit 5b made on 2026-11-16, in the order below: 102,752 bytes (255 brackets: 400 each
-// and 752), 232, 200, 113,096 (a plan of height 254: 208 for each act and 60,264), 552, and 132,144 (a sheet with 255
-// brackets in a formula). The frames in the object code add up to the same on the deepest path. memcpy and memset are
-// counted, but the first call of one in a process takes more where the dynamic linker binds it then: 3,152 bytes were
-// seen, for which there is room.
+// and 752), 232, 200, 113,096 (a plan of height 254: 208 for each act and 60,264), 552, 142,608 and 122,432 (a look rule
+// of 255 brackets), and 146,024 (a plan of height 254). The frames in the object code add up to the same on the deepest
+// path. memcpy and memset are counted, but the first call of one in a process takes more where the dynamic linker binds
+// it then: 3,152 bytes were seen, for which there is room, since nothing that calls itself calls them.
 enum {
     PJ_STACK_FORMULA_READ = 106496,
     PJ_STACK_BOOK_READ = 4096,
     PJ_STACK_BOOK_WRITE = 4096,
     PJ_STACK_FIND = 114688,
     PJ_STACK_PLAN_CHECK = 4096,
-    PJ_STACK_SHEET = 135168
+    PJ_STACK_SHEET = 143360,
+    PJ_STACK_RULES = 122880,
+    PJ_STACK_ASK = 147456
 };
 
 // ---- rights and books
@@ -185,10 +196,29 @@ static inline int pj_post(pj_u8 byte) { return (byte - 1) % 8; }
 // The byte of an act.
 #define PJ_ACT(kind, setting, post) (1 + ((kind) * 7 + (setting)) * 8 + (post))
 
+// ---- texts
+
+// A rules text has lines of the first three kinds, and a question text of the other four, in this order; a sheet has
+// them all. P is a setting's letter, G a post's digit, F a formula. Words are split by one space, and byte 10 ends each
+// line, the last one too. In rules and question texts lines that begin with `#` and empty lines are passed over, and
+// line numbers, which begin with 1, count them; in a sheet such a line is refused.
+//
+//     size N M       n, 1 to 7, and m: one line; in a sheet n is 1 to 5
+//     read P G F     post G may look at P where F holds: any number of lines, mixed with `write`
+//     write P G F    post G may set P where F holds; a rule that is not stated is `0`
+//     team G ..      the team, one or more posts: one line
+//     known ..       what is known at the start, `a` for true and `~a` for false, or `known` alone: one line
+//     make F         the make formula: one line
+//     ask F          a learn formula: none to four lines
+//
+// What is printed is `reach H`, H the height, and a line for each byte of the plan; or `cannot`; or a refusal, `refused
+// NUMBER PLACE`. A plan byte's line is the count of acts before it on its way, and `stop`, `look P G` or `set P G V`, V
+// 0 or 1. Each line ends in byte 10.
+
 // ---- knowledge
 
 // What a team knows of one setting is a digit, 0 to 6; of all settings it is the sum of digit × 7^i, the knowledge
-// number. `ranks` of pj_find has a byte for each: the least height of a plan from there, or 255 where there is none.
+// number. `ranks` has a byte for each: the least height of a plan from there, or 255 where there is none.
 //
 //     digit                                0        1        2      3      4      5      6
 //     the value at the start is      unknown  unknown  unknown  false  false   true   true
@@ -242,9 +272,20 @@ pj_u64 pj_plan_check(const pj_u8 *book, pj_u64 book_length, pj_u8 team, pj_u8 kn
                      pj_u64 make_length, const pj_u8 *learn, pj_u64 learn_length, const pj_u8 *plan,
                      pj_u64 plan_length);
 
-// What the program prints for a sheet, at the start of `out` as far as it fits; the length of all of it. The rest of
-// `out` stays as it was. A refusal is printed: `refused NUMBER LINE`.
+// What is printed for a sheet, at the start of `out` as far as it fits; the length of all of it. The rest of `out` stays
+// as it was. A refusal is printed too, its place is the line: `refused NUMBER LINE`.
 pj_u64 pj_sheet(const pj_u8 *sheet, pj_u64 sheet_length, pj_u8 *out, pj_u64 out_length);
+
+// The book of a rules text, at the start of `book`. The book's length, or a refusal, which leaves `book` as it was and
+// whose place is the text's line (0 for 24 and 15). The rest of `book` stays as it was.
+pj_u64 pj_rules(const pj_u8 *rules, pj_u64 rules_length, pj_u8 *book, pj_u64 book_length);
+
+// What is printed for a question text that is put to a book, at the start of `out` as far as it fits; the length of all
+// of it. The rest of `out` stays as it was. A refusal is printed too: the book's with its place, the text's with its
+// line, and `refused 13 0` for a rank table that is too short. A refusal leaves `ranks` as it was; but for it the first
+// 7^n bytes hold all ranks, as pj_find leaves them, and later bytes stay as they were.
+pj_u64 pj_ask(const pj_u8 *book, pj_u64 book_length, const pj_u8 *question, pj_u64 question_length, pj_u8 *ranks,
+              pj_u64 ranks_length, pj_u8 *out, pj_u64 out_length);
 
 #ifdef __cplusplus
 }

@@ -1,9 +1,10 @@
 // Each refusal of the header's enum is provoked, and the number and the place that come are those that the header names.
-// Both halves of a sentence that has two are tried. The last test is that none was left out.
+// Both halves of a sentence that has two are tried, and every refusal of a text by each function that takes one. The
+// last test is that none was left out.
 #include "tell.h"
 
 static pj_u8 rights[PJ_RIGHTS_ROOM(3)], book[PJ_BOOK_ROOM(3)], other[PJ_BOOK_ROOM(3)], room[PJ_BOOK_MOST + PJ_BLOCK];
-static pj_u8 ranks[PJ_RANKS_ROOM(3)], plan[PJ_PLAN_MOST + 1], make[PJ_TABLE], out[64], sheet[PJ_SHEET_MOST + 1];
+static pj_u8 ranks[PJ_RANKS_ROOM(3)], plan[PJ_PLAN_MOST + 1], make[PJ_TABLE], out[64], text[PJ_TEXT_MOST + 1];
 static int seen[26];
 
 static void refused(const char *name, pj_u64 result, pj_u64 number, pj_u64 place) {
@@ -11,19 +12,49 @@ static void refused(const char *name, pj_u64 result, pj_u64 number, pj_u64 place
     if (number < 26 && pj_number(result) == number) seen[number] = 1;
 }
 
-static void printed(const char *name, const char *text, pj_u64 length, pj_u64 number, const char *line) {
-    fill(out, sizeof out, 0);
-    pj_u64 size = pj_sheet((const pj_u8 *)text, length, out, sizeof out);
+// Whether `out` has the line `refused NUMBER PLACE`, of this length.
+static int says(pj_u64 size, pj_u64 number, const char *place) {
     char words[24] = "refused ";
     int at = 8;
     if (number >= 10) words[at++] = (char)('0' + number / 10);
     words[at++] = (char)('0' + number % 10);
     words[at++] = ' ';
-    for (int i = 0; line[i] != 0; i++) words[at++] = line[i];
+    for (int i = 0; place[i] != 0; i++) words[at++] = place[i];
     words[at++] = '\n';
-    int right = size == (pj_u64)at && same_text(out, words);
+    return size == (pj_u64)at && same_text(out, words);
+}
+
+static void printed(const char *name, const char *sheet, pj_u64 length, pj_u64 number, const char *line) {
+    fill(out, sizeof out, 0);
+    int right = says(pj_sheet((const pj_u8 *)sheet, length, out, sizeof out), number, line);
     test(name, right);
     if (number < 26 && right) seen[number] = 1;
+}
+
+// A text of rules that pj_rules refuses with this line, and leaves the room as it was.
+static void no_book(const char *name, const char *rules, pj_u64 length, pj_u64 room_length, pj_u64 number, pj_u64 line) {
+    fill(room, sizeof room, 170);
+    pj_u64 result = pj_rules((const pj_u8 *)rules, length, room, room_length);
+    test(name, pj_number(result) == number && pj_place(result) == line && pj_second(result) == 0 &&
+                   all_are(room, sizeof room, 170));
+}
+
+static void rules_refused(const char *name, const char *rules, pj_u64 number, pj_u64 line) {
+    no_book(name, rules, length_of(rules), sizeof room, number, line);
+}
+
+// What pj_ask prints for a refusal. It leaves the rank table as it was, and what is past the line.
+static void no_answer(const char *name, const pj_u8 *asked_of, pj_u64 book_length, const char *question, pj_u64 length,
+                      pj_u64 ranks_length, pj_u64 number, const char *place) {
+    fill(out, sizeof out, 170);
+    fill(ranks, sizeof ranks, 170);
+    pj_u64 size = pj_ask(asked_of, book_length, (const pj_u8 *)question, length, ranks, ranks_length, out, sizeof out);
+    test(name, says(size, number, place) && all_are(out + size, sizeof out - size, 170) &&
+                   all_are(ranks, sizeof ranks, 170));
+}
+
+static void question_refused(const char *name, const char *question, pj_u64 number, const char *line) {
+    no_answer(name, book, sizeof book, question, length_of(question), sizeof ranks, number, line);
 }
 
 // Block k of `other`, with the check of its bytes.
@@ -58,6 +89,65 @@ static pj_u64 asked(pj_u8 team, pj_u8 known, pj_u8 values, pj_u64 make_length, p
 
 static pj_u64 checked(const pj_u8 *bytes, pj_u64 length) {
     return pj_plan_check(book, sizeof book, 3, 0, 0, make, sizeof make, 0, 0, bytes, length);
+}
+
+// Order: 24, line by line 22, 23 and the formula's number, then 15.
+static void texts_of_rules(void) {
+    static const char whole[] = "size 3 2\nread a 1 1\n", unended[] = "size 3 2\nread a 1 1";
+    rules_refused("1 in rules: no formula", "size 3 2\nread a 1 \n", PJ_REFUSED_FORMULA_LENGTH, 2);
+    rules_refused("2 in rules: a blank", "size 3 2\nread a 1 a |b\n", PJ_REFUSED_STRAY_BYTE, 2);
+    rules_refused("3 in rules: d of three, after two lines that are passed over", "size 3 2\n# a\n\nwrite a 1 d\n",
+                  PJ_REFUSED_LETTER_PAST, 4);
+    rules_refused("4 in rules: an end too soon", "size 3 2\nwrite a 1 a&\n", PJ_REFUSED_NOT_SENTENCE, 2);
+    rules_refused("22 in rules: no line", "", PJ_REFUSED_MALFORMED, 1);
+    rules_refused("22 in rules: nothing but lines that are passed over", "# a\n\n", PJ_REFUSED_MALFORMED, 3);
+    rules_refused("22 in rules: eight settings", "size 8 1\n", PJ_REFUSED_MALFORMED, 1);
+    rules_refused("22 in rules: post 3 of two", "size 3 2\nread a 3 1\n", PJ_REFUSED_MALFORMED, 2);
+    rules_refused("22 in rules: a team", "size 3 2\nread a 1 1\nteam 1\n", PJ_REFUSED_MALFORMED, 3);
+    rules_refused("22 in rules: a line of one space", "size 3 2\n \n", PJ_REFUSED_MALFORMED, 2);
+    rules_refused("22 in rules: a last line without byte 10", unended, PJ_REFUSED_MALFORMED, 2);
+    rules_refused("22 in rules: a last `#` line without it", "size 3 2\n# a", PJ_REFUSED_MALFORMED, 2);
+    rules_refused("23 in rules: a right stated twice", "size 3 2\nread a 1 1\n\nread a 1 0\n", PJ_REFUSED_TWICE, 4);
+    rules_refused("23 before the formula's", "size 3 2\nread a 1 1\nread a 1 a&\n", PJ_REFUSED_TWICE, 3);
+    no_book("24 in rules: 65,537 bytes", (const char *)text, sizeof text, 0, PJ_REFUSED_SHEET_LENGTH, 0);
+    no_book("15: room for a byte too few of the rules' book", whole, sizeof whole - 1, PJ_BOOK_ROOM(3) - 1,
+            PJ_REFUSED_ROOM, 0);
+    no_book("22 before 15", unended, sizeof unended - 1, 0, PJ_REFUSED_MALFORMED, 2);
+    test("25 is not given: seven settings are taken",
+         pj_rules((const pj_u8 *)"size 7 8\n", 9, room, PJ_BOOK_MOST) == PJ_BOOK_MOST);
+}
+
+// Order: the book's 6 to 9, 24, line by line 22, 23 and the formula's number, then 13.
+static void texts_of_questions(void) {
+    static const char whole[] = "team 1 2\nknown\nmake b\n", wrong[] = "team\n";
+    pj_u64 length = sizeof whole - 1, r = sizeof ranks;
+    no_answer("6 of the book asked", book, sizeof book - 1, whole, length, r, PJ_REFUSED_BOOK_LENGTH, "0");
+    with_byte(PJ_RULE(1, 0, 1), 0, 0);
+    no_answer("7 of the book asked", other, sizeof other, whole, length, r, PJ_REFUSED_CHECK, "2");
+    with_byte(1, 9, 1);
+    no_answer("8 of the book asked", other, sizeof other, whole, length, r, PJ_REFUSED_HEAD, "0");
+    with_byte(PJ_RULE(2, 1, 0) + 1, 1, 1);
+    no_answer("9 of the book asked", other, sizeof other, whole, length, r, PJ_REFUSED_STRAY_BIT, "3");
+    no_answer("9 before 24", other, sizeof other, (const char *)text, sizeof text, 0, PJ_REFUSED_STRAY_BIT, "3");
+    no_answer("24 of a question: 65,537 bytes", book, sizeof book, (const char *)text, sizeof text, 0,
+              PJ_REFUSED_SHEET_LENGTH, "0");
+    question_refused("1 in a question: no formula", "team 1\nknown\nmake \n", PJ_REFUSED_FORMULA_LENGTH, "3");
+    question_refused("2 in a question: a blank", "team 1\nknown\nmake a |b\n", PJ_REFUSED_STRAY_BYTE, "3");
+    question_refused("3 in a question: d, of the book's three", "team 1\nknown\nmake d\n", PJ_REFUSED_LETTER_PAST, "3");
+    question_refused("4 in a question, after two lines that are passed over", "# a\n\nteam 1\nknown\nmake 1\nask a&\n",
+                     PJ_REFUSED_NOT_SENTENCE, "6");
+    question_refused("22 in a question: no line", "", PJ_REFUSED_MALFORMED, "1");
+    question_refused("22 in a question: a size", "size 3 2\nteam 1\nknown\nmake b\n", PJ_REFUSED_MALFORMED, "1");
+    question_refused("22 in a question: post 3 of the book's two", "team 3\nknown\nmake b\n", PJ_REFUSED_MALFORMED, "1");
+    question_refused("22 in a question: d is known, of three", "team 1\nknown d\nmake b\n", PJ_REFUSED_MALFORMED, "2");
+    question_refused("22 in a question: an end before `make`", "team 1\n\nknown\n", PJ_REFUSED_MALFORMED, "4");
+    question_refused("22 in a question: a fifth `ask`", "team 1\nknown\nmake 1\nask a\nask a\nask a\nask a\nask a\n",
+                     PJ_REFUSED_MALFORMED, "8");
+    question_refused("22 in a question: a last line without byte 10", "team 1\nknown\nmake b", PJ_REFUSED_MALFORMED, "3");
+    question_refused("23 in a question: a post twice", "team 1 2 1\nknown\nmake b\n", PJ_REFUSED_TWICE, "1");
+    question_refused("23 in a question: a setting twice", "team 1\nknown a ~a\nmake b\n", PJ_REFUSED_TWICE, "2");
+    no_answer("13 of a question", book, sizeof book, whole, length, r - 1, PJ_REFUSED_RANK_ROOM, "0");
+    no_answer("22 before 13", book, sizeof book, wrong, sizeof wrong - 1, 0, PJ_REFUSED_MALFORMED, "1");
 }
 
 int main(void) {
@@ -133,8 +223,11 @@ int main(void) {
     printed("22: a team line without a post", form, sizeof form - 1, PJ_REFUSED_MALFORMED, "2");
     printed("22: a sheet that ends early", early, sizeof early - 1, PJ_REFUSED_MALFORMED, "2");
     printed("23: a post named twice", twice, sizeof twice - 1, PJ_REFUSED_TWICE, "2");
-    printed("24: a sheet of 32,769 bytes", (const char *)sheet, sizeof sheet, PJ_REFUSED_SHEET_LENGTH, "0");
+    printed("24: a sheet of 32,769 bytes", (const char *)text, PJ_SHEET_MOST + 1, PJ_REFUSED_SHEET_LENGTH, "0");
     printed("25: six settings", many, sizeof many - 1, PJ_REFUSED_SHEET_SETTINGS, "1");
+
+    texts_of_rules();
+    texts_of_questions();
 
     int count = 0;
     for (int i = 1; i < 26; i++) count += seen[i];

@@ -1,5 +1,5 @@
-// The sizes of the header, each exactly and by one byte too few or too many; null where a length is 0; odd addresses; and
-// calls in several threads at once.
+// The sizes of the header, each exactly and by one byte too few or too many, and what is left untouched; null where a
+// length is 0; odd addresses; and calls in several threads at once.
 #include "tell.h"
 
 #ifdef __cplusplus
@@ -12,7 +12,7 @@ int pthread_join(unsigned long thread, void **result);
 #endif
 
 static pj_u8 rights[PJ_RIGHTS_MOST], book[PJ_BOOK_MOST], ranks[PJ_RANKS_MOST], plan[PJ_PLAN_MOST + 1], make[PJ_TABLE];
-static pj_u8 sheet[PJ_SHEET_MOST + 1], out[PJ_ANSWER_MOST];
+static pj_u8 text[PJ_TEXT_MOST + 1], room[PJ_BOOK_MOST + 1], others[PJ_RANKS_MOST], out[PJ_ASK_MOST], all[PJ_ASK_MOST];
 
 static pj_u64 find(pj_u64 n, pj_u64 ranks_length, pj_u64 plan_length) {
     return pj_find(book, PJ_BOOK_ROOM(n), 1, 0, 0, make, PJ_TABLE, 0, 0, ranks, ranks_length, plan, plan_length);
@@ -32,6 +32,66 @@ static int rooms_of(int settings) {
     if (pj_number(found) != 0 || pj_height(found) != (2ULL << n) - 2) return 0;
     if (find(n, PJ_RANKS_ROOM(n), length) != found) return 0;
     return pj_number(find(n, PJ_RANKS_ROOM(n), length - 1)) == PJ_REFUSED_PLAN_ROOM;
+}
+
+// The rules `size N 1` into a room of exactly the book's size, and of a byte less. What is past the book is left, and all
+// of it where the room is too short.
+static int rules_room(int settings) {
+    pj_u64 n = (pj_u64)settings, b = PJ_BOOK_ROOM(n);
+    pj_u8 rules[9] = {'s', 'i', 'z', 'e', ' ', (pj_u8)('0' + settings), ' ', '1', '\n'};
+    fill(rights, sizeof rights, 0);
+    if (pj_book_write(n, 1, rights, PJ_RIGHTS_ROOM(n), book, sizeof book) != 0) return 0;
+    for (int turn = 0; turn < 2; turn++) {
+        pj_u64 lent = turn == 0 ? b : sizeof room;
+        fill(room, sizeof room, 170);
+        if (pj_rules(rules, sizeof rules, room, lent) != b) return 0;
+        if (!same(room, book, b) || !all_are(room + b, sizeof room - b, 170)) return 0;
+    }
+    fill(room, sizeof room, 170);
+    pj_u64 told = pj_rules(rules, sizeof rules, room, b - 1);
+    return pj_number(told) == PJ_REFUSED_ROOM && pj_place(told) == 0 && all_are(room, sizeof room, 170);
+}
+
+// The question of greatest rank: a rank table of exactly 7^n bytes, with more after it, and of a byte less. The first 7^n
+// bytes are those that pj_find leaves, and no other is written, nor any where the table is too short. Then rooms for the
+// answer: of its length, of a byte less, and of none.
+static int ask_rooms(int settings) {
+    pj_u64 n = (pj_u64)settings, b = PJ_BOOK_ROOM(n), k = PJ_RANKS_ROOM(n), t = climb_question(settings, text);
+    if (!rooms_of(settings)) return 0; // its book is there, and its ranks
+    fill(others, sizeof others, 170);
+    fill(all, sizeof all, 170);
+    pj_u64 size = pj_ask(book, b, text, t, others, sizeof others, all, sizeof all);
+    if (size > PJ_ASK_MOST || !same_text(all, "reach ") || !all_are(all + size, sizeof all - size, 170)) return 0;
+    if (!same(others, ranks, k) || !all_are(others + k, sizeof others - k, 170)) return 0;
+    for (pj_u64 less = 0; less < 2; less++) {
+        fill(others, sizeof others, 170);
+        fill(out, sizeof out, 170);
+        if (pj_ask(book, b, text, t, others, k, out, size - less) != size) return 0;
+        if (!same(out, all, size - less) || !all_are(out + size - less, sizeof out - size + less, 170)) return 0;
+        if (!same(others, ranks, k) || !all_are(others + k, sizeof others - k, 170)) return 0;
+    }
+    if (pj_ask(book, b, text, t, others, k, 0, 0) != size) return 0;
+    fill(others, sizeof others, 170);
+    return pj_ask(book, b, text, t, others, k - 1, out, sizeof out) == 13 && same_text(out, "refused 13 0\n") &&
+           all_are(others, sizeof others, 170);
+}
+
+// Rules, and then a question, with a last line `# ..` that fills the text to its most, or to a byte more.
+static int text_most(void) {
+    int right = 1;
+    for (pj_u64 more = 0; more < 2; more++) {
+        pj_u64 length = PJ_TEXT_MOST + more;
+        fill(text, sizeof text, '#');
+        text[length - 1] = '\n';
+        for (pj_u64 i = 0; i < 9; i++) text[i] = (pj_u8) "size 1 1\n"[i];
+        pj_u64 made = pj_rules(text, length, room, sizeof room);
+        right &= more == 0 ? made == PJ_BOOK_ROOM(1) : pj_number(made) == PJ_REFUSED_SHEET_LENGTH && pj_place(made) == 0;
+        for (pj_u64 i = 0; i < 20; i++) text[i] = (pj_u8) "team 1\nknown\nmake 1\n"[i];
+        pj_u64 size = pj_ask(room, PJ_BOOK_ROOM(1), text, length, ranks, sizeof ranks, out, sizeof out);
+        right &= more == 0 ? size == 15 && same_text(out, "reach 0\n0 stop\n")
+                           : size == 13 && same_text(out, "refused 24 0\n");
+    }
+    return right;
 }
 
 static pj_u64 checked(pj_u64 learn_length, pj_u64 plan_length) {
@@ -57,11 +117,22 @@ static int null_for_empty(void) {
     if (pj_number(pj_plan_check(0, 0, 1, 0, 0, make, 16, 0, 0, plan, 1)) != PJ_REFUSED_BOOK_LENGTH) return 0;
     if (pj_number(pj_plan_check(book, b, 1, 0, 0, 0, 0, 0, 0, plan, 1)) != PJ_REFUSED_GOAL) return 0;
     if (pj_number(pj_plan_check(book, b, 1, 0, 0, make, 16, 0, 0, 0, 0)) != PJ_REFUSED_TOO_SOON) return 0;
-    return pj_sheet(0, 0, out, sizeof out) == 13 && same_text(out, "refused 22 1\n") && pj_sheet(0, 0, 0, 0) == 13;
+    if (pj_sheet(0, 0, out, sizeof out) != 13 || !same_text(out, "refused 22 1\n")) return 0;
+    if (pj_sheet(0, 0, 0, 0) != 13) return 0;
+
+    pj_u64 none = pj_rules(0, 0, room, sizeof room), t = climb_question(1, text);
+    if (pj_number(none) != PJ_REFUSED_MALFORMED || pj_place(none) != 1) return 0;
+    if (pj_number(pj_rules((const pj_u8 *)"size 1 1\n", 9, 0, 0)) != PJ_REFUSED_ROOM) return 0;
+    if (pj_ask(0, 0, text, t, ranks, r, out, sizeof out) != 12 || !same_text(out, "refused 6 0\n")) return 0;
+    if (pj_ask(book, b, 0, 0, ranks, r, out, sizeof out) != 13 || !same_text(out, "refused 22 1\n")) return 0;
+    if (pj_ask(book, b, text, t, 0, 0, out, sizeof out) != 13 || !same_text(out, "refused 13 0\n")) return 0;
+    return pj_ask(book, b, text, t, ranks, r, 0, 0) > 13 && pj_ask(0, 0, 0, 0, 0, 0, 0, 0) == 12;
 }
 
-// P6 at addresses with every remainder by 16, from rights to the checked plan.
+// P6 at addresses with every remainder by 16, from rights to the checked plan, and from text to text.
 static int any_address(void) {
+    static const char rules[] = "size 3 2\nwrite a 2 ~c\nwrite b 1 a\nread c 2 1\nwrite c 2 c\n";
+    static const char question[] = "team 1 2\nknown\nmake b\n";
     static pj_u8 memory[16384];
     for (int offset = 0; offset < 16; offset++) {
         pj_u8 *at = memory + offset, *r = at, *b = at + 1001, *k = at + 4001, *p = at + 5001, *t = at + 6001;
@@ -70,15 +141,23 @@ static int any_address(void) {
         pj_u64 found = pj_find(b, PJ_BOOK_ROOM(3), 3, 0, 0, t, PJ_TABLE, 0, 0, k, PJ_RANKS_ROOM(3), p, PJ_PLAN_ROOM(3));
         if (pj_height(found) != 4 || pj_length(found) != 8) return 0;
         if (pj_plan_check(b, PJ_BOOK_ROOM(3), 3, 0, 0, t, PJ_TABLE, 0, 0, p, 8) != 0) return 0;
+        pj_u8 *rules_at = at + 7001, *question_at = at + 8001, *made = at + 9001, *o = at + 12001;
+        for (pj_u64 i = 0; i < sizeof rules - 1; i++) rules_at[i] = (pj_u8)rules[i];
+        for (pj_u64 i = 0; i < sizeof question - 1; i++) question_at[i] = (pj_u8)question[i];
+        pj_u64 length = pj_rules(rules_at, sizeof rules - 1, made, PJ_BOOK_ROOM(3));
+        if (length != PJ_BOOK_ROOM(3) || !same(made, b, length)) return 0;
+        pj_ask(made, length, question_at, sizeof question - 1, k, PJ_RANKS_ROOM(3), o, 200);
+        if (!same_text(o, "reach 4\n0 look c 2\n")) return 0;
     }
     return 1;
 }
 
-// A thread with rooms of its own asks the question of n settings again and again: every answer is the right one.
+// A thread with rooms of its own asks the question of n settings again and again, by its tables and by its text: every
+// answer is the right one.
 struct asker {
     int n, right;
     pj_u8 rights[PJ_RIGHTS_ROOM(5)], book[PJ_BOOK_ROOM(5)], make[PJ_TABLE];
-    pj_u8 ranks[PJ_RANKS_ROOM(5)], plan[PJ_PLAN_ROOM(5)];
+    pj_u8 ranks[PJ_RANKS_ROOM(5)], plan[PJ_PLAN_ROOM(5)], text[32], out[PJ_ANSWER_MOST];
 };
 
 static void *ask(void *given) {
@@ -95,6 +174,11 @@ static void *ask(void *given) {
         pj_u64 told = pj_plan_check(own->book, PJ_BOOK_ROOM(n), 1, 0, 0, own->make, PJ_TABLE, 0, 0, own->plan,
                                     pj_length(found));
         if (told != 0) own->right = 0;
+        pj_u64 t = climb_question(own->n, own->text);
+        pj_u64 size = pj_ask(own->book, PJ_BOOK_ROOM(n), own->text, t, own->ranks, PJ_RANKS_ROOM(n), own->out,
+                             sizeof own->out);
+        static const char *const heights[4] = {"reach 6\n", "reach 14\n", "reach 30\n", "reach 62\n"};
+        if (size > sizeof own->out || !same_text(own->out, heights[own->n - 2])) own->right = 0;
     }
     return 0;
 }
@@ -113,7 +197,6 @@ static int threads(void) {
 
 int main(void) {
     pj_u8 table[PJ_TABLE];
-    pj_u8 text[PJ_FORMULA_MOST + 1];
     for (int i = 0; i <= PJ_FORMULA_MOST; i++) text[i] = i % 2 == 0 ? 'g' : '&';
     test("PJ_FORMULA_MOST, and a byte more", pj_formula_read(PJ_SETTINGS_MOST, text, PJ_FORMULA_MOST, table) == 0 &&
              pj_number(pj_formula_read(7, text, PJ_FORMULA_MOST + 1, table)) == PJ_REFUSED_FORMULA_LENGTH);
@@ -122,13 +205,21 @@ int main(void) {
     test("PJ_POSTS_MOST, and one more",
          pj_book_write(7, PJ_POSTS_MOST, rights, sizeof rights, book, sizeof book) == 0 &&
              pj_number(pj_book_write(7, PJ_POSTS_MOST + 1, rights, sizeof rights, book, sizeof book)) == PJ_REFUSED_HEAD);
-    int all = 1;
-    for (int n = 1; n <= 6; n++) all &= rooms_of(n);
-    test("PJ_RIGHTS_ROOM, PJ_BOOK_ROOM, PJ_RANKS_ROOM and the plan's length for 1 to 6 settings, and a byte less", all);
+    int each = 1, made = 1, asked = 1;
+    for (int n = 1; n <= 6; n++) each &= rooms_of(n);
+    test("PJ_RIGHTS_ROOM, PJ_BOOK_ROOM, PJ_RANKS_ROOM and the plan's length for 1 to 6 settings, and a byte less", each);
     test("the same for 7", rooms_of(7));
     test("which have the most: PJ_RIGHTS_MOST, PJ_BOOK_MOST, PJ_RANKS_MOST, PJ_PLAN_MOST",
          PJ_RIGHTS_ROOM(7) == PJ_RIGHTS_MOST && PJ_BOOK_ROOM(7) == PJ_BOOK_MOST && PJ_RANKS_ROOM(7) == PJ_RANKS_MOST &&
              PJ_PLAN_ROOM(7) == PJ_PLAN_MOST);
+    for (int n = 1; n <= 7; n++) made &= rules_room(n);
+    test("pj_rules, PJ_BOOK_ROOM for 1 to 7 settings, and a byte less; the rest is left", made);
+    for (int n = 1; n <= 6; n++) asked &= ask_rooms(n);
+    test("pj_ask, PJ_RANKS_ROOM and the answer's length for 1 to 6 settings, and a byte less; the rest is left", asked);
+    test("the same for 7, with a height of 254", ask_rooms(7) && same_text(all, "reach 254\n"));
+    test("PJ_ASK_MOST is room for `reach 254` and 32,640 lines like `254 set g 8 1`",
+         PJ_ASK_MOST == length_of("reach 254\n") + PJ_PLAN_MOST * length_of("254 set g 8 1\n"));
+    test("PJ_TEXT_MOST of rules and of a question, and a byte more", text_most());
 
     rooms_of(1);
     fill(make, 1, 3); // `1` over one setting
@@ -138,13 +229,13 @@ int main(void) {
     plan[0] = 0;
     test("PJ_LEARN_MOST, and one more", checked(PJ_LEARN_MOST * PJ_TABLE, 1) == 0 &&
              pj_number(checked((PJ_LEARN_MOST + 1) * PJ_TABLE, 1)) == PJ_REFUSED_GOAL);
-    fill(sheet, sizeof sheet, 'a');
+    fill(text, sizeof text, 'a');
     test("PJ_SHEET_MOST, and a byte more",
-         pj_sheet(sheet, PJ_SHEET_MOST, out, sizeof out) == 13 && same_text(out, "refused 22 1\n") &&
-             pj_sheet(sheet, PJ_SHEET_MOST + 1, out, sizeof out) == 13 && same_text(out, "refused 24 0\n"));
+         pj_sheet(text, PJ_SHEET_MOST, out, sizeof out) == 13 && same_text(out, "refused 22 1\n") &&
+             pj_sheet(text, PJ_SHEET_MOST + 1, out, sizeof out) == 13 && same_text(out, "refused 24 0\n"));
     fill(out, sizeof out, '.');
     test("a room too short for an answer has its beginning",
-         pj_sheet(sheet, PJ_SHEET_MOST, out, 9) == 13 && same_text(out, "refused 2...."));
+         pj_sheet(text, PJ_SHEET_MOST, out, 9) == 13 && same_text(out, "refused 2...."));
 
     rooms_of(1);
     test("null with length 0, for each slice", null_for_empty());

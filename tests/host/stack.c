@@ -6,8 +6,8 @@
 
 static pj_u8 stack[1 << 18] __attribute__((aligned(64)));
 static pj_u8 rights[PJ_RIGHTS_MOST], book[PJ_BOOK_MOST], ranks[PJ_RANKS_MOST], plan[PJ_PLAN_MOST], make[PJ_TABLE];
-static pj_u8 text[PJ_FORMULA_MOST], sheet[PJ_SHEET_MOST], out[PJ_ANSWER_MOST];
-static pj_u64 result, plan_length, sheet_length;
+static pj_u8 text[PJ_FORMULA_MOST], lines[PJ_TEXT_MOST], out[PJ_ASK_MOST];
+static pj_u64 result, plan_length, lines_length;
 
 // Calls f on the other stack. The called function keeps rbx, which holds the old stack's end.
 static void on_stack(void (*f)(void)) {
@@ -41,7 +41,11 @@ static void find(void) {
 static void plan_check(void) {
     result = pj_plan_check(book, sizeof book, 1, 0, 0, make, PJ_TABLE, 0, 0, plan, plan_length);
 }
-static void sheet_answer(void) { result = pj_sheet(sheet, sheet_length, out, sizeof out); }
+static void sheet_answer(void) { result = pj_sheet(lines, lines_length, out, sizeof out); }
+static void rules_made(void) { result = pj_rules(lines, lines_length, book, sizeof book); }
+static void asked(void) {
+    result = pj_ask(book, sizeof book, lines, lines_length, ranks, sizeof ranks, out, sizeof out);
+}
 
 static pj_u64 told(const char *name, void (*f)(void)) {
     pj_u64 bytes = taken(f);
@@ -59,13 +63,12 @@ static void holds(const char *name, void (*f)(void), pj_u64 bound) {
 
 static void below(const char *name, void (*f)(void), pj_u64 bound) { test(name, told(name, f) <= bound); }
 
-// A sheet of five settings with this make formula, 255 bytes of it alike.
-static void sheet_of(char byte) {
-    static const char begin[] = "size 5 8\nteam 1\nknown\nmake ";
-    for (unsigned i = 0; i < sizeof begin - 1; i++) sheet[i] = (pj_u8)begin[i];
-    fill(sheet + sizeof begin - 1, 255, (pj_u8)byte);
-    sheet[sizeof begin - 1 + 255] = '\n';
-    sheet_length = sizeof begin + 255;
+// The lines of a sheet, of rules or of a question, and so many bytes alike at the end of the last.
+static void lines_of(const char *begin, char byte, pj_u64 count) {
+    lines_length = length_of(begin) + count + 1;
+    for (pj_u64 i = 0; i < length_of(begin); i++) lines[i] = (pj_u8)begin[i];
+    fill(lines + length_of(begin), count, (pj_u8)byte);
+    lines[lines_length - 1] = '\n';
 }
 
 int main(void) {
@@ -89,8 +92,36 @@ int main(void) {
     for (unsigned i = 0; i < sizeof text; i++) text[i] = (pj_u8) "a|("[i % 3];
     below("pj_formula_read, sums in brackets", formula_read, PJ_STACK_FORMULA_READ);
 
-    sheet_of('(');
-    holds("pj_sheet, a formula of 255 brackets", sheet_answer, PJ_STACK_SHEET);
+    lines_of("size 5 8\nread a 1 1\nwrite e 8 ", '(', 255);
+    below("pj_sheet, a set rule of 255 brackets", sheet_answer, PJ_STACK_SHEET);
+    test("which is refused", result == 12 && same_text(out, "refused 4 3\n"));
+    lines_of("size 5 8\nread a 1 ", '(', 255);
+    holds("pj_sheet, a look rule of 255 brackets", sheet_answer, PJ_STACK_SHEET);
+    test("which is refused", result == 12 && same_text(out, "refused 4 2\n"));
+    lines_of("size 5 8\nteam 1\nknown\nmake ", '(', 255);
+    below("pj_sheet, a make formula of 255 brackets", sheet_answer, PJ_STACK_SHEET);
     test("which is refused", result == 12 && same_text(out, "refused 4 4\n"));
+
+    lines_of("size 7 8\nread a 1 1\nwrite g 8 ", '(', 255);
+    below("pj_rules, a set rule of 255 brackets", rules_made, PJ_STACK_RULES);
+    test("which is refused", pj_number(result) == PJ_REFUSED_NOT_SENTENCE && pj_place(result) == 3);
+    lines_of("size 7 8\nread a 1 ", '(', 255);
+    holds("pj_rules, a look rule of 255 brackets", rules_made, PJ_STACK_RULES);
+    test("which is refused", pj_number(result) == PJ_REFUSED_NOT_SENTENCE && pj_place(result) == 2);
+    lines_of("size 7 8\nread a 1 1\nwrite g 8 ", 'a', 1);
+    below("pj_rules, rules that make a book", rules_made, PJ_STACK_RULES);
+    test("of seven settings", result == PJ_BOOK_ROOM(7));
+
+    climb_rights(7, rights, make);
+    book_write();
+    lines_of("team 1\nknown\nmake a&b&c&d&e&f&", 'g', 1);
+    holds("pj_ask, a plan of height 254", asked, PJ_STACK_ASK);
+    test("which was found", same_text(out, "reach 254\n"));
+    lines_of("team 1\nknown\nmake ", '(', 255);
+    below("pj_ask, a make formula of 255 brackets", asked, PJ_STACK_ASK);
+    test("which is refused", result == 12 && same_text(out, "refused 4 3\n"));
+    lines_of("team 1\nknown\nmake 1\nask 1\nask ", '(', 255);
+    below("pj_ask, a learn formula of 255 brackets", asked, PJ_STACK_ASK);
+    test("which is refused", result == 12 && same_text(out, "refused 4 5\n"));
     return closing();
 }

@@ -51,6 +51,12 @@ static inline int same_text(const pj_u8 *bytes, const char *expected) {
     return same(bytes, (const pj_u8 *)expected, length_of(expected));
 }
 
+static inline int all_are(const pj_u8 *bytes, pj_u64 length, pj_u8 byte) {
+    for (pj_u64 i = 0; i < length; i++)
+        if (bytes[i] != byte) return 0;
+    return 1;
+}
+
 static inline void fill(pj_u8 *bytes, pj_u64 length, pj_u8 byte) {
     for (pj_u64 i = 0; i < length; i++) bytes[i] = byte;
 }
@@ -82,4 +88,16 @@ static inline void climb_rights(int n, pj_u8 *rights, pj_u8 *make) {
         }
         if (trues == n) make[v / 8] |= (pj_u8)(1 << v % 8);
     }
+}
+
+// The question of the book of greatest rank as a text, and its length: all n settings are to be true.
+static inline pj_u64 climb_question(int n, pj_u8 *question) {
+    static const char begin[] = "team 1\nknown\nmake ";
+    pj_u64 at = 0;
+    for (; begin[at] != 0; at++) question[at] = (pj_u8)begin[at];
+    for (int i = 0; i < n; i++) {
+        question[at++] = (pj_u8)('a' + i);
+        question[at++] = i < n - 1 ? '&' : '\n';
+    }
+    return at;
 }
