@@ -53,7 +53,9 @@ static inline pj_u64 pj_number(pj_u64 result) { return (result >> 32) & 0xff; }
 static inline pj_u64 pj_second(pj_u64 result) { return result >> 40; }
 static inline pj_u64 pj_place(pj_u64 result) { return result & 0xffffffff; }
 
-// A success of pj_rules, pj_sheet and pj_ask is a length. A success of pj_book_read: n and m.
+// A success of pj_rules, pj_sheet and pj_ask: a length.
+
+// A success of pj_book_read: n and m.
 static inline pj_u64 pj_settings(pj_u64 result) { return result >> 8; }
 static inline pj_u64 pj_posts(pj_u64 result) { return result & 0xff; }
 
@@ -182,7 +184,7 @@ enum {
 #define PJ_RULE(i, q, set) (PJ_BLOCK * (1 + (i)) + 2 * PJ_TABLE * (q) + PJ_TABLE * (set))
 
 // A book's first block is the head: byte 0 is n, byte 1 is m. A setting's block has its 256 bytes of rights first. All
-// others are 0 up to byte 507; bytes 508 to 511 are the block's check, which pj_book_write makes.
+// others are 0 up to byte 507; bytes 508 to 511 are the block's check, which pj_book_write and pj_rules make.
 
 // ---- plans
 

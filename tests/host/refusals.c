@@ -218,8 +218,11 @@ int main(void) {
     refused("21: a ninth byte", checked(steps, 9), PJ_REFUSED_LEFT_OVER, 8);
 
     static const char many[] = "size 6 1\n", twice[] = "size 3 2\nteam 1 1\n", form[] = "size 3 2\nteam\n";
-    static const char early[] = "size 3 2\n", no_formula[] = "size 3 2\nread a 1 a&\n";
-    printed("4 in a sheet: the line is its place", no_formula, sizeof no_formula - 1, PJ_REFUSED_NOT_SENTENCE, "2");
+    static const char early[] = "size 3 2\n", *const no_formula[4] = {
+        "size 3 2\nread a 1 \n", "size 3 2\nread a 1 a |b\n", "size 3 2\nread a 1 d\n", "size 3 2\nread a 1 a&\n"};
+    static const char *const names[4] = {"1 in a sheet: the line is its place", "2 in a sheet", "3 in a sheet",
+                                         "4 in a sheet"};
+    for (pj_u64 i = 0; i < 4; i++) printed(names[i], no_formula[i], length_of(no_formula[i]), i + 1, "2");
     printed("22: a team line without a post", form, sizeof form - 1, PJ_REFUSED_MALFORMED, "2");
     printed("22: a sheet that ends early", early, sizeof early - 1, PJ_REFUSED_MALFORMED, "2");
     printed("23: a post named twice", twice, sizeof twice - 1, PJ_REFUSED_TWICE, "2");
