@@ -74,7 +74,7 @@ stray-left rules L (c ∷ line) another more = refl
 module _ (R Q : List ℕ) (short : length (R ++ Q) ≤ 32768) (plain : T (nonePassed (split newline R))) where
   -- ---- the rules are refused: at a line of theirs that ends in byte 10, where N is at most 5. The sheet is refused so too, at the same line.
   module _ {w : Refusal} {L : ℕ} (e : rulesOf true 7 R ≡ rules-refused w L) (ends : L < length (split newline R))
-      (few : (n m : ℕ) (rest : List ℕ) → R ≡ ended (sizeText n m) ++ rest → n ≤ 5) where
+      (few : (n m : ℕ) (rest : List ℕ) → n ≤ 7 → 1 ≤ m → m ≤ 8 → R ≡ ended (sizeText n m) ++ rest → n ≤ 5) where
     pub rules-refuse-sheet : (old : List ℕ) (r : ℕ) (new : List ℕ) → AnswersSheet (R ++ Q) old r new → Prints old (refusedText (number w) L) r new
     rules-refuse-sheet old r new a = subst (λ (o : Meaning). PrintsMeaning o old r new) (Texts.rules-at-fault R Q short plain e ends few) a
 

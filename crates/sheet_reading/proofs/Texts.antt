@@ -123,13 +123,13 @@ module _ (R Q : List ℕ) (short : length (R ++ Q) ≤ 32768) (none : T (nonePas
 
   -- A LINE OF THE RULES THAT IS REFUSED: the sheet is refused there too. The line ends in byte 10, and N is at most 5.
   module _ {w : Refusal} {L : ℕ} (e : rulesOf true 7 R ≡ rules-refused w L) (ends : L < length (split newline R))
-      (few : (n m : ℕ) (rest : List ℕ) → R ≡ ended (sizeText n m) ++ rest → n ≤ 5) where
+      (few : (n m : ℕ) (rest : List ℕ) → n ≤ 7 → 1 ≤ m → m ≤ 8 → R ≡ ended (sizeText n m) ++ rest → n ≤ 5) where
     rules-five : rulesRead false 5 (split newline R) ≡ rules-refused w L
     rules-five = elim (subst (λ (o : Reading). Up 5 o (rulesRead false 5 (split newline R))) (sym rules-plain ∙ e) (read-up false 5 (split newline R))) [
       | inl same ↦ same
       | inr (K, above) ↦ (let z = settings-exactly R K .0 (of-sheet R rules-short ∙ ap afterRules above) in
           let (n, m, rest, large, few-n, m1, m8, written) = z .2 in
-          absurd (omega (arith, large, few n m rest written)))
+          absurd (omega (arith, large, few n m rest few-n m1 m8 written)))
     ]
 
     pub rules-at-fault : sheetMeaning (R ++ Q) ≡ refused w L
