@@ -21,9 +21,8 @@ use Rattle.print_answer.specs.Printed.{refusedText, Prints}
 use Rattle.sheet_words.specs.Words.{firstPiece, split, newline, nonePassed}
 use Rattle.sheet_rules.specs.Rules.{Rules}
 use Rattle.sheet_rules.specs.Forms.{isOfRules}
-use Rattle.sheet_rules.specs.Reading.{upTo, rulesOf}
-use Rattle.sheet_rules.specs.Reading.{refused as rules-refused}
-use Rattle.sheet_rules.specs.Meaning.{Meaning as RulesMeaning, whole, wholeReading, rulesMeaning}
+use Rattle.sheet_rules.specs.Reading.{upTo, sizeFrom, rulesRead, rulesOf}
+use Rattle.sheet_rules.specs.Meaning.{Meaning as RulesMeaning, rulesMeaning}
 use Rattle.sheet_rules.specs.Meaning.{refused as text-refused, stated as rules-stated}
 use Rattle.sheet_rules.proofs.Bounds.{Fits}
 use Rattle.sheet_rules.proofs.MeaningLaws.{MeaningGoes, meaning-goes}
@@ -66,31 +65,31 @@ refused-so : {w : Refusal} {L : ℕ} (room : List ℕ) (answer : MakeAnswer) (af
 refused-so room (Made size) after x = absurd x
 refused-so {w} {L} room (Refused why line) after (f, g, h) = cc
 
-stray-left : (rules : Rules) (L : ℕ) (line another : List ℕ) (more : List (List ℕ)) → whole rules L (line ∷ another ∷ more) ≡ text-refused (Malformed L) L
-stray-left rules L [] another more = refl
-stray-left rules L (c ∷ line) another more = refl
+-- an empty text of rules is 22 at line 1 to `book`; the sheet `[] ++ Q` is Q, whatever Q is
+pub no-rules-book : (room : List ℕ) (answer : MakeAnswer) (after : List ℕ) → MakesBook (rulesMeaning []) room answer after → answer ≡ Refused (Malformed 1) 1
+unfolding rulesMeaning rulesOf rulesRead sizeFrom split
+no-rules-book room answer after b = refused-so room answer after b
+
+pub no-rules-sheet : (Q old : List ℕ) (r : ℕ) (new : List ℕ) → AnswersSheet ([] ++ Q) old r new ↔ AnswersSheet Q old r new
+no-rules-sheet Q old r new = (λ a. a, λ a. a)
 
 -- R are rules and Q is a question, "both without `#` lines and empty lines", and "the sheet is not over its length"
 module _ (R Q : List ℕ) (short : length (R ++ Q) ≤ 32768) (plain : T (nonePassed (split newline R))) where
-  -- ---- the rules are refused: at a line of theirs that ends in byte 10, where N is at most 5. The sheet is refused so too, at the same line.
-  module _ {w : Refusal} {L : ℕ} (e : rulesOf true 7 R ≡ rules-refused w L) (ends : L < length (split newline R))
-      (few : (n m : ℕ) (rest : List ℕ) → n ≤ 7 → 1 ≤ m → m ≤ 8 → R ≡ ended (sizeText n m) ++ rest → n ≤ 5) where
-    pub rules-refuse-sheet : (old : List ℕ) (r : ℕ) (new : List ℕ) → AnswersSheet (R ++ Q) old r new → Prints old (refusedText (number w) L) r new
-    rules-refuse-sheet old r new a = subst (λ (o : Meaning). PrintsMeaning o old r new) (Texts.rules-at-fault R Q short plain e ends few) a
-
+  -- ---- the rules are refused at line L: `book` refuses so, whatever the room
+  module _ {w : Refusal} {L : ℕ} (e : rulesMeaning R ≡ text-refused w L) where
     pub rules-refuse-book : (room : List ℕ) (answer : MakeAnswer) (after : List ℕ) → MakesBook (rulesMeaning R) room answer after → answer ≡ Refused w L
-    unfolding rulesMeaning
-    rules-refuse-book room answer after b = refused-so room answer after (subst (λ (o : RulesMeaning). MakesBook o room answer after) (ap wholeReading e) b)
+    rules-refuse-book room answer after b = refused-so room answer after (subst (λ (o : RulesMeaning). MakesBook o room answer after) e b)
 
-  -- or they end before a line that is none of theirs, and no `team` either, which would begin the sheet's question: 22 at that line
-  module _ {rules : Rules} {L : ℕ} {line another : List ℕ} {more : List (List ℕ)} (e : rulesOf true 7 R ≡ upTo rules L (line ∷ another ∷ more))
-      (few : rules .size .settings ≤ 5) (other : isTeam (rules .size .posts) line ≡ false) where
-    pub stray-refuse-sheet : (old : List ℕ) (r : ℕ) (new : List ℕ) → AnswersSheet (R ++ Q) old r new → Prints old (refusedText 22 L) r new
-    stray-refuse-sheet old r new a = subst (λ (o : Meaning). PrintsMeaning o old r new) (Texts.rules-stray R Q short plain e few other) a
-
-    pub stray-refuse-book : (room : List ℕ) (answer : MakeAnswer) (after : List ℕ) → MakesBook (rulesMeaning R) room answer after → answer ≡ Refused (Malformed L) L
-    unfolding rulesMeaning
-    stray-refuse-book room answer after b = refused-so room answer after (subst (λ (o : RulesMeaning). MakesBook o room answer after) (ap wholeReading e ∙ stray-left rules L line another more) b)
+    -- the sheet refuses so too, where line L ends in byte 10. Left out is where a sheet reads on or has a bound of its own. A last line of R without byte
+    -- 10 goes on in Q: R is `size 1 1` and an unended `write a 1 `, Q begins with `1`. A `team` line in R begins the question. 6 or 7 settings are 25
+    -- to a sheet. An empty R: `no-rules-book`.
+    module _ (ends : L < length (split newline R))
+        -- R does not state 6 or 7 settings
+        (few : (n m : ℕ) (rest : List ℕ) → n ≤ 7 → 1 ≤ m → m ≤ 8 → R ≡ ended (sizeText n m) ++ rest → n ≤ 5)
+        -- where the lines before L are rules and line L is none, it is no `team` line of their size
+        (other : (rules : Rules) (left : List (List ℕ)) → rulesOf true 7 R ≡ upTo rules L left → isTeam (rules .size .posts) (firstPiece left) ≡ false) where
+      pub rules-refuse-sheet : (old : List ℕ) (r : ℕ) (new : List ℕ) → AnswersSheet (R ++ Q) old r new → Prints old (refusedText (number w) L) r new
+      rules-refuse-sheet old r new a = subst (λ (o : Meaning). PrintsMeaning o old r new) (Texts.rules-refused-so R Q short plain ends few other e) a
 
   -- ---- the rules are whole, of at most 5 settings
   module _ {rules : Rules} (e : rulesMeaning R ≡ rules-stated rules) (few : rules .size .settings ≤ 5) (without : T (nonePassed (split newline Q))) where
@@ -140,13 +139,13 @@ module _ (R Q : List ℕ) (short : length (R ++ Q) ≤ 32768) (plain : T (nonePa
         answer-is-ask s new x = answer-unique (R ++ Q) out s r new out′ x ask-answers
 
       -- the question is refused: "the sheet is refused with the same number, the question's line counted on from the rules' lines"; the first line of the
-      -- question is none of the rules', which would be one of the sheet's
+      -- question, where it ends in byte 10, is none of the rules': after `size 1 1` a `read` line first in Q is 22 to `ask`, and a rule of the sheet
       module _ {w : Refusal} {L : ℕ} (is : questionMeaning 0 true n m Q ≡ question-refused w L) where
         pub question-refuse-ask : Prints out (refusedText (number w) L) r out′
         question-refuse-ask = subst (λ (o : QuestionMeaning). PrintsQuestion n (rulesBook rules rights) o ranks out r ranks′ out′) is told .printed
 
-        pub question-refuse-sheet : isOfRules false n m (firstPiece (split newline Q)) ≡ false → (old : List ℕ) (s : ℕ) (new : List ℕ) → AnswersSheet (R ++ Q) old s new
-            → Prints old (refusedText (number w) (endedLines R + L)) s new
+        pub question-refuse-sheet : (1 < length (split newline Q) → isOfRules false n m (firstPiece (split newline Q)) ≡ false)
+            → (old : List ℕ) (s : ℕ) (new : List ℕ) → AnswersSheet (R ++ Q) old s new → Prints old (refusedText (number w) (endedLines R + L)) s new
         question-refuse-sheet first old s new x =
             let z = Texts.texts-refused R Q short plain e few without first is in
             subst (λ (c : ℕ). Prints old (refusedText c (endedLines R + L)) s new) (z .2) (subst (λ (o : Meaning). PrintsMeaning o old s new) (z .1) x)

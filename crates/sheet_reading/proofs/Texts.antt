@@ -9,23 +9,24 @@ use native.Mathlib.Omega.{arith}
 use lib.Dec.{T}
 use lib.ListN.{length, take, drop, length-append}
 use borrow.Author.Tests.{le-ltb}
-use Rattle.ground.proofs.Bools.{decide, T→false}
+use Rattle.ground.proofs.Bools.{decide, T→true, T→false, lt-or-ge}
 use Rattle.refusal.specs.declared.Refusal.{Refusal}
-use Rattle.refusal.specs.declared.Refusal.the-variants.{Malformed, Twice, SheetLength}
+use Rattle.refusal.specs.declared.Refusal.the-variants.{Malformed, Twice, SheetLength, SheetSettings}
 use Rattle.refusal.specs.Refusals.{number}
 use Rattle.sheet_words.specs.Words.{firstPiece, split, newline, begins, twice, nonePassed}
-use Rattle.sheet_words.specs.Steps.{next, unless}
+use Rattle.sheet_words.specs.Steps.{Step, next, unless}
 use Rattle.sheet_words.proofs.Split.{joined, some-piece}
-use Rattle.sheet_rules.specs.Rules.{Rules}
-use Rattle.sheet_rules.specs.Forms.{isRule, isOfRules}
-use Rattle.sheet_rules.specs.Reading.{Reading, upTo, rulesFrom, rulesRead, rulesOf}
+use Rattle.sheet_rules.specs.Rules.{Size, Rules, sized}
+use Rattle.sheet_rules.specs.Forms.{isSize, digitAt, isRule, isOfRules}
+use Rattle.sheet_rules.specs.Reading.{Reading, upTo, rulesFrom, afterSize, sizeFrom, rulesRead, rulesOf}
 use Rattle.sheet_rules.specs.Reading.{refused as rules-refused}
 use Rattle.sheet_rules.specs.Meaning.{whole, wholeReading, rulesMeaning}
-use Rattle.sheet_rules.specs.Meaning.{stated as rules-stated}
+use Rattle.sheet_rules.specs.Meaning.{refused as text-refused, stated as rules-stated}
+use Rattle.sheet_rules.proofs.StepLaws.{size-malformed, size-large, size-next}
 use Rattle.sheet_rules.proofs.ReadLaws.{from-first, rules-end}
-use Rattle.sheet_rules.proofs.Bounds.{Goes, read-goes}
+use Rattle.sheet_rules.proofs.Bounds.{Goes, read-goes, size-digits}
 use Rattle.sheet_rules.proofs.Passing.{same-read}
-use Rattle.sheet_rules.proofs.Sizes.{Up, read-up}
+use Rattle.sheet_rules.proofs.Sizes.{Kept, size-kept, Up, read-up}
 use Rattle.sheet_rules.proofs.Followed.{whole-followed, fault-followed}
 use Rattle.sheet_question.specs.Asked.{Asked, nothingAsked}
 use Rattle.sheet_question.specs.Forms.{isTeam, teamOf}
@@ -106,6 +107,25 @@ asks-first n m (line ∷ another ∷ more) {a} e = elim (decide (isTeam m line))
       let z : _≡_ {A = ℕ} 0 1 = cc in absurd (omega arith))
 ]
 
+-- ---- where more settings are stated than are taken, they are refused
+
+above-five : (pieces : List (List ℕ)) (rules : Rules) (L : ℕ) (left : List (List ℕ)) → rulesRead false 7 pieces ≡ upTo rules L left → 5 < rules .size .settings
+    → rulesRead false 5 pieces ≡ rules-refused SheetSettings 1
+unfolding rulesRead sizeFrom
+above-five [] rules L left e high = let z : _≡_ {A = ℕ} 0 1 = cc in absurd (omega arith)
+above-five (rest ∷ []) rules L left e high = let z : _≡_ {A = ℕ} 0 1 = cc in absurd (omega arith)
+above-five (line ∷ another ∷ more) rules L left e high = elim (decide (isSize line)) [
+  | inl t ↦ (let is = T→true (isSize line) t in
+      let states = sized (digitAt line 5) (digitAt line 7) in
+      let after : rulesFrom false 2 states (another ∷ more) ≡ upTo rules L left =
+      sym (ap (λ (st : Step Rules). afterSize false 1 st (another ∷ more)) (size-next 7 1 line is (size-digits line is .1))) ∙ e in
+      let kept : rules .size ≡ states .size = subst (Kept (states .size)) after (size-kept false 2 states (another ∷ more)) in
+      ap (λ (st : Step Rules). afterSize false 1 st (another ∷ more)) (size-large 5 1 line is (omega (arith, high, ap (λ (x : Size). x .settings) kept))))
+  | inr t ↦ (let d : rules-refused (Malformed 1) 1 ≡ upTo rules L left =
+      sym (ap (λ (st : Step Rules). afterSize false 1 st (another ∷ more)) (size-malformed 7 1 line (T→false (isSize line) t))) ∙ e in
+      let z : _≡_ {A = ℕ} 0 1 = cc in absurd (omega arith))
+]
+
 -- ---- the two texts
 
 module _ (R Q : List ℕ) (short : length (R ++ Q) ≤ 32768) (none : T (nonePassed (split newline R))) where
@@ -121,9 +141,12 @@ module _ (R Q : List ℕ) (short : length (R ++ Q) ≤ 32768) (none : T (nonePas
   unfolding sheetMeaning
   of-sheet s h = ap (λ (b : Bool). cond b (refused SheetLength 0) (afterRules (rulesRead false 5 (split newline s)))) (le-ltb 32768 (length s) h)
 
+  -- where the text begins with a size, it has at most 5 settings
+  abbrev Few : Type 0
+  Few = (n m : ℕ) (rest : List ℕ) → n ≤ 7 → 1 ≤ m → m ≤ 8 → R ≡ ended (sizeText n m) ++ rest → n ≤ 5
+
   -- A LINE OF THE RULES THAT IS REFUSED: the sheet is refused there too. The line ends in byte 10, and N is at most 5.
-  module _ {w : Refusal} {L : ℕ} (e : rulesOf true 7 R ≡ rules-refused w L) (ends : L < length (split newline R))
-      (few : (n m : ℕ) (rest : List ℕ) → n ≤ 7 → 1 ≤ m → m ≤ 8 → R ≡ ended (sizeText n m) ++ rest → n ≤ 5) where
+  module _ {w : Refusal} {L : ℕ} (e : rulesOf true 7 R ≡ rules-refused w L) (ends : L < length (split newline R)) (few : Few) where
     rules-five : rulesRead false 5 (split newline R) ≡ rules-refused w L
     rules-five = elim (subst (λ (o : Reading). Up 5 o (rulesRead false 5 (split newline R))) (sym rules-plain ∙ e) (read-up false 5 (split newline R))) [
       | inl same ↦ same
@@ -148,6 +171,53 @@ module _ (R Q : List ℕ) (short : length (R ++ Q) ≤ 32768) (none : T (nonePas
         (of-sheet R rules-short ∙ ap afterRules stray-five ∙ ap (withQuestion rules) (no-team (rules .size .settings) (rules .size .posts) L line another more other))
         (z .0) (omega (arith, z .1)) short
 
+  -- the rules state that size
+  size-few : Few → (rules : Rules) (L : ℕ) (left : List (List ℕ)) → rulesRead false 7 (split newline R) ≡ upTo rules L left → rules .size .settings ≤ 5
+  size-few few rules L left is = elim (lt-or-ge 5 (rules .size .settings)) [
+    | inl high ↦ (let z = settings-exactly R 1 .0 (of-sheet R rules-short ∙ ap afterRules (above-five (split newline R) rules L left is high)) in
+        let (n, m, rest, large, few-n, m1, m8, written) = z .2 in
+        absurd (omega (arith, large, few n m rest few-n m1 m8 written)))
+    | inr low ↦ low
+  ]
+
+  -- A TEXT OF RULES THAT IS REFUSED at line L, which ends in byte 10: one of the two above. Where the lines before L are rules and line L is none of
+  -- theirs, it is no `team` line.
+  module _ {w : Refusal} {L : ℕ} (ends : L < length (split newline R)) (few : Few)
+      (other : (rules : Rules) (left : List (List ℕ)) → rulesOf true 7 R ≡ upTo rules L left → isTeam (rules .size .posts) (firstPiece left) ≡ false) where
+    not-last : (rules : Rules) (K : ℕ) (left : List (List ℕ)) → rulesOf true 7 R ≡ upTo rules K left → length left ≤ 1 → K ≡ L → sheetMeaning (R ++ Q) ≡ refused w L
+    not-last rules K left is one at =
+        let z = subst (Goes 7 1 (split newline R)) (sym rules-plain ∙ is) (read-goes false 7 (split newline R)) in
+        absurd (omega (arith, z .1, one, at, ends))
+
+    by-line : (rules : Rules) (K : ℕ) (line another : List ℕ) (more : List (List ℕ)) → rulesOf true 7 R ≡ upTo rules K (line ∷ another ∷ more)
+        → text-refused (Malformed K) K ≡ text-refused w L → sheetMeaning (R ++ Q) ≡ refused w L
+    unfolding firstPiece
+    by-line rules K line another more is e =
+        let at : K ≡ L = cc in
+        let why : Malformed K ≡ w = cc in
+        let here : rulesOf true 7 R ≡ upTo rules L (line ∷ another ∷ more) = is ∙ ap (λ (k : ℕ). upTo rules k (line ∷ another ∷ more)) at in
+        rules-stray here (size-few few rules L (line ∷ another ∷ more) (sym rules-plain ∙ here)) (other rules (line ∷ another ∷ more) here)
+        ∙ ap (λ (x : Refusal). refused x L) (ap Malformed (sym at) ∙ why)
+
+    by-left : (rules : Rules) (K : ℕ) (left : List (List ℕ)) → rulesOf true 7 R ≡ upTo rules K left → whole rules K left ≡ text-refused w L
+        → sheetMeaning (R ++ Q) ≡ refused w L
+    by-left rules K [] is e = not-last rules K [] is (omega arith) cc
+    by-left rules K ([] ∷ []) is e = let z : _≡_ {A = ℕ} 0 1 = cc in absurd (omega arith)
+    by-left rules K ((c ∷ line) ∷ []) is e = not-last rules K ((c ∷ line) ∷ []) is (omega arith) cc
+    by-left rules K ([] ∷ another ∷ more) is e = by-line rules K [] another more is e
+    by-left rules K ((c ∷ line) ∷ another ∷ more) is e = by-line rules K (c ∷ line) another more is e
+
+    by-reading : (o : Reading) → rulesOf true 7 R ≡ o → wholeReading o ≡ text-refused w L → sheetMeaning (R ++ Q) ≡ refused w L
+    by-reading (rules-refused r K) is e =
+        let at : K ≡ L = cc in
+        let why : r ≡ w = cc in
+        rules-at-fault (is ∙ ap (λ (x : Refusal). rules-refused x K) why ∙ ap (rules-refused w) at) ends few
+    by-reading (upTo rules K left) is e = by-left rules K left is e
+
+    pub rules-refused-so : rulesMeaning R ≡ text-refused w L → sheetMeaning (R ++ Q) ≡ refused w L
+    unfolding rulesMeaning
+    rules-refused-so e = by-reading (rulesOf true 7 R) refl e
+
   -- WHOLE RULES, of at most 5 settings, and a question
   module _ {rules : Rules} (e : rulesMeaning R ≡ rules-stated rules) (few : rules .size .settings ≤ 5) (without : T (nonePassed (split newline Q))) where
     abbrev n : ℕ
@@ -170,18 +240,18 @@ module _ (R Q : List ℕ) (short : length (R ++ Q) ≤ 32768) (none : T (nonePas
         let some = some-piece newline (λ q. 1 ≤ length q) (λ p ps. omega arith) R in
         omega (arith, z .1, some)
 
-    stops : (L : ℕ) (pieces : List (List ℕ)) → isOfRules false n m (firstPiece pieces) ≡ false → rulesFrom false L rules pieces ≡ upTo rules L pieces
+    stops : (L : ℕ) (pieces : List (List ℕ)) → (1 < length pieces → isOfRules false n m (firstPiece pieces) ≡ false) → rulesFrom false L rules pieces ≡ upTo rules L pieces
     unfolding rulesFrom firstPiece
     stops L [] h = refl
     stops L (rest ∷ []) h = refl
-    stops L (line ∷ another ∷ more) h = rules-end false L rules line another more h
+    stops L (line ∷ another ∷ more) h = rules-end false L rules line another more (h (omega arith))
 
     question-short : length Q ≤ 65536
     question-short = omega (arith, short, length-append R Q)
 
-    -- the first line of the question is none of the rules'
+    -- the first line of the question, where it ends in byte 10, is none of the rules'
     abbrev First : Type 0
-    First = isOfRules false n m (firstPiece (split newline Q)) ≡ false
+    First = 1 < length (split newline Q) → isOfRules false n m (firstPiece (split newline Q)) ≡ false
 
     two-texts : First → sheetMeaning (R ++ Q) ≡ withQuestion rules (questionMeaning (endedLines R) true n m Q)
     two-texts first =
@@ -198,7 +268,7 @@ module _ (R Q : List ℕ) (short : length (R ++ Q) ≤ 32768) (none : T (nonePas
     -- what is asked is asked in the sheet
     pub texts-stated : {a : Asked} → questionMeaning 0 true n m Q ≡ asked a → sheetMeaning (R ++ Q) ≡ stated (sheetOf rules a)
     texts-stated {a} is =
-        two-texts (asks-first n m (split newline Q) (sym (none-passed-same 0 n m Q without ∙ not-long 0 false n m Q question-short) ∙ is))
+        two-texts (λ some. asks-first n m (split newline Q) (sym (none-passed-same 0 n m Q without ∙ not-long 0 false n m Q question-short) ∙ is))
         ∙ by-meaning (questionMeaning (endedLines R) true n m Q)
         (subst (λ (o : QuestionMeaning). CountedOn (endedLines R) o (questionMeaning (endedLines R) true n m Q)) is counted)
       where
