@@ -1,10 +1,10 @@
 -- One grammar: a sheet that is a text of rules followed by a text of a question is answered as the question is, put to the book that is made of the rules.
 -- Said of what the contracts of `sheet::answer` (`AnswersSheet`), `sheet_book::make_book` (`MakesBook`) and `sheet_ask::ask` (`AsksBook`) allow.
 use denote.Ref.{now}
-use mathlib.Core.Path.{_≡_, refl, sym, ap, _∙_, subst}
+use mathlib.Core.Path.{_≡_, sym, ap, _∙_, subst}
 use mathlib.Core.Logic.{inl, inr, _↔_}
 use mathlib.Core.Bool.{true, false}
-use mathlib.Core.List.{List, [], _∷_, _++_}
+use mathlib.Core.List.{List, [], _++_}
 use Prim.Native.Nat.{ℕ, _+_, _^_, _≤_, _<_}
 use native.Mathlib.Omega.{arith}
 use lib.Dec.{T}

@@ -155,7 +155,7 @@ module _ (R Q : List ℕ) (short : length (R ++ Q) ≤ 32768) (none : T (nonePas
           absurd (omega (arith, large, few n m rest few-n m1 m8 written)))
     ]
 
-    pub rules-at-fault : sheetMeaning (R ++ Q) ≡ refused w L
+    rules-at-fault : sheetMeaning (R ++ Q) ≡ refused w L
     rules-at-fault = of-sheet (R ++ Q) short ∙ ap afterRules (fault-followed false 5 R Q w L rules-five ends)
 
   -- A LINE THAT IS NONE OF THE RULES', and no `team` either: the sheet is refused there too
@@ -164,7 +164,7 @@ module _ (R Q : List ℕ) (short : length (R ++ Q) ≤ 32768) (none : T (nonePas
     stray-five : rulesRead false 5 (split newline R) ≡ upTo rules L (line ∷ another ∷ more)
     stray-five = subst (λ (o : Reading). Up 5 o (rulesRead false 5 (split newline R))) (sym rules-plain ∙ e) (read-up false 5 (split newline R)) few
 
-    pub rules-stray : sheetMeaning (R ++ Q) ≡ refused (Malformed L) L
+    rules-stray : sheetMeaning (R ++ Q) ≡ refused (Malformed L) L
     rules-stray =
         let z = subst (Goes 5 1 (split newline R)) stray-five (read-goes false 5 (split newline R)) in
         fault-stays R Q
