@@ -180,7 +180,7 @@ pub twice-exactly : (s : List ℕ) (L : ℕ) → (sheetMeaning s ≡ refused (Tw
     ↔ ((length s ≤ 32768) × Reaches s L (λ n before line. NamesTwice before line))
 twice-exactly = Number.twice-exactly
 
--- 1 to 5, where line L is reached, names nothing twice, and has a formula that is refused so
+-- a formula's number, where line L is reached, names nothing twice, and has a formula that is refused so; 5 is never given, since N is 1 to 7
 pub formula-exactly : (s : List ℕ) (w : Refusal) (L : ℕ) → number w ≤ 5 → (sheetMeaning s ≡ refused w L)
     ↔ ((length s ≤ 32768) × Reaches s L (λ n before line. (NamesTwice before line → ⊥) × FormulaRefused n line w))
 formula-exactly = Number.formula-exactly

@@ -21,7 +21,7 @@ pub const PLAN_TEXT_MOST: usize = 524288;
 
 // The most bytes that are read of one (proofs/Theorems `bytes-most`), so a room of this length always
 // fits: 524,288 less 8 for the first line, by 7 for each other.
-pub const TEXT_BYTES_MOST: usize = 74897;
+pub const TEXT_BYTES_MOST: usize = (PLAN_TEXT_MOST - 8) / 7;
 
 // What is said of a plan's text.
 pub enum PlanTold {

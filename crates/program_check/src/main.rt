@@ -2,6 +2,7 @@
 // output, `yes` or `refused NUMBER PLACE`; what came of it goes to descriptor 3, of a refusal with whose it is.
 // Where a file cannot be read nothing is answered, and that is said on standard error.
 use book_block::BLOCK;
+use ground::SETTINGS_MOST;
 use plancheck_text::PLAN_TEXT_MOST;
 use program_files::Input;
 use program_files::read_named;
@@ -17,9 +18,9 @@ const QUESTION_WORD: usize = 2;
 
 const PLAN_WORD: usize = 3;
 
-// One byte more than each file may have, so that a longer one is seen to be too long without reading on. A
-// book of 7 settings has 8 blocks.
-const BOOK_ROOM: usize = BLOCK * 8 + 1;
+// One byte more than each file may have, so that a longer one is seen to be too long without reading on.
+// A book has a head and a block a setting.
+const BOOK_ROOM: usize = BLOCK * (1 + SETTINGS_MOST) + 1;
 
 const QUESTION_ROOM: usize = TEXT_MOST + 1;
 

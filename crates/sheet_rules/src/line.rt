@@ -7,6 +7,8 @@ use crate::desk::sized;
 use crate::rights::is_rule;
 use crate::rights::rule_line;
 use book_block::Right;
+use ground::POSTS_MOST;
+use ground::SETTINGS_MOST;
 use ground::peek;
 use refusal::Refusal;
 use sheet_words::among;
@@ -21,6 +23,11 @@ ghost use Rattle.sheet_rules.specs.Forms.{isSize, isOfRules};
 ghost use Rattle.sheet_rules.specs.Steps.{sizeStep, lineStep};
 ghost use Rattle.sheet_rules.specs.Desk.{OnDesk};
 ghost use Rattle.sheet_rules.specs.Turns.{Turns};
+
+// "N outside 1 to 7, M outside 1 to 8 [..] are 22".
+const SETTINGS: u8 = SETTINGS_MOST as u8;
+
+const POSTS: u8 = POSTS_MOST as u8;
 
 // Whether the line is passed over: only where the text may have such lines.
 pub(crate) fn is_passed(passes: bool, line: &[u8]) -> bool
@@ -39,13 +46,13 @@ fn is_size(line: &[u8]) -> bool
     if line.len() != 8 {
         return false;
     }
-    if !among(b'1', 7, peek(line, 5)) {
+    if !among(b'1', SETTINGS, peek(line, 5)) {
         return false;
     }
     if peek(line, 6) != b' ' {
         return false;
     }
-    among(b'1', 8, peek(line, 7))
+    among(b'1', POSTS, peek(line, 7))
 }
 
 // The line where the size is due, with its number; the desk says nothing where it is at fault.

@@ -14,6 +14,7 @@ use Rattle.sheet_words.specs.declared.names.Naming.{Naming}
 use Rattle.sheet_words.specs.declared.names.Naming.the-variants.{Stray, Of}
 use Rattle.sheet_words.proofs.piece_end.Reads as piece-end
 use Rattle.sheet_words.proofs.begins.Reads as begins
+use Rattle.sheet_words.proofs.passed_over.Reads as passed-over
 use Rattle.sheet_words.proofs.among.Reads as among
 
 pub mask-one : (a b : ℕ) → ((i : ℕ) → bit a i ≡ bit b i) → a ≡ b
@@ -42,3 +43,6 @@ begins-unique κs a x y s p q = p ∙ sym q
 
 pub among-unique : (κs : _) (a : _) (x y : _) (s : _) → among.Post κs a x s → among.Post κs a y s → x ≡ y
 among-unique κs a x y s p q = p ∙ sym q
+
+pub passed-over-unique : (κs : _) (a : _) (x y : _) (s : _) → passed-over.Post κs a x s → passed-over.Post κs a y s → x ≡ y
+passed-over-unique κs a x y s p q = p ∙ sym q

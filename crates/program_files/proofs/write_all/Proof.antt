@@ -56,4 +56,22 @@ returns-2 : tie.Need-returns-2 Inv-loop μ-loop
 returns-2 c = search needs
 
 pub write-all-spec : {M : Type 1} → statement M
-write-all-spec = tie.close (tie.spec Inv-loop μ-loop loop-holds sub-write-some part-write-some-start part-write-some-end write-some-requires sub-count part-count-start part-count-end count-requires returns add-done loop-less loop-again returns-2)
+write-all-spec =
+    tie.close
+    (tie.spec
+    Inv-loop
+    μ-loop
+    loop-holds
+    sub-write-some
+    part-write-some-start
+    part-write-some-end
+    write-some-requires
+    sub-count
+    part-count-start
+    part-count-end
+    count-requires
+    returns
+    add-done
+    loop-less
+    loop-again
+    returns-2)
