@@ -1,27 +1,33 @@
 # check BOOK QUESTION PLAN: whether a plan, as it is printed, is one that works.
 words 3 $# 'check BOOK QUESTION PLAN'
-for file in "$@"; do readable "$file" || exit 3; done
-run program_check "$@"
+for each in "$@"; do readable "$each" || exit 3; done
+taken "$1" 4096
+book=$file
+taken "$2" 65536
+question=$file
+taken "$3" 524288
+plan=$file
+run program_check "$book" "$question" "$plan"
 
-# plan_hint: the fault that the plan check found, with the line of the plan that it is in. Byte i stands in line i + 2.
+# plan_hint NAME: the fault that the plan check found, with the line of the plan that it is in. Byte i stands in line i + 2.
 plan_hint() {
     local number place line
     read -r _ number place < <(sed -n 2p <<<"$said")
     line=$((place + 2))
     case $number in
     16) say "$1: the plan has more than 32,640 lines of acts and stops" ;;
-    17) say "$1, line $line: '$(sed -n "${line}p" "$1")' names no act of this book and team" ;;
-    18) say "$1, line $line: '$(sed -n "${line}p" "$1")' is not known to be allowed there, or looks at a setting that is known" ;;
+    17) say "$1, line $line: '$(sed -n "${line}p" <"$plan")' names no act of this book and team" ;;
+    18) say "$1, line $line: '$(sed -n "${line}p" <"$plan")' is not known to be allowed there, or looks at a setting that is known" ;;
     19) say "$1, line $line: the plan stops where the goal is not settled" ;;
     20) say "$1, line $line: the plan ends too soon" ;;
     21) say "$1, line $line: the plan was whole before this line" ;;
-    *) hint plan "$1" "$1" ;;
+    *) hint plan "$plan" "$1" ;;
     esac
 }
 
 case $(whose) in
-book) book_hint "$1" ;;
-question) question_hint "$1" "$2" ;;
+book) book_hint "$book" "$1" ;;
+question) question_hint "$book" "$question" "$2" ;;
 plan) plan_hint "$3" ;;
 esac
 exit "$status"

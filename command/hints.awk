@@ -40,13 +40,13 @@ function front(text) {
 function due(   w) {
     w = kind == "question" ? "" : last
     if (kind == "plan") return line == 1 ? "'reach H'" : "a plan's line, 'DEPTH stop', 'DEPTH look P G' or 'DEPTH set P G V'"
-    if (kind == "question" && last == "") return "'team G ..'"
+    if (kind == "question" && last == "") return "'team POST ..'"
     if (last == "") return "'size N M', N from 1 to " (kind == "sheet" ? 5 : 7) " and M from 1 to 8"
     if (last == "size" || last == "read" || last == "write")
-        return kind == "rules" ? "'read P G F' or 'write P G F', or the end" : "'read P G F', 'write P G F' or 'team G ..'"
+        return kind == "rules" ? "'read SETTING POST FORMULA' or 'write SETTING POST FORMULA', or the end" : "'read SETTING POST FORMULA', 'write SETTING POST FORMULA' or 'team POST ..'"
     if (last == "team") return "'known', with settings or alone"
-    if (last == "known") return "'make F'"
-    return asks < 4 ? "'ask F', or the end" : "the end, after four 'ask' lines"
+    if (last == "known") return "'make FORMULA'"
+    return asks < 4 ? "'ask FORMULA', or the end" : "the end, after four 'ask' lines"
 }
 
 # twice TEXT: the first name that a line has twice.
@@ -63,6 +63,7 @@ function twice(text,   i, count, names, seen, sign) {
 
 # past TEXT: the first sign outside a formula that is past the size, in words.
 function past(text,   i, count, names, sign) {
+    if (n == "") return ""
     if (text ~ /^(read|write) /) {
         split(text, names, " ")
         if (names[2] ~ /^[a-g]$/ && index("abcdefg", names[2]) > n) return "setting " names[2] " is past the size: the last of " n " is " letter(n)
@@ -80,8 +81,25 @@ function past(text,   i, count, names, sign) {
     return ""
 }
 
+# wrong TEXT: the first piece of a line, whose first word may be due, that is not as it must be.
+function wrong(text,   i, count, names) {
+    count = split(text, names, " ")
+    if (text ~ /^(read|write) / && names[2] ~ /^[1-8]$/ && names[3] ~ /^[a-g]$/) return "the setting comes first, then the post"
+    if (text ~ /^(read|write) [a-g] [1-8]$/) return "the formula is missing"
+    if (text ~ /^(read|write) / && names[2] !~ /^[a-g]$/) return "'" names[2] "' is no setting"
+    if (text ~ /^(read|write) / && names[3] !~ /^[1-8]$/) return "'" names[3] "' is no post"
+    if (text == "team") return "a team has at least one post"
+    if (text ~ /^team /) for (i = 2; i <= count; i++) if (names[i] !~ /^[1-8]$/) return "'" names[i] "' is no post"
+    if (text ~ /^known /) for (i = 2; i <= count; i++) if (names[i] !~ /^~?[a-g]$/) return "'" names[i] "' is no setting"
+    if (text == "make" || text == "ask") return "the formula is missing"
+    return ""
+}
+
 # malformed: 22, at a line of the text or one past it.
 function malformed(   text, at, what) {
+    if (kind == "question" && line <= lines && all[line] ~ /^reach [0-9]/) hint("this is a plan, where a question is due; the order is BOOK QUESTION PLAN")
+    if (kind == "plan" && line == 1 && all[1] == "cannot") hint("the answer 'cannot' has no plan")
+    if (kind == "plan" && line == 1 && word(all[1]) == "team") hint("this is a question, where a plan is due; the order is BOOK QUESTION PLAN")
     if (line > lines) {
         if (lines == 0) hint("the text is empty; due is " due())
         hint("the text ends here; due is " due())
@@ -105,7 +123,8 @@ function malformed(   text, at, what) {
     if (text ~ /^(read|write|team|known) .*[A-G]/ && front(text) == 0) hint("capitals: settings are small letters")
     if (word(text) == "size" && kind == "question") hint("a question has no 'size' line: the book has the size")
     if (text ~ /^(read|write) / && kind == "question") hint("a question has no rights: the book has them")
-    hint("due here is " due())
+    what = wrong(text)
+    hint((what == "" ? "" : what "; ") "due here is " due())
 }
 
 # formula: 1 to 5, with the column in the line.

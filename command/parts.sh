@@ -19,8 +19,10 @@ say() {
 
 # readable FILE: a file that can be read, and no folder; else what is wrong is said.
 readable() {
-    if [ ! -e "$1" ]; then
-        say "$1: there is no such file"
+    if [ "$1" = - ]; then
+        say "-: only 'answer' takes standard input; give a file"
+    elif [ ! -e "$1" ]; then
+        say "$1: there is no such file, or its folder may not be entered"
     elif [ -d "$1" ]; then
         say "$1: this is a folder"
     elif [ ! -r "$1" ]; then
@@ -31,11 +33,23 @@ readable() {
     return 1
 }
 
-# copied MOST: standard input, as far as MOST bytes and one more, in a file of its own; `copy` is its name.
-copied() {
-    copy=$(mktemp) || trouble 'no room for a temporary file'
-    trap 'rm -f "$copy"' EXIT
-    head -c "$(($1 + 1))" >"$copy" || trouble 'standard input cannot be read'
+# kept: a folder of its own for what a call writes on the side.
+kept() {
+    [ -n "${side-}" ] || { side=$(mktemp -d) && trap 'rm -rf "$side"' EXIT; } || trouble 'no room for a temporary folder'
+}
+
+# taken FILE MOST: a file that can be read twice, in `file`: FILE itself, or where that is no regular file (a pipe, a
+# device, `-` for standard input), as much of it as MOST bytes and one more, copied.
+taken() {
+    file=$1
+    [ "$1" = - ] || [ ! -f "$1" ] || return 0
+    kept
+    file=$(mktemp "$side/XXXXXX") || trouble 'no room for a temporary file'
+    if [ "$1" = - ]; then
+        head -c "$(($2 + 1))" >"$file" || trouble 'standard input cannot be read'
+    else
+        head -c "$(($2 + 1))" <"$1" >"$file" || trouble "$1: it cannot be read"
+    fi
 }
 
 # start PROGRAM WORDS..: a program that the kit has built. They are for x86-64: another processor needs the kit's
@@ -52,7 +66,9 @@ start() {
 # run PROGRAM WORDS..: runs a program. `said` is what it said on descriptor 3, and `status` what came of it.
 run() {
     [ ! -d "$home/crates" ] || "$home/command/build" "$1" || exit 3
-    [ -x "$home/target/bin/$1" ] || trouble "target/bin/$1 is not there"
+    [ -e "$home/target/bin/$1" ] || trouble "$home/target/bin/$1 is not there"
+    [ -x "$home/target/bin/$1" ] || trouble "$home/target/bin/$1 may not be run: chmod +x it"
+    said=
     { said=$(start "$@" 3>&1 >&4 4>&-); } 4>&1
     status=${said%%$'\n'*}
     case $status in
@@ -71,9 +87,13 @@ hint() {
     [ -n "$own" ] || return 0
     read -r _ number line <<<"$answer"
     read -r _ _ place <<<"$own"
-    [ "$(tail -c 1 "$file" | od -An -tu1 | tr -d ' ')" = 10 ] || unended=1
+    if [ "$(head -c 512 <"$file" | tr -d '\0' | wc -c)" -ne "$(head -c 512 <"$file" | wc -c)" ]; then
+        say "$name: this is a book or another file that is no text, where a $kind is due"
+        return 0
+    fi
+    [ "$(tail -c 1 <"$file" | od -An -tu1 | tr -d ' ')" = 10 ] || unended=1
     awk -v kind="$kind" -v name="$name" -v number="$number" -v line="$line" -v place="$place" -v unended="$unended" "$@" \
-        -f "$home/command/hints.awk" "$file" >&2
+        -f "$home/command/hints.awk" <"$file" >&2
 }
 
 # whose: which of its texts the program says is at fault.
@@ -81,23 +101,34 @@ whose() {
     sed -n 4p <<<"$said"
 }
 
-# book_hint BOOK: what is wrong with a book that is refused.
+# is_text FILE: what a text in the place of a book is.
+is_text() {
+    local word
+    read -r word _ < <(head -c 4096 <"$1" | grep -a -v -e '^#' -e '^$' | head -n 1 | tr -d '\0')
+    case $word in
+    team) echo ', and this is a question' ;;
+    size) echo ", and these are rules: './parjolenc book' makes a book of them" ;;
+    reach | cannot) echo ', and this is an answer' ;;
+    esac
+}
+
+# book_hint BOOK NAME: what is wrong with a book that is refused.
 book_hint() {
     local number place
     read -r _ number place < <(sed -n 2p <<<"$said")
     case $number in
-    6) say "$1: this is no book: it has $(($(wc -c <"$1"))) bytes, and a book has 2 to 8 blocks of 512" ;;
-    7) say "$1: block $place is damaged: its check is wrong" ;;
-    8) say "$1: the head of the book is not in order" ;;
-    9) say "$1: block $place has a bit that must be zero" ;;
+    6) say "$2: this is no book: a book has 2 to 8 blocks of 512 bytes$(is_text "$1")" ;;
+    7) say "$2: block $place is damaged: its check is wrong" ;;
+    8) say "$2: the head of the book is not in order" ;;
+    9) say "$2: block $place has a bit that must be zero" ;;
     esac
 }
 
-# question_hint BOOK QUESTION: what is wrong with a question that is put to a book, whose first two bytes are its size.
+# question_hint BOOK QUESTION NAME: what is wrong with a question that is put to a book, whose first two bytes are its size.
 question_hint() {
     local n m
-    read -r n m < <(od -An -tu1 -N2 "$1")
-    hint question "$2" "$2" -v n="$n" -v m="$m"
+    read -r n m < <(od -An -tu1 -N2 <"$1")
+    hint question "$2" "$3" -v n="$n" -v m="$m"
 }
 
 # empty_hint FILE NAME [WORDS..]: after an answer, a line on standard error where the question asks nothing. WORDS are settings
@@ -105,12 +136,12 @@ question_hint() {
 empty_hint() {
     local file=$1 name=$2
     shift 2
-    [ "$status" -gt 1 ] || awk -v name="$name" "$@" -f "$home/command/empty.awk" "$file" >&2
+    [ "$status" -gt 1 ] || awk -v name="$name" "$@" -f "$home/command/empty.awk" <"$file" >&2 2>/dev/null
 }
 
 # able BOOK: the digits of the posts that have a right that can hold. A setting's block has 16 rows of 32 bytes, and the first
 # eight are its posts' tables.
 able() {
-    od -An -v -tu1 -w32 -j512 "$1" | awk '(NR - 1) % 16 < 8 { for (i = 1; i <= NF; i++) if ($i) post[(NR - 1) % 16 + 1] = 1 }
+    od -An -v -tu1 -w32 -j512 <"$1" | awk '(NR - 1) % 16 < 8 { for (i = 1; i <= NF; i++) if ($i) post[(NR - 1) % 16 + 1] = 1 }
         END { for (q in post) printf "%s", q }'
 }
