@@ -32,9 +32,13 @@ use Rattle.plancheck.specs.declared.answer.CheckAnswer.the-variants.{Yes, Refus
 use Rattle.plancheck.proofs.Small as CheckSmall
 use Rattle.sheet_book.specs.declared.MakeAnswer.the-variants.{Made, Refused as NotMade}
 use Rattle.sheet_book.proofs.Theorems.{line-most, length-most}
+use Rattle.station.specs.declared.record.Running.{Running}
+use Rattle.station.specs.declared.shift.Replayed.the-variants.{Whole, Stopped, Refused as NotPlayed}
+use Rattle.exports.specs.Replay.{ShiftReplayed}
 use Rattle.exports.specs.Texts.{RulesMade}
 use Rattle.exports.specs.Packed.{packed, packedAt, upper, lower, numberIn, secondIn}
 use Rattle.exports.specs.Returned.{formulaReturned, readReturned, writeReturned, findReturned, checkReturned, rulesReturned}
+use Rattle.exports.specs.Returned.{replayReturned, reachedAs, reachedAfter}
 use Rattle.exports.specs.Formula.{FormulaRead}
 use Rattle.exports.specs.Book.{BookRead, BookWritten}
 use Rattle.exports.specs.Find.{PlanFound}
@@ -130,4 +134,19 @@ rules-apart {rules} {old} {new} {r} c = (
   λ size e. let is : r ≡ size = c .result-is ∙ ap rulesReturned e in
       (div-eq-of-lt (omega (arith, is, length-most rules old (c .answer) size new e (c .makes))), is),
   λ w line e. apart-at w line (c .result-is ∙ ap rulesReturned e) (omega (arith, line-most rules old (c .answer) w line new e (c .makes))),
+)
+
+-- of `pj_replay` the lower half is the low 32 bits of the place: a shift may have more records, and the first lent number has the index whole
+low-apart : {result : ℕ} (r : Refusal) → result ≡ packed r → Tells-at result r (place r % 2 ^ 32)
+unfolding packed packedAt
+low-apart r e = apart-at r (place r % 2 ^ 32) (omega (arith, e)) (omega arith)
+
+pub replay-apart : {book : List ℕ} {start : ℕ} {shift old new : List ℕ} {r : ℕ} (c : ShiftReplayed book start shift old r new)
+    → ((running : Running) → c .answer ≡ Whole running → (upper r ≡ 0) × (new ≡ reachedAs running))
+    × ((w : Refusal) (running : Running) → c .answer ≡ Stopped w running → Tells-at r w (place w % 2 ^ 32) × (new ≡ reachedAs running))
+    × ((w : Refusal) → c .answer ≡ NotPlayed w → Tells-at r w (place w % 2 ^ 32) × (new ≡ old))
+replay-apart {old = old} c = (
+  λ running e. (ap upper (c .result-is ∙ ap replayReturned e), c .new-is ∙ ap (λ x. reachedAfter x old) e),
+  λ w running e. (low-apart w (c .result-is ∙ ap replayReturned e), c .new-is ∙ ap (λ x. reachedAfter x old) e),
+  λ w e. (low-apart w (c .result-is ∙ ap replayReturned e), c .new-is ∙ ap (λ x. reachedAfter x old) e),
 )

@@ -11,7 +11,7 @@ use Rattle.knowledge.specs.Goal.{Goal}
 use Rattle.question.specs.declared.Question.{Question}
 use Rattle.finder.proofs.Unique.{find-unique}
 use Rattle.plancheck.proofs.OneAnswer.{checks-one}
-use Rattle.exports.specs.Returned.{formulaReturned, readReturned, writeReturned, findReturned, checkReturned, rulesReturned}
+use Rattle.exports.specs.Returned.{formulaReturned, readReturned, writeReturned, findReturned, checkReturned, rulesReturned, replayReturned, reachedAfter}
 use Rattle.exports.specs.Find.{PlanFound}
 use Rattle.exports.specs.Check.{PlanChecked}
 use Rattle.exports.specs.Formula.{onReturn, FormulaRead}
@@ -19,6 +19,9 @@ use Rattle.sheet_rules.specs.Meaning.{rulesMeaning}
 use Rattle.sheet_book.proofs.Theorems.{makes-one}
 use Rattle.exports.specs.Book.{BookRead, BookWritten}
 use Rattle.exports.specs.Texts.{RulesMade}
+use Rattle.station.proofs.OneAnswer.{replays-one}
+use Rattle.station.specs.declared.shift.Replayed.{Replayed}
+use Rattle.exports.specs.Replay.{ShiftReplayed}
 
 pub formula-read-unique : {n : ℕ} {s old : List ℕ} {r q : ℕ} {new other : List ℕ} → FormulaRead n s old r new → FormulaRead n s old q other → (r ≡ q) × (new ≡ other)
 formula-read-unique {n} {s} {old} a b =
@@ -51,3 +54,9 @@ pub rules-unique : {rules old : List ℕ} {r q : ℕ} {new other : List ℕ} →
 rules-unique {rules} {old} {new = new} {other = other} a b =
     let e = makes-one (rulesMeaning rules) old (a .answer) (b .answer) new other (a .makes) (b .makes) in
     (a .result-is ∙ ap rulesReturned (e .0) ∙ sym (b .result-is), e .1)
+
+pub replay-one : {book : List ℕ} {start : ℕ} {shift old : List ℕ} {r q : ℕ} {new other : List ℕ} → ShiftReplayed book start shift old r new
+    → ShiftReplayed book start shift old q other → (r ≡ q) × (new ≡ other)
+replay-one {book} {start} {shift} {old} a b =
+    let e = replays-one book start shift (a .answer) (b .answer) (a .replays) (b .replays) in
+    (a .result-is ∙ ap replayReturned e ∙ sym (b .result-is), a .new-is ∙ ap (λ (x : Replayed). reachedAfter x old) e ∙ sym (b .new-is))

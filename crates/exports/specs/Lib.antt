@@ -6,3 +6,4 @@ pub mod Book
 pub mod Find
 pub mod Check
 pub mod Texts
+pub mod Replay

@@ -1,4 +1,5 @@
 -- What each C function returns for the answer of the crate behind it.
+use mathlib.Core.List.{List, [], _∷_}
 use Prim.Native.Nat.{ℕ, _+_, _*_, _%_, _^_}
 use Rattle.formula.specs.declared.Answer.{Answer as FormulaAnswer}
 use Rattle.formula.specs.declared.Answer.the-variants.{Accepted, Refused as NoFormula}
@@ -12,6 +13,9 @@ use Rattle.plancheck.specs.declared.answer.CheckAnswer.{CheckAnswer}
 use Rattle.plancheck.specs.declared.answer.CheckAnswer.the-variants.{Yes, Refused as NotAccepted}
 use Rattle.sheet_book.specs.declared.MakeAnswer.{MakeAnswer}
 use Rattle.sheet_book.specs.declared.MakeAnswer.the-variants.{Made, Refused as NotMade}
+use Rattle.station.specs.declared.record.Running.{Running}
+use Rattle.station.specs.declared.shift.Replayed.{Replayed}
+use Rattle.station.specs.declared.shift.Replayed.the-variants.{Whole, Stopped, Refused as NotPlayed}
 use Rattle.exports.specs.Packed.{packed, packedAt}
 
 -- `pj_formula_read`: 0, or the refusal as one number
@@ -44,3 +48,19 @@ checkReturned (NotAccepted r) = packed r
 abbrev pub rulesReturned : MakeAnswer → ℕ
 rulesReturned (Made size) = size
 rulesReturned (NotMade r line) = packedAt r line
+
+-- `pj_replay`: 0 where every act was allowed, or the refusal as one number
+abbrev pub replayReturned : Replayed → ℕ
+replayReturned (Whole running) = 0
+replayReturned (Stopped why running) = packed why
+replayReturned (NotPlayed why) = packed why
+
+-- "`reached[0]` the count, `reached[1]` the valuation"
+abbrev pub reachedAs : Running → List ℕ
+reachedAs running = running .count ∷ running .present .0 ∷ []
+
+-- "written by success, 27, 28 and 29 alone"
+abbrev pub reachedAfter : Replayed → List ℕ → List ℕ
+reachedAfter (Whole running) old = reachedAs running
+reachedAfter (Stopped why running) old = reachedAs running
+reachedAfter (NotPlayed why) old = old

@@ -9,6 +9,7 @@ ghost use Rattle.exports.specs.Find.{asked, PlanFound};
 ghost use Rattle.exports.specs.Check.{PlanChecked};
 ghost use Rattle.exports.specs.Book.{BookRead, BookWritten};
 ghost use Rattle.exports.specs.Texts.{RulesMade};
+ghost use Rattle.exports.specs.Replay.{ShiftReplayed};
 ghost use Rattle.sheet.specs.Answer.{AnswersSheet};
 ghost use Rattle.sheet_ask.specs.Asks.{AsksBook};
 use book::WriteAnswer;
@@ -17,9 +18,11 @@ use finder::Answer as Found;
 use formula::Answer;
 use packing::packed;
 use packing::packed_at;
+use packing::reached_as;
 use plancheck::CheckAnswer;
 use question::Question;
 use sheet_book::MakeAnswer;
+use station::Replayed;
 
 // The table of a formula. 0, or a refusal, which leaves the 16 bytes as they were.
 #[no_mangle]
@@ -143,4 +146,24 @@ pub extern "C" fn pj_ask(book: &[u8], question: &[u8], ranks: &mut [u8], out: &m
     ensures { λ r. ⌜ AsksBook (now (book .entry)) (now (question .entry)) (now (ranks .entry)) (now (out .entry)) r (now (ranks .exit)) (now (out .exit)) ⌝ }
 {
     sheet_ask::ask(book, question, ranks, out) as u64
+}
+
+// A recorded shift run against a book from a true starting valuation: 0 where every act was allowed, or a refusal, whose
+// place is the low 32 bits of the record's index. By a success, 27, 28 and 29 the two lent numbers are the count of
+// acts done and the valuation that they leave; any other refusal leaves them as they were.
+#[no_mangle]
+pub extern "C" fn pj_replay(book: &[u8], start: u64, shift: &[u8], reached: &mut [u64; 2]) -> u64
+    ensures { λ r. ⌜ ShiftReplayed (now (book .entry)) start (now (shift .entry)) (now (reached .entry)) r (now (reached .exit)) ⌝ }
+{
+    match station::replay(book, start, shift) {
+        Replayed::Whole(running) => {
+            *reached = reached_as(running);
+            0
+        }
+        Replayed::Stopped(why, running) => {
+            *reached = reached_as(running);
+            packed(why)
+        }
+        Replayed::Refused(why) => packed(why),
+    }
 }

@@ -1,8 +1,10 @@
-// A refusal as one number, for the C interface.
+// A refusal as one number, and where a replay stands as two, for the C interface.
 use refusal::Refusal;
+use station::Running;
 ghost use mathlib.Core.Path.{_≡_};
 ghost use Prim.Native.Nat.{_+_, _*_, _%_, _^_, _<_};
 ghost use Rattle.exports.specs.Packed.{packed, packedAt};
+ghost use Rattle.exports.specs.Returned.{reachedAs};
 
 // The second number in bits 40 to 47, the number in bits 32 to 39, and the low 32 bits of the place.
 fn joined(second: u8, number: u64, place: usize) -> u64
@@ -27,4 +29,12 @@ pub fn packed_at(why: Refusal, line: usize) -> u64
 {
     let told = why.numbers();
     joined(told.second, told.number, line)
+}
+
+// The count of acts and the valuation.
+pub fn reached_as(running: Running) -> [u64; 2]
+    ensures { λ r. ⌜ r ≡ reachedAs running ⌝ }
+{
+    let present = running.present;
+    [running.count as u64, present.0 as u64]
 }

@@ -8,6 +8,7 @@ use Rattle.refusal.specs.declared.Refusal.{Refusal}
 use Rattle.refusal.specs.declared.Refusal.the-variants.{FormulaLength, StrayByte, LetterPast, NotSentence, Settings, BookLength, Check, Head}
 use Rattle.refusal.specs.declared.Refusal.the-variants.{StrayBit, Team, Known, Goal, RankRoom, PlanRoom, Room, PlanLength, NoAct, NotPermitted}
 use Rattle.refusal.specs.declared.Refusal.the-variants.{NotSettled, TooSoon, LeftOver, Malformed, Twice, SheetLength, SheetSettings}
+use Rattle.refusal.specs.declared.Refusal.the-variants.{Shift, NoRecord, NotAllowed, Disagrees}
 use Rattle.refusal.specs.declared.Numbers.{Numbers}
 use Rattle.refusal.specs.Refusals.{numbers, number, second}
 
@@ -39,6 +40,10 @@ every i =
     ∷ Twice i
     ∷ SheetLength
     ∷ SheetSettings
+    ∷ Shift
+    ∷ NoRecord i
+    ∷ NotAllowed i
+    ∷ Disagrees i
     ∷ []
 
 -- the first of some refusals with this number
@@ -78,6 +83,10 @@ each (Malformed i) = (refl, tt, tt, tt)
 each (Twice i) = (refl, tt, tt, tt)
 each SheetLength = (refl, tt, tt, tt)
 each SheetSettings = (refl, tt, tt, tt)
+each Shift = (refl, tt, tt, tt)
+each (NoRecord i) = (refl, tt, tt, tt)
+each (NotAllowed i) = (refl, tt, tt, tt)
+each (Disagrees i) = (refl, tt, tt, tt)
 
 pub named-back : (r : Refusal) → named (numbers r) ≡ r
 named-back r = each r .0

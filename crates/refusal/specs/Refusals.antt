@@ -5,6 +5,7 @@ use Rattle.refusal.specs.declared.Refusal.{Refusal}
 use Rattle.refusal.specs.declared.Refusal.the-variants.{FormulaLength, StrayByte, LetterPast, NotSentence, Settings, BookLength, Check, Head}
 use Rattle.refusal.specs.declared.Refusal.the-variants.{StrayBit, Team, Known, Goal, RankRoom, PlanRoom, Room, PlanLength, NoAct, NotPermitted}
 use Rattle.refusal.specs.declared.Refusal.the-variants.{NotSettled, TooSoon, LeftOver, Malformed, Twice, SheetLength, SheetSettings}
+use Rattle.refusal.specs.declared.Refusal.the-variants.{Shift, NoRecord, NotAllowed, Disagrees}
 use Rattle.refusal.specs.declared.Numbers.{Numbers}
 
 -- "a number and a place", and no second number
@@ -38,6 +39,10 @@ numbers (Malformed line) = numbered 22 line
 numbers (Twice line) = numbered 23 line
 numbers SheetLength = numbered 24 0
 numbers SheetSettings = numbered 25 1
+numbers Shift = numbered 26 0
+numbers (NoRecord index) = numbered 27 index
+numbers (NotAllowed index) = numbered 28 index
+numbers (Disagrees index) = numbered 29 index
 
 -- the number that a refusal gives
 abbrev pub number : Refusal → ℕ

@@ -56,6 +56,14 @@ pub enum Refusal {
     SheetLength,
     // 25: n above 5 in the program. Its place is 1, the line of the size.
     SheetSettings,
+    // 26: shift of odd length, or a starting valuation not below 2^n.
+    Shift,
+    // 27: record with this index no act of the book, or its second byte not 0 or 1 (not 0 for a set).
+    NoRecord(usize),
+    // 28: the record with this index not permitted on the true settings.
+    NotAllowed(usize),
+    // 29: the record with this index a look that disagrees with the true settings.
+    Disagrees(usize),
 }
 
 // The numbers that a refusal gives: "a refusal gives a number and a place".
@@ -110,6 +118,10 @@ impl Refusal {
             Refusal::Twice(line) => numbered(23, line),
             Refusal::SheetLength => numbered(24, 0),
             Refusal::SheetSettings => numbered(25, 1),
+            Refusal::Shift => numbered(26, 0),
+            Refusal::NoRecord(index) => numbered(27, index),
+            Refusal::NotAllowed(index) => numbered(28, index),
+            Refusal::Disagrees(index) => numbered(29, index),
         }
     }
 }
