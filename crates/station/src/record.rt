@@ -14,14 +14,21 @@ pub struct Running {
     pub count: usize,
 }
 
+// An act was done, the one that the byte names: the settings that it leaves, and one act more.
+pub(crate) fn step(running: &mut Running, byte: u8)
+    requires { ⌜ now running .count + 1 < 2 ^ 64 ⌝ }
+    ensures { λ _. ⌜ now (running .exit) ≡ steppedBy (now (running .entry)) byte ⌝ }
+{
+    running.present = after(running.present, byte);
+    running.count = running.count + 1;
+}
+
 // The record after an act was done.
 pub(crate) fn stepped(running: Running, byte: u8) -> Running
     requires { ⌜ running .count + 1 < 2 ^ 64 ⌝ }
     ensures { λ r. ⌜ r ≡ steppedBy running byte ⌝ }
 {
-    let present = after(running.present, byte);
-    Running {
-        present,
-        count: running.count + 1,
-    }
+    let mut next = running;
+    step(&mut next, byte);
+    next
 }
