@@ -1,4 +1,4 @@
-// The C interface of Parjolenc, version 1.1, for x86-64 Linux: what a host has to know stands in this file.
+// The C interface of Parjolenc, version 1.2, for x86-64 Linux: what a host has to know stands in this file.
 //
 // `rt staticlib exports` writes the library. A program is compiled with it by the ordinary line, in C99 or C++11:
 //
@@ -8,7 +8,8 @@
 // digits 1 to 8. For each setting and post it has two rules: where the post may look at the setting, and where it may
 // set it. A rule is a formula over the settings. A question is a book, a team of posts, what the team knows at the
 // start, and a goal: a make formula that is to hold in the end, and learn formulas whose truth at the start is to be
-// known in the end. The answer is a plan with the least height, or "cannot".
+// known in the end. The answer is a plan with the least height, or "cannot". A shift is what a recorder wrote down:
+// acts that were done, one after the other, and what each look saw. It is run against a book on true settings.
 //
 // A table is 16 bytes: bit v mod 8 of byte v / 8, lowest first, is the formula's truth where setting i is bit i of v.
 // Bits at or past 2^n are 0. `team` has bit q for the post with index q; `known` has bit i for setting i, and `values`
@@ -21,10 +22,10 @@
 // WHAT A CALLER OWES. A slice is a pointer and a length. Nothing has to be checked first: bytes and lengths of any kind
 // are answered, and nothing but the lent bytes is written. What is owed is what C asks of any pointer: the bytes are
 // there for the time of the call, and bytes that are lent to be written are in no other slice of the call.
-//   - Alignment: none. All that is lent is bytes.
+//   - Alignment: none for bytes. `reached` of pj_replay is two words, aligned as any pj_u64 is.
 //   - Null: a pointer whose length is 0 may be null, and is not followed. No theorem speaks of addresses: it is so
 //     because the compiler is told of no pointer that it is not null, and tests/host lends null for each slice.
-//     `table` of pj_formula_read has no length: it is never null.
+//     `table` of pj_formula_read and `reached` of pj_replay have no length: they are never null.
 //   - Threads: the library has no variable of its own, keeps nothing between calls and calls memcpy and memset alone.
 //     Any number of calls may run at once, where what one of them writes is lent to no other.
 //   - Memory: none is taken but the stack, by each function at most what PJ_STACK below says.
@@ -38,9 +39,9 @@ extern "C" {
 // The version of this interface, and not of what is behind it. The first number grows where a program that was
 // written for the header before it would not compile or would mean something else, the second where something is added.
 #define PJ_VERSION_FIRST 1
-#define PJ_VERSION_SECOND 1
+#define PJ_VERSION_SECOND 2
 #define PJ_VERSION (100 * PJ_VERSION_FIRST + PJ_VERSION_SECOND)
-#define PJ_VERSION_TEXT "1.1"
+#define PJ_VERSION_TEXT "1.2"
 
 typedef unsigned char pj_u8;
 typedef unsigned long long pj_u64;
@@ -68,7 +69,8 @@ static inline pj_u64 pj_length(pj_u64 result) { return result & 0xffff; }
 // pj_book_read 6, 7, 8, 9, 15; pj_book_write 5, 8, 6, 9, 15; pj_find 6 to 14; pj_plan_check 6 to 12, 16, then the
 // first of 17 to 21 as the plan is read; pj_rules 24, line by line 22, 23 and the formula's 1 to 4, then 15.
 // pj_sheet and pj_ask print theirs: pj_sheet 24, line by line 22, 23 and 1 to 4, and 25 directly after line 1; pj_ask
-// the book's 6 to 9, 24, line by line 22, 23 and 1 to 4, then 13.
+// the book's 6 to 9, 24, line by line 22, 23 and 1 to 4, then 13. pj_replay gives the book's 6 to 9, 26, then record by
+// record 27, 28, 29.
 // The place is 0 where none is named in brackets. Of a text the place of 1 to 4 is the line.
 enum {
     // The formula has no byte or more than 255.
@@ -123,7 +125,16 @@ enum {
     // than 524,288.
     PJ_REFUSED_SHEET_LENGTH = 24,
     // The sheet's size has 6 or 7 settings, and the program takes 5. [1]
-    PJ_REFUSED_SHEET_SETTINGS = 25
+    PJ_REFUSED_SHEET_SETTINGS = 25,
+    // The shift has an odd number of bytes, or the starting valuation is not below 2^n.
+    PJ_REFUSED_SHIFT = 26,
+    // The first byte of a record is 0 or above 168, its setting is at or past n, its post is at or past m, or its
+    // second byte is above 1, or for a set not 0. [the record's index]
+    PJ_REFUSED_NO_RECORD = 27,
+    // The rule of a recorded act is false at the true settings where the act is due. [the record's index]
+    PJ_REFUSED_NOT_ALLOWED = 28,
+    // A look was recorded with another value than its setting has where the look is due. [the record's index]
+    PJ_REFUSED_DISAGREES = 29
 };
 
 // ---- sizes, in bytes where nothing else is said
@@ -143,12 +154,14 @@ enum {
     PJ_SHEET_MOST = 32768,  // of a sheet
     PJ_ANSWER_MOST = 28234, // of what pj_sheet prints
     PJ_TEXT_MOST = 65536,   // of a rules text and of a question text
-    PJ_ASK_MOST = 456970    // of what pj_ask prints: 10, and 14 for each byte of a plan
+    PJ_ASK_MOST = 456970,   // of what pj_ask prints: 10, and 14 for each byte of a plan
+    PJ_RECORD = 2           // of a record of a shift, which has any number of them
 };
 
 // The room that each function needs for n settings, 1 to 7. With rooms of these lengths 13, 14 and 15 are never given.
-// pj_formula_read writes a table, and pj_plan_check nothing; `out` of pj_sheet and of pj_ask may have any length, and
-// PJ_ANSWER_MOST and PJ_ASK_MOST fit all that they print. Where n is not known yet, the most of each will do.
+// pj_formula_read writes a table, pj_replay two words, and pj_plan_check nothing; `out` of pj_sheet and of pj_ask may
+// have any length, and PJ_ANSWER_MOST and PJ_ASK_MOST fit all that they print. Where n is not known yet, the most of
+// each will do.
 //   `rights` of pj_book_read, 256 × n, and `book` of pj_book_write and pj_rules, 512 × (1 + n): no less will do
 //   `plan` of pj_find, 2^n × (2^(n+1) - 1): no plan is longer, and room for the plan that is found will do
 //   `ranks` of pj_find and pj_ask, 7^n: no less will do
@@ -162,9 +175,10 @@ enum {
 // tests/host/stack.c paints a stack, calls the function where it goes deepest, and finds the lowest byte that changed.
 // On x86-64, with the library that kit 5b made on 2026-11-16, in the order below: 102,752 bytes (255 brackets: 400 each
 // and 752), 232, 200, 113,096 (a plan of height 254: 208 for each act and 60,264), 552, 142,608 and 122,432 (a look rule
-// of 255 brackets), and 146,024 (a plan of height 254). The frames in the object code add up to the same on the deepest
-// path. memcpy and memset are counted, but the first call of one in a process takes more where the dynamic linker binds
-// it then: 3,152 bytes were seen, for which there is room, since nothing that calls itself calls them.
+// of 255 brackets), and 146,024 (a plan of height 254); that of pj_replay is printed by the test. The frames in the
+// object code add up to the same on the deepest path. memcpy and memset are counted, but the first call of one in a
+// process takes more where the dynamic linker binds it then: 3,152 bytes were seen, for which there is room, since
+// nothing that calls itself calls them.
 enum {
     PJ_STACK_FORMULA_READ = 106496,
     PJ_STACK_BOOK_READ = 4096,
@@ -173,7 +187,8 @@ enum {
     PJ_STACK_PLAN_CHECK = 4096,
     PJ_STACK_SHEET = 143360,
     PJ_STACK_RULES = 122880,
-    PJ_STACK_ASK = 147456
+    PJ_STACK_ASK = 147456,
+    PJ_STACK_REPLAY = 4096
 };
 
 // ---- rights and books
@@ -197,6 +212,13 @@ static inline int pj_post(pj_u8 byte) { return (byte - 1) % 8; }
 
 // The byte of an act.
 #define PJ_ACT(kind, setting, post) (1 + ((kind) * 7 + (setting)) * 8 + (post))
+
+// ---- shifts
+
+// A shift's bytes: a record for each act, two bytes, PJ_RECORD. The first is the act's byte, as in a plan. The second
+// is what was seen: 0 or 1 for a look, 0 for a set. Any post of the book may act, since there is no team, and a setting
+// may be looked at again and again. An act is allowed where its rule is true at the present valuation, which has bit i
+// where setting i is true now. A set changes its setting; a look shows the present value and changes nothing.
 
 // ---- texts
 
@@ -288,6 +310,14 @@ pj_u64 pj_rules(const pj_u8 *rules, pj_u64 rules_length, pj_u8 *book, pj_u64 boo
 // 7^n bytes hold all ranks, as pj_find leaves them, and later bytes stay as they were.
 pj_u64 pj_ask(const pj_u8 *book, pj_u64 book_length, const pj_u8 *question, pj_u64 question_length, pj_u8 *ranks,
               pj_u64 ranks_length, pj_u8 *out, pj_u64 out_length);
+
+// A recorded shift run against a book, from the true valuation `start`. 0 where every act was allowed when it was done
+// and each look saw what was recorded, or a refusal: 27, 28 and 29 are about the first record at fault. `reached` is
+// two words: the first is the count of acts done, the second the valuation that they leave; at a fault, of the acts
+// before it. Success, 27, 28 and 29 write both; 6 to 9 and 26 leave both as they were. The place of 27, 28 and 29 is
+// the index modulo 2^32, and the count is all of it.
+pj_u64 pj_replay(const pj_u8 *book, pj_u64 book_length, pj_u64 start, const pj_u8 *shift, pj_u64 shift_length,
+                 pj_u64 *reached);
 
 #ifdef __cplusplus
 }
