@@ -18,7 +18,17 @@ void *realloc(void *old, u64 size);
 _Noreturn void _exit(int status);
 
 enum { GUARD = 32, ROOMS_MOST = 8 };
-enum { FORMULA_READ = 1, BOOK_READ = 2, BOOK_WRITE = 3, FIND = 4, PLAN_CHECK = 5, SHEET = 6, RULES = 7, ASK = 8 };
+enum {
+    FORMULA_READ = 1,
+    BOOK_READ = 2,
+    BOOK_WRITE = 3,
+    FIND = 4,
+    PLAN_CHECK = 5,
+    SHEET = 6,
+    RULES = 7,
+    ASK = 8,
+    REPLAY = 9 // its words are the first room: GUARD is a multiple of 8, so their address is right for words
+};
 
 static void fill(void *bytes, u64 size) {
     for (u64 done = 0; done < size;) {
@@ -48,6 +58,7 @@ static u64 call(u64 function, const u64 *number, u8 *const *room, const u64 *len
     case SHEET: return pj_sheet(room[0], lent[0], room[1], lent[1]);
     case RULES: return pj_rules(room[0], lent[0], room[1], lent[1]);
     case ASK: return pj_ask(room[0], lent[0], room[1], lent[1], room[2], lent[2], room[3], lent[3]);
+    case REPLAY: return pj_replay(room[1], lent[1], number[0], room[2], lent[2], (pj_u64 *)room[0]);
     }
     _exit(2);
 }

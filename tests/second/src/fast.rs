@@ -1,11 +1,11 @@
 //! A quick plain finder, to measure the proved one by: the same design, in ordinary Rust. It stands by itself, so that
-//! bench/ can take this one file. The cases here only compare it with `finder.rs`.
+//! bench/ can take this one file; `fast_replay.rs` leans on it. The cases here only compare it with `finder.rs`.
 //!
 //! What is permitted depends on the present side alone (unknown, false or true for each setting), so each rule is
 //! judged once for each of the 3^n sides. States where the goal is settled get rank 0; then each round pushes from
 //! the states that were found last to those that lead to them.
 
-const BLOCK: usize = 512;
+pub const BLOCK: usize = 512;
 const CHECKED: usize = 508;
 const MOST: usize = 7;
 const NEVER: u8 = 255;
@@ -47,12 +47,12 @@ pub fn find(
     }
 }
 
-fn refused(number: u64, place: usize) -> u64 {
+pub fn refused(number: u64, place: usize) -> u64 {
     number << 32 | place as u64
 }
 
-/// Refusals 6 to 12, or n.
-fn sound(book: &[u8], team: u8, known: u8, values: u8, make: &[u8], learn: &[u8]) -> Result<usize, u64> {
+/// Refusals 6 to 9, or n and m.
+pub fn sound_book(book: &[u8]) -> Result<(usize, usize), u64> {
     let blocks = book.len() / BLOCK;
     if book.len() % BLOCK != 0 || !(2..=8).contains(&blocks) {
         return Err(refused(6, 0));
@@ -71,7 +71,7 @@ fn sound(book: &[u8], team: u8, known: u8, values: u8, make: &[u8], learn: &[u8]
     if n != blocks - 1 || !(1..=8).contains(&m) || book[2..CHECKED].iter().any(|&byte| byte != 0) {
         return Err(refused(8, 0));
     }
-    let past = if n == MOST { 0 } else { u128::MAX << (1u32 << n) };
+    let past = past(n);
     for (place, block) in book.chunks_exact(BLOCK).enumerate().skip(1) {
         let tables_end = 32 * m;
         let within = block[..tables_end].chunks_exact(16).all(|table| number(table) & past == 0);
@@ -79,6 +79,22 @@ fn sound(book: &[u8], team: u8, known: u8, values: u8, make: &[u8], learn: &[u8]
             return Err(refused(9, place));
         }
     }
+    Ok((n, m))
+}
+
+/// The bits of a table at or past 2^n.
+fn past(n: usize) -> u128 {
+    if n == MOST {
+        0
+    } else {
+        u128::MAX << (1u32 << n)
+    }
+}
+
+/// Refusals 6 to 12, or n.
+fn sound(book: &[u8], team: u8, known: u8, values: u8, make: &[u8], learn: &[u8]) -> Result<usize, u64> {
+    let (n, m) = sound_book(book)?;
+    let past = past(n);
     if team == 0 || u32::from(team) >> m != 0 {
         return Err(refused(10, 0));
     }

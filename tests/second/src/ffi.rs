@@ -8,9 +8,11 @@ mod route;
 #[path = "ffi/linked.rs"]
 mod route;
 
-use crate::room::Room;
+use crate::room::{Room, Words};
 
 pub const TABLE: usize = 16;
+/// Words that a replay leaves: the count of acts done, and the valuation.
+pub const REACHED: usize = 2;
 
 /// Reads a formula of n settings and leaves its table in `table`, a room for 16 bytes. Success is 0.
 pub fn formula_read(n: u64, text: &mut Room, table: &mut Room) -> u64 {
@@ -60,4 +62,11 @@ pub fn rules(rules: &mut Room, book: &mut Room) -> u64 {
 /// result is the whole answer's length.
 pub fn ask(book: &mut Room, question: &mut Room, ranks: &mut Room, out: &mut Room) -> u64 {
     route::ask(book, question, ranks, out)
+}
+
+/// Runs a recorded shift against a book from a true starting valuation and leaves the count of acts done and the
+/// valuation in `reached`, two words. A shift without a fault is 0.
+pub fn replay(book: &mut Room, start: u64, shift: &mut Room, reached: &mut Words) -> u64 {
+    assert_eq!(reached.lent().len(), REACHED);
+    route::replay(book, start, shift, reached)
 }

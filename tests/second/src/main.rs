@@ -1,6 +1,6 @@
-//! The second program: paper 01 and issue 18's texts written again, independently, and compared with the proved library
-//! on many inputs, valid and damaged, to the last bit of every result and every lent byte. ../README.md tells how it
-//! is run.
+//! The second program: paper 01, issue 18's texts and request R-1's shifts written again, independently, and compared
+//! with the proved library on many inputs, valid and damaged, to the last bit of every result and every lent byte.
+//! ../README.md tells how it is run.
 //!
 //! An area of the library is two files: what the paper says (`formula.rs`) and the cases to try (`formulas.rs`). It
 //! has a line in `AREAS` once its functions are in the library.
@@ -10,6 +10,7 @@ mod books;
 mod checking;
 mod damage;
 mod fast;
+mod fast_replay;
 mod ffi;
 mod finder;
 mod finding;
@@ -25,6 +26,8 @@ mod plans;
 mod question;
 mod questions;
 mod refusal;
+mod replay;
+mod replaying;
 mod report;
 mod rng;
 mod room;
@@ -33,6 +36,7 @@ mod secrets;
 mod sentences;
 mod sheet;
 mod sheets;
+mod shifts;
 mod spoilt;
 mod tables;
 mod text;
@@ -71,6 +75,7 @@ const AREAS: &[Area] = &[
     Area { name: "question texts", functions: &["pj_ask"], test: texts::questions::test },
     Area { name: "sheets cut in two", functions: &["pj_sheet", "pj_rules", "pj_ask"], test: texts::cut::test },
     Area { name: "plan texts", functions: &["pj_ask"], test: plan_texts::test },
+    Area { name: "replaying shifts", functions: &["pj_replay"], test: replaying::test },
 ];
 
 fn main() -> ExitCode {

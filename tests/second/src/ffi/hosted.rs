@@ -5,7 +5,7 @@ use std::io::{Read, Write};
 use std::process::{Child, ChildStdin, ChildStdout, Command, Stdio};
 use std::sync::{Mutex, OnceLock};
 
-use crate::room::Room;
+use crate::room::{Room, Words};
 
 const FORMULA_READ: u64 = 1;
 const BOOK_READ: u64 = 2;
@@ -15,6 +15,7 @@ const PLAN_CHECK: u64 = 5;
 const SHEET: u64 = 6;
 const RULES: u64 = 7;
 const ASK: u64 = 8;
+const REPLAY: u64 = 9;
 
 pub fn formula_read(n: u64, text: &mut Room, table: &mut Room) -> u64 {
     call(FORMULA_READ, &[n], &mut [text, table])
@@ -53,6 +54,14 @@ pub fn rules(rules: &mut Room, book: &mut Room) -> u64 {
 
 pub fn ask(book: &mut Room, question: &mut Room, ranks: &mut Room, out: &mut Room) -> u64 {
     call(ASK, &[], &mut [book, question, ranks, out])
+}
+
+/// The words stand first, where all that is before them is words too, so that their address is right for words.
+pub fn replay(book: &mut Room, start: u64, shift: &mut Room, reached: &mut Words) -> u64 {
+    let mut words = reached.bytes();
+    let word = call(REPLAY, &[start], &mut [&mut words, book, shift]);
+    reached.take(&words);
+    word
 }
 
 struct Host {

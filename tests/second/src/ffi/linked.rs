@@ -1,7 +1,7 @@
 //! The route on x86-64: the archive is linked into this program. Nothing checks these declarations against the
 //! library's source, so they are few and of numbers and bytes alone.
 
-use crate::room::{Room, GUARD};
+use crate::room::{Room, Words, GUARD, GUARD_WORDS};
 
 extern "C" {
     fn pj_formula_read(n: u64, text: *const u8, len: u64, table: *mut u8) -> u64;
@@ -46,6 +46,14 @@ extern "C" {
         ranks_len: u64,
         out: *mut u8,
         out_len: u64,
+    ) -> u64;
+    fn pj_replay(
+        book: *const u8,
+        book_len: u64,
+        start: u64,
+        shift: *const u8,
+        shift_len: u64,
+        reached: *mut u64,
     ) -> u64;
 }
 
@@ -141,5 +149,12 @@ pub fn ask(book: &mut Room, question: &mut Room, ranks: &mut Room, out: &mut Roo
             start(out),
             size(out),
         )
+    }
+}
+
+pub fn replay(book: &mut Room, first: u64, shift: &mut Room, reached: &mut Words) -> u64 {
+    unsafe {
+        let words = reached.whole_mut().as_mut_ptr().add(GUARD_WORDS);
+        pj_replay(start(book), size(book), first, start(shift), size(shift), words)
     }
 }
