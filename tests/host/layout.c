@@ -1,5 +1,5 @@
 // What the header says of bytes and numbers, held to what the library does with them: the version, rights and rules in a
-// book, the numbers of a book, all plan bytes, and the knowledge numbers that index the ranks.
+// book, the numbers of a book, all plan bytes, all records, valuations, and the knowledge numbers that index the ranks.
 #include "tell.h"
 
 static pj_u8 rights[PJ_RIGHTS_MOST], book[PJ_BOOK_MOST], ranks[PJ_RANKS_MOST], plan[PJ_PLAN_MOST], make[PJ_TABLE];
@@ -7,7 +7,7 @@ static pj_u8 rights[PJ_RIGHTS_MOST], book[PJ_BOOK_MOST], ranks[PJ_RANKS_MOST], p
 static int version_agrees(void) {
     const char *text = PJ_VERSION_TEXT;
     return text[0] == '0' + PJ_VERSION_FIRST && text[1] == '.' && text[2] == '0' + PJ_VERSION_SECOND && text[3] == 0 &&
-           PJ_VERSION == 101;
+           PJ_VERSION == 102;
 }
 
 // Each of the 112 rules of the widest book has bytes of its own among the rights, and the same at its place in the book.
@@ -99,6 +99,46 @@ static int bytes_are_those(void) {
     return 1;
 }
 
+// With every rule open, what each record leaves of each valuation: a set changes its setting's bit, a look that saw that
+// bit changes nothing. Any other record is refused.
+static int records_are_those(void) {
+    fill(rights, sizeof rights, 255);
+    if (pj_book_write(7, 8, rights, sizeof rights, book, sizeof book) != 0) return 0;
+    for (int byte = 0; byte < 256; byte++)
+        for (int seen = 0; seen < 3; seen++)
+            for (pj_u64 v = 0; v < 128; v++) {
+                pj_u8 shift[PJ_RECORD] = {(pj_u8)byte, (pj_u8)seen};
+                pj_u64 reached[2], told = pj_replay(book, sizeof book, v, shift, PJ_RECORD, reached);
+                int kind = pj_kind(shift[0]);
+                pj_u64 bit = kind < PJ_STOP ? 1ULL << pj_setting(shift[0]) : 0, number = 0;
+                if (kind >= PJ_STOP || seen > (kind == PJ_LOOK)) number = PJ_REFUSED_NO_RECORD;
+                else if (kind == PJ_LOOK && seen != ((v & bit) != 0)) number = PJ_REFUSED_DISAGREES;
+                pj_u64 left = number != 0 || kind == PJ_LOOK ? v : kind == PJ_SET_TRUE ? v | bit : v & ~bit;
+                if (told != number << 32 || reached[0] != (number == 0) || reached[1] != left) return 0;
+            }
+    return 1;
+}
+
+// A book that permits one thing at one valuation: post q looks at setting i, or sets it. Bit v of the 16 bytes is the
+// rule at the valuation v, and at no other.
+static int valuations_are_those(void) {
+    for (int i = 0; i < 7; i++)
+        for (int set = 0; set < 2; set++)
+            for (int v = 0; v < 128; v++) {
+                int q = (i + v) % 8;
+                fill(rights, sizeof rights, 0);
+                rights[PJ_RIGHT(i, q, set) + v / 8] = (pj_u8)(1 << v % 8);
+                if (pj_book_write(7, 8, rights, sizeof rights, book, sizeof book) != 0) return 0;
+                for (int at = 0; at < 128; at++) {
+                    pj_u8 shift[PJ_RECORD] = {(pj_u8)PJ_ACT(set ? PJ_SET_TRUE : PJ_LOOK, i, q),
+                                              (pj_u8)(set ? 0 : at >> i & 1)};
+                    pj_u64 reached[2], told = pj_replay(book, sizeof book, (pj_u64)at, shift, PJ_RECORD, reached);
+                    if (at == v ? told != 0 : pj_number(told) != PJ_REFUSED_NOT_ALLOWED) return 0;
+                }
+            }
+    return 1;
+}
+
 // Paper 01's table of digits, written out again.
 static int digits_are_those(void) {
     static const int after[7][2] = {{1, 2}, {1, 2}, {1, 2}, {3, 4}, {3, 4}, {5, 6}, {5, 6}};
@@ -146,11 +186,13 @@ static pj_u64 follow(pj_u64 at, pj_u64 number) {
 }
 
 int main(void) {
-    test("the version's text and number are one, 1.1", version_agrees());
+    test("the version's text and number are one, 1.2", version_agrees());
     test("a rule's 16 bytes stand at PJ_RIGHT among the rights and at PJ_RULE in the book", rules_stand_there());
     test("and are the rule of that setting and post, to look or to set", rules_are_those());
     test("pj_settings and pj_posts, for each n and m", numbers_of_books());
     test("kind, setting and post of all 256 plan bytes, and PJ_ACT", bytes_are_those());
+    test("what all records leave of all valuations, every rule open", records_are_those());
+    test("a rule's bit v is asked at the valuation v", valuations_are_those());
     test("the digits after a set and a look", digits_are_those());
 
     p6_rights(rights);

@@ -5,11 +5,11 @@
 
 static pj_u8 rights[PJ_RIGHTS_ROOM(3)], book[PJ_BOOK_ROOM(3)], other[PJ_BOOK_ROOM(3)], room[PJ_BOOK_MOST + PJ_BLOCK];
 static pj_u8 ranks[PJ_RANKS_ROOM(3)], plan[PJ_PLAN_MOST + 1], make[PJ_TABLE], out[64], text[PJ_TEXT_MOST + 1];
-static int seen[26];
+static int seen[30];
 
 static void refused(const char *name, pj_u64 result, pj_u64 number, pj_u64 place) {
     test(name, pj_number(result) == number && pj_place(result) == place && pj_second(result) == 0);
-    if (number < 26 && pj_number(result) == number) seen[number] = 1;
+    if (number < 30 && pj_number(result) == number) seen[number] = 1;
 }
 
 // Whether `out` has the line `refused NUMBER PLACE`, of this length.
@@ -28,7 +28,7 @@ static void printed(const char *name, const char *sheet, pj_u64 length, pj_u64 n
     fill(out, sizeof out, 0);
     int right = says(pj_sheet((const pj_u8 *)sheet, length, out, sizeof out), number, line);
     test(name, right);
-    if (number < 26 && right) seen[number] = 1;
+    if (number < 30 && right) seen[number] = 1;
 }
 
 // A text of rules that pj_rules refuses with this line, and leaves the room as it was.
@@ -150,6 +150,58 @@ static void texts_of_questions(void) {
     no_answer("22 before 13", book, sizeof book, wrong, sizeof wrong - 1, 0, PJ_REFUSED_MALFORMED, "1");
 }
 
+// What running a shift against a book gives. The two words hold these two on return: with 27 to 29 the count of acts done
+// and the valuation that they leave, with the others what they held.
+static void replayed(const char *name, const pj_u8 *of, pj_u64 book_length, pj_u64 start, const pj_u8 *shift,
+                     pj_u64 length, pj_u64 number, pj_u64 place, pj_u64 count, pj_u64 valuation) {
+    pj_u64 reached[2] = {170, 171};
+    refused(name, pj_replay(of, book_length, start, shift, length, reached), number, place);
+    test("and what is reached", reached[0] == count && reached[1] == valuation);
+}
+
+// Order: the book's 6 to 9, 26, then record by record 27, 28, 29. P6's book: post 2 may set a where c is false, post 1
+// may set b where a is true, post 2 may look at c, and set it where it is true.
+static void shifts(void) {
+    static const pj_u8 done[8] = {130, 1, 18, 0, 58, 0, 65, 0}; // look c 2 sees 1, set c 2 0, set a 2 1, set b 1 1
+    pj_u8 shift[8];
+    pj_u64 b = sizeof book, reached[2] = {170, 171};
+    test("a shift without a fault is not refused, and four acts leave a and b true",
+         pj_replay(book, b, 4, done, 8, reached) == 0 && reached[0] == 4 && reached[1] == 3);
+    replayed("26: an odd length", book, b, 4, done, 7, PJ_REFUSED_SHIFT, 0, 170, 171);
+    replayed("26: 8 of three settings", book, b, 8, done, 8, PJ_REFUSED_SHIFT, 0, 170, 171);
+    for (int i = 0; i < 8; i++) shift[i] = done[i];
+    shift[4] = 0;
+    replayed("27: byte 0", book, b, 4, shift, 8, PJ_REFUSED_NO_RECORD, 2, 2, 0);
+    shift[4] = 169;
+    replayed("27: a byte above 168", book, b, 4, shift, 8, PJ_REFUSED_NO_RECORD, 2, 2, 0);
+    shift[4] = PJ_ACT(PJ_SET_TRUE, 3, 1);
+    replayed("27: setting d of three", book, b, 4, shift, 8, PJ_REFUSED_NO_RECORD, 2, 2, 0);
+    shift[4] = PJ_ACT(PJ_SET_TRUE, 0, 2);
+    replayed("27: post 3 of two", book, b, 4, shift, 8, PJ_REFUSED_NO_RECORD, 2, 2, 0);
+    shift[4] = done[4], shift[5] = 1;
+    replayed("27: a set that saw something", book, b, 4, shift, 8, PJ_REFUSED_NO_RECORD, 2, 2, 0);
+    shift[5] = 0, shift[1] = 2;
+    replayed("27: a look that saw 2", book, b, 4, shift, 8, PJ_REFUSED_NO_RECORD, 0, 0, 4);
+    shift[1] = 1, shift[4] = PJ_ACT(PJ_SET_FALSE, 2, 1);
+    replayed("28: a rule that was true at the start", book, b, 4, shift, 8, PJ_REFUSED_NOT_ALLOWED, 2, 2, 0);
+    shift[5] = 1;
+    replayed("27 before 28", book, b, 4, shift, 8, PJ_REFUSED_NO_RECORD, 2, 2, 0);
+    shift[4] = PJ_ACT(PJ_LOOK, 2, 1);
+    replayed("29: a look that saw what was", book, b, 4, shift, 8, PJ_REFUSED_DISAGREES, 2, 2, 0);
+    shift[4] = PJ_ACT(PJ_LOOK, 2, 0);
+    replayed("28 before 29", book, b, 4, shift, 8, PJ_REFUSED_NOT_ALLOWED, 2, 2, 0);
+    shift[0] = 0;
+    replayed("the first record at fault", book, b, 4, shift, 8, PJ_REFUSED_NO_RECORD, 0, 0, 4);
+    replayed("26 before 27", book, b, 8, shift, 8, PJ_REFUSED_SHIFT, 0, 170, 171);
+    replayed("6 before 26", book, b - 1, 8, done, 7, PJ_REFUSED_BOOK_LENGTH, 0, 170, 171);
+    with_byte(PJ_RULE(1, 0, 1), 0, 0);
+    replayed("7 before 26", other, b, 8, done, 7, PJ_REFUSED_CHECK, 2, 170, 171);
+    with_byte(1, 9, 1);
+    replayed("8 before 26", other, b, 8, done, 7, PJ_REFUSED_HEAD, 0, 170, 171);
+    with_byte(PJ_RULE(2, 1, 0) + 1, 1, 1);
+    replayed("9 before 26", other, b, 8, done, 7, PJ_REFUSED_STRAY_BIT, 3, 170, 171);
+}
+
 int main(void) {
     pj_u8 table[PJ_TABLE];
     char long_text[PJ_FORMULA_MOST + 1];
@@ -231,9 +283,10 @@ int main(void) {
 
     texts_of_rules();
     texts_of_questions();
+    shifts();
 
     int count = 0;
-    for (int i = 1; i < 26; i++) count += seen[i];
-    test("all 25 were given", count == 25);
+    for (int i = 1; i < 30; i++) count += seen[i];
+    test("all 29 were given", count == 29);
     return closing();
 }

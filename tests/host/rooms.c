@@ -1,5 +1,5 @@
-// The sizes of the header, each exactly and by one byte too few or too many, and what is left untouched; null where a
-// length is 0; odd addresses; and calls in several threads at once.
+// The sizes of the header, each exactly and by one byte too few or too many, and what is left untouched; a long shift;
+// null where a length is 0; odd addresses; and calls in several threads at once.
 #include "tell.h"
 
 #ifdef __cplusplus
@@ -94,6 +94,30 @@ static int text_most(void) {
     return right;
 }
 
+enum { RECORDS = 1000000 };
+
+// A shift of a million records, in which a is set on and off in turns and looked at: with a byte less and with a byte
+// more; whole; and with a fault at the end. The words beside the two that are lent are as they were.
+static int shift_of_a_million(void) {
+    static pj_u8 shift[RECORDS * PJ_RECORD + 1];
+    static const pj_u8 turns[4 * PJ_RECORD] = {PJ_ACT(PJ_SET_TRUE, 0, 0),  0, PJ_ACT(PJ_LOOK, 0, 0), 1,
+                                               PJ_ACT(PJ_SET_FALSE, 0, 0), 0, PJ_ACT(PJ_LOOK, 0, 0), 0};
+    pj_u64 b = PJ_BOOK_ROOM(1), length = RECORDS * PJ_RECORD, words[4] = {170, 171, 172, 173};
+    for (pj_u64 i = 0; i < length; i++) shift[i] = turns[i % sizeof turns];
+    fill(rights, PJ_TABLES, 0);
+    fill(rights, 1, 3), fill(rights + PJ_TABLE, 1, 3); // `1` over one setting
+    if (pj_book_write(1, 1, rights, PJ_TABLES, book, b) != 0) return 0;
+    for (pj_u64 odd = 0; odd < 2; odd++)
+        if (pj_replay(book, b, 0, shift, length - 1 + 2 * odd, words + 1) != (pj_u64)PJ_REFUSED_SHIFT << 32) return 0;
+    if (words[0] != 170 || words[1] != 171 || words[2] != 172 || words[3] != 173) return 0;
+    if (pj_replay(book, b, 0, shift, length, words + 1) != 0 || words[1] != RECORDS || words[2] != 0) return 0;
+    shift[length - 1] = 1;
+    pj_u64 told = pj_replay(book, b, 1, shift, length, words + 1);
+    if (pj_number(told) != PJ_REFUSED_DISAGREES || pj_place(told) != RECORDS - 1) return 0;
+    if (words[1] != RECORDS - 1 || words[2] != 0) return 0;
+    return words[0] == 170 && words[3] == 173;
+}
+
 static pj_u64 checked(pj_u64 learn_length, pj_u64 plan_length) {
     static const pj_u8 learn[5 * PJ_TABLE] = {0};
     return pj_plan_check(book, PJ_BOOK_ROOM(1), 1, 0, 0, make, PJ_TABLE, learn, learn_length, plan, plan_length);
@@ -126,10 +150,17 @@ static int null_for_empty(void) {
     if (pj_ask(0, 0, text, t, ranks, r, out, sizeof out) != 12 || !same_text(out, "refused 6 0\n")) return 0;
     if (pj_ask(book, b, 0, 0, ranks, r, out, sizeof out) != 13 || !same_text(out, "refused 22 1\n")) return 0;
     if (pj_ask(book, b, text, t, 0, 0, out, sizeof out) != 13 || !same_text(out, "refused 13 0\n")) return 0;
-    return pj_ask(book, b, text, t, ranks, r, 0, 0) > 13 && pj_ask(0, 0, 0, 0, 0, 0, 0, 0) == 12;
+    if (pj_ask(book, b, text, t, ranks, r, 0, 0) <= 13 || pj_ask(0, 0, 0, 0, 0, 0, 0, 0) != 12) return 0;
+
+    pj_u64 reached[2] = {170, 171};
+    if (pj_number(pj_replay(0, 0, 0, plan, PJ_RECORD, reached)) != PJ_REFUSED_BOOK_LENGTH) return 0;
+    if (pj_number(pj_replay(0, 0, 0, 0, 0, reached)) != PJ_REFUSED_BOOK_LENGTH) return 0;
+    if (pj_number(pj_replay(book, b, 2, 0, 0, reached)) != PJ_REFUSED_SHIFT) return 0;
+    if (reached[0] != 170 || reached[1] != 171) return 0;
+    return pj_replay(book, b, 1, 0, 0, reached) == 0 && reached[0] == 0 && reached[1] == 1;
 }
 
-// P6 at addresses with every remainder by 16, from rights to the checked plan, and from text to text.
+// P6 at addresses with every remainder by 16, from rights to the checked plan, from text to text, and as a shift.
 static int any_address(void) {
     static const char rules[] = "size 3 2\nwrite a 2 ~c\nwrite b 1 a\nread c 2 1\nwrite c 2 c\n";
     static const char question[] = "team 1 2\nknown\nmake b\n";
@@ -148,12 +179,18 @@ static int any_address(void) {
         if (length != PJ_BOOK_ROOM(3) || !same(made, b, length)) return 0;
         pj_ask(made, length, question_at, sizeof question - 1, k, PJ_RANKS_ROOM(3), o, 200);
         if (!same_text(o, "reach 4\n0 look c 2\n")) return 0;
+        static const pj_u8 acts[4 * PJ_RECORD] = {130, 1, 18, 0, 58, 0, 65, 0};
+        pj_u8 *shift = at + 15001;
+        pj_u64 reached[2];
+        for (pj_u64 i = 0; i < sizeof acts; i++) shift[i] = acts[i];
+        if (pj_replay(b, PJ_BOOK_ROOM(3), 4, shift, sizeof acts, reached) != 0) return 0;
+        if (reached[0] != 4 || reached[1] != 3) return 0;
     }
     return 1;
 }
 
-// A thread with rooms of its own asks the question of n settings again and again, by its tables and by its text: every
-// answer is the right one.
+// A thread with rooms of its own asks the question of n settings again and again, by its tables and by its text, and runs
+// a shift against the book, in which a is set as often as there are settings: every answer is the right one.
 struct asker {
     int n, right;
     pj_u8 rights[PJ_RIGHTS_ROOM(5)], book[PJ_BOOK_ROOM(5)], make[PJ_TABLE];
@@ -179,6 +216,12 @@ static void *ask(void *given) {
                              sizeof own->out);
         static const char *const heights[4] = {"reach 6\n", "reach 14\n", "reach 30\n", "reach 62\n"};
         if (size > sizeof own->out || !same_text(own->out, heights[own->n - 2])) own->right = 0;
+        pj_u8 shift[10] = {0};
+        pj_u64 reached[2];
+        for (pj_u64 i = 0; i < n; i++) shift[PJ_RECORD * i] = PJ_ACT(PJ_SET_TRUE, 0, 0);
+        if (pj_replay(own->book, PJ_BOOK_ROOM(n), 2, shift, PJ_RECORD * n, reached) != (n == 2 ? 28ULL << 32 | 1 : 0) ||
+            reached[0] != (n == 2 ? 1 : n) || reached[1] != 3)
+            own->right = 0;
     }
     return 0;
 }
@@ -237,6 +280,7 @@ int main(void) {
     test("a room too short for an answer has its beginning",
          pj_sheet(text, PJ_SHEET_MOST, out, 9) == 13 && same_text(out, "refused 2...."));
 
+    test("a shift of a million records, and a byte more or less", shift_of_a_million());
     rooms_of(1);
     test("null with length 0, for each slice", null_for_empty());
     test("any address will do", any_address());

@@ -7,7 +7,7 @@
 static pj_u8 stack[1 << 18] __attribute__((aligned(64)));
 static pj_u8 rights[PJ_RIGHTS_MOST], book[PJ_BOOK_MOST], ranks[PJ_RANKS_MOST], plan[PJ_PLAN_MOST], make[PJ_TABLE];
 static pj_u8 text[PJ_FORMULA_MOST], lines[PJ_TEXT_MOST], out[PJ_ASK_MOST];
-static pj_u64 result, plan_length, lines_length;
+static pj_u64 result, plan_length, lines_length, start, reached[2];
 
 // Calls f on the other stack. The called function keeps rbx, which holds the old stack's end.
 static void on_stack(void (*f)(void)) {
@@ -43,6 +43,7 @@ static void plan_check(void) {
 }
 static void sheet_answer(void) { result = pj_sheet(lines, lines_length, out, sizeof out); }
 static void rules_made(void) { result = pj_rules(lines, lines_length, book, sizeof book); }
+static void replayed(void) { result = pj_replay(book, sizeof book, start, lines, lines_length, reached); }
 static void asked(void) {
     result = pj_ask(book, sizeof book, lines, lines_length, ranks, sizeof ranks, out, sizeof out);
 }
@@ -111,6 +112,26 @@ int main(void) {
     lines_of("size 7 8\nread a 1 1\nwrite g 8 ", 'a', 1);
     below("pj_rules, rules that make a book", rules_made, PJ_STACK_RULES);
     test("of seven settings", result == PJ_BOOK_ROOM(7));
+
+    fill(rights, sizeof rights, 255);
+    result = pj_book_write(7, 8, rights, sizeof rights, book, sizeof book);
+    lines_length = PJ_RECORD * 1000;
+    for (pj_u64 i = 0; i < lines_length; i += PJ_RECORD) {
+        lines[i] = (pj_u8)PJ_ACT(i % 3 == 0 ? PJ_LOOK : PJ_SET_TRUE, (int)(i % 7), (int)(i % 8));
+        lines[i + 1] = i % 3 == 0;
+    }
+    start = 127;
+    holds("pj_replay, a shift of 1,000 records", replayed, PJ_STACK_REPLAY);
+    test("without a fault", result == 0 && reached[0] == 1000 && reached[1] == 127);
+    lines[1998] = PJ_ACT(PJ_LOOK, 0, 0), lines[1999] = 0;
+    below("pj_replay, the last look disagrees", replayed, PJ_STACK_REPLAY);
+    test("which is refused", pj_number(result) == PJ_REFUSED_DISAGREES && reached[0] == 999);
+    lines[0] = 169;
+    below("pj_replay, the first record is none", replayed, PJ_STACK_REPLAY);
+    test("which is refused", pj_number(result) == PJ_REFUSED_NO_RECORD && reached[0] == 0);
+    book[PJ_BOOK_MOST - 1] ^= 1;
+    below("pj_replay, the book is damaged", replayed, PJ_STACK_REPLAY);
+    test("which is refused", pj_number(result) == PJ_REFUSED_CHECK && pj_place(result) == 7);
 
     climb_rights(7, rights, make);
     book_write();
