@@ -3,7 +3,7 @@
 use crate::book;
 use crate::rng::Rng;
 
-const N: usize = 7;
+pub const N: usize = 7;
 pub const M: usize = 8;
 
 pub struct Asked {
@@ -43,7 +43,7 @@ fn all_true(settings: std::ops::Range<usize>) -> u128 {
 }
 
 /// Where some settings, each of them drawn with this chance, have drawn values.
-fn conjunction(rng: &mut Rng, percent: u32) -> u128 {
+pub fn conjunction(rng: &mut Rng, percent: u32) -> u128 {
     let mut bits = u128::MAX;
     for i in 0..N {
         if rng.chance(percent) {
@@ -54,7 +54,7 @@ fn conjunction(rng: &mut Rng, percent: u32) -> u128 {
 }
 
 /// A book of these rules, for a setting and a post, to look or else to set.
-fn book_of(mut rule: impl FnMut(usize, usize, bool) -> u128) -> Vec<u8> {
+pub fn book_of(mut rule: impl FnMut(usize, usize, bool) -> u128) -> Vec<u8> {
     let mut rights = Vec::with_capacity(N * 256);
     for setting in 0..N {
         for post in 0..M {

@@ -1,6 +1,7 @@
 //! The proved finder beside tests/second's plain one of the same design, in one run: seven settings, eight posts,
 //! teams of every size, nothing known. Answers, ranks and plans have to be the same. Before each call, outside the time taken,
-//! the rank table and the plan room are filled with 170, so both are in memory and neither holds a rank.
+//! the rank table and the plan room are filled with 170, so both are in memory and neither holds a rank. Then the proved
+//! replay beside a plain one, on shifts of a million records.
 
 mod asked;
 #[path = "../../tests/second/src/book.rs"]
@@ -8,8 +9,11 @@ mod asked;
 mod book;
 #[path = "../../tests/second/src/fast.rs"]
 mod fast;
+#[path = "../../tests/second/src/fast_replay.rs"]
+mod fast_replay;
 #[cfg(linked)]
 mod proved;
+mod recorded;
 #[path = "../../tests/second/src/refusal.rs"]
 #[allow(dead_code)]
 mod refusal;
@@ -20,6 +24,7 @@ mod rng;
 use std::time::{Duration, Instant};
 
 use asked::Asked;
+use recorded::{Recorded, RECORDS};
 use rng::Rng;
 
 const STATES: usize = 823_543;
@@ -30,6 +35,10 @@ const ANSWER: usize = 456_970;
 /// How many rules in a hundred are closed: dense, middling and sparse books.
 const CLOSED: [u32; 3] = [15, 50, 85];
 const TURNS: usize = 7;
+/// A shift is run in a few milliseconds.
+const SHIFT_TURNS: usize = 41;
+
+type Replay = fn(&[u8], u64, &[u8], &mut [u64; 2]) -> u64;
 
 type Finder = fn(&Asked, &mut [u8], &mut [u8]) -> u64;
 
@@ -113,11 +122,45 @@ fn asked_as_text(questions: &[Asked]) -> [Duration; 2] {
     sums
 }
 
+/// The least of some turns for each replay, the replays taking turns. Nothing is at fault, and both reach the same.
+fn least_of_shift(replays: &[Replay], recorded: &Recorded) -> Vec<Duration> {
+    let Recorded { book, start, shift } = recorded;
+    let mut times = vec![Duration::MAX; replays.len()];
+    let mut left = None;
+    for _ in 0..SHIFT_TURNS {
+        for (time, replay) in times.iter_mut().zip(replays) {
+            let mut reached = [170, 170];
+            let begun = Instant::now();
+            let word = replay(book, *start, shift, &mut reached);
+            *time = begun.elapsed().min(*time);
+            assert!(word == 0 && reached[0] == RECORDS as u64, "a fault in a faultless shift");
+            assert!(reached[1] == *left.get_or_insert(reached[1]), "the replays differ");
+        }
+    }
+    times
+}
+
+/// A line for the times of a shift.
+fn shift_line(name: &str, times: &[Duration]) {
+    let told = |time: &Duration| {
+        let seconds = time.as_secs_f64();
+        format!("{:.2} ms, {:.0} million records a second", seconds * 1e3, RECORDS as f64 / seconds / 1e6)
+    };
+    let plain = told(&times[0]);
+    match times.get(1) {
+        Some(proved) => {
+            let ratio = proved.as_secs_f64() / times[0].as_secs_f64();
+            println!("{name}: plain {plain}, proved {}, ratio {ratio:.2}", told(proved));
+        }
+        None => println!("{name}: plain {plain}"),
+    }
+}
+
 fn main() {
     #[cfg(linked)]
-    let finders: &[Finder] = &[plain, proved::find];
+    let (finders, replays): (&[Finder], &[Replay]) = (&[plain, proved::find], &[fast_replay::replay, proved::replay]);
     #[cfg(not(linked))]
-    let finders: &[Finder] = &[plain];
+    let (finders, replays): (&[Finder], &[Replay]) = (&[plain], &[fast_replay::replay]);
     if finders.len() == 1 {
         println!("the proved library is for x86-64 and this is another processor: the plain finder alone");
     }
@@ -145,4 +188,8 @@ fn main() {
             ask.as_secs_f64() / find.as_secs_f64()
         );
     }
+    println!("shifts of {RECORDS} records, the least of {SHIFT_TURNS} turns");
+    let mut rng = Rng::named(1, "shifts");
+    shift_line("every rule open", &least_of_shift(replays, &recorded::open(&mut rng)));
+    shift_line("rules that ask for several settings", &least_of_shift(replays, &recorded::of_several(&mut rng)));
 }

@@ -1,4 +1,5 @@
-//! The proved finder and the proved answer to a question text, through the C interface. Nothing checks this declaration against the library's source.
+//! The proved finder, the proved answer to a question text and the proved replay, through the C interface. Nothing
+//! checks these declarations against the library's source.
 
 use crate::asked::Asked;
 
@@ -27,6 +28,14 @@ extern "C" {
         ranks_len: u64,
         out: *mut u8,
         out_len: u64,
+    ) -> u64;
+    fn pj_replay(
+        book: *const u8,
+        book_len: u64,
+        start: u64,
+        shift: *const u8,
+        shift_len: u64,
+        reached: *mut u64,
     ) -> u64;
 }
 
@@ -64,5 +73,11 @@ pub fn ask(book: &[u8], question: &[u8], ranks: &mut [u8], out: &mut [u8]) -> u6
             out.as_mut_ptr(),
             out.len() as u64,
         )
+    }
+}
+
+pub fn replay(book: &[u8], start: u64, shift: &[u8], reached: &mut [u64; 2]) -> u64 {
+    unsafe {
+        pj_replay(book.as_ptr(), book.len() as u64, start, shift.as_ptr(), shift.len() as u64, reached.as_mut_ptr())
     }
 }
