@@ -15,9 +15,9 @@ use Rattle.book_block.specs.Rule.{rule, rulePlace}
 use Rattle.book_block.specs.declared.rule.Right.{Right}
 use Rattle.book_block.proofs.RuleLaws.{rule-truth}
 use Rattle.knowledge_acts.specs.declared.act.Act.{Act}
-use Rattle.knowledge_acts.specs.declared.act.Act.the-variants.{Set, Look}
+use Rattle.knowledge_acts.specs.Acts.{settingOf, postOf}
 use Rattle.plan.specs.Runs.{change}
-use Rattle.station.specs.Station.{ruleOf, allowed}
+use Rattle.station.specs.Station.{rightOf, ruleOf, allowed}
 use Rattle.station.specs.Inner.{ruleAt}
 
 -- a bit of a byte, as code shifts one there
@@ -47,11 +47,9 @@ rule-past book i q right v h =
 
 -- an act is allowed as its rule tells, where that stands in the book
 pub allowed-there : (book : List ℕ) (v : ℕ) (a : Act) → v < 128 → truth (drop (ruleAt book a) book) v ≡ allowed book v a
-unfolding allowed
-allowed-there book v (Set i q b) h = rule-truth book i q _ v h
-allowed-there book v (Look i q) h = rule-truth book i q _ v h
+unfolding allowed ruleOf ruleAt
+allowed-there book v a h = rule-truth book (settingOf a) (postOf a) (rightOf a) v h
 
 pub allowed-past : (book : List ℕ) (v : ℕ) (a : Act) → 128 ≤ v → false ≡ allowed book v a
-unfolding allowed
-allowed-past book v (Set i q b) h = rule-past book i q _ v h
-allowed-past book v (Look i q) h = rule-past book i q _ v h
+unfolding allowed ruleOf
+allowed-past book v a h = rule-past book (settingOf a) (postOf a) (rightOf a) v h

@@ -7,6 +7,7 @@ use lib.Dec.{ltb}
 use Rattle.ground.specs.Digits.{bit}
 use Rattle.ground.specs.Table.{truth}
 use Rattle.book_block.specs.Rule.{rule}
+use Rattle.book_block.specs.declared.rule.Right.{Right}
 use Rattle.book_block.specs.declared.rule.Right.the-variants.{Look as look-rule, Set as set-rule}
 use Rattle.knowledge_acts.specs.Acts.{settingOf, postOf}
 use Rattle.knowledge_acts.specs.declared.act.Act.{Act}
@@ -19,10 +20,13 @@ use Rattle.plan.specs.Runs.{change}
 unfoldable pub ofBook : ℕ → ℕ → Act → Bool
 ofBook n m a = ltb (settingOf a) n && ltb (postOf a) m
 
--- the rule that an act stands under
-abbrev pub ruleOf : List ℕ → Act → List ℕ
-ruleOf book (Set i q b) = rule book i q set-rule
-ruleOf book (Look i q) = rule book i q look-rule
+-- the rule that an act stands under: its setting's set rule or look rule for its post
+abbrev pub rightOf : Act → Right
+rightOf (Set i q b) = set-rule
+rightOf (Look i q) = look-rule
+
+unfoldable pub ruleOf : List ℕ → Act → List ℕ
+ruleOf book a = rule book (settingOf a) (postOf a) (rightOf a)
 
 -- "allow on the true settings": the act's rule is true at v
 unfoldable pub allowed : List ℕ → ℕ → Act → Bool

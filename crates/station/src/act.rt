@@ -7,39 +7,68 @@ use ground::bit_of;
 use knowledge_acts::Act;
 use knowledge_acts::Named;
 ghost use mathlib.Core.Path.{_≡_};
-ghost use mathlib.Core.Bool.{_&&_};
 ghost use Prim.Native.Nat.{_<_};
-ghost use lib.Dec.{ltb, leb};
-ghost use Rattle.knowledge_acts.specs.Acts.{actOf};
+ghost use lib.Dec.{leb};
+ghost use Rattle.knowledge_acts.specs.Acts.{settingOf, postOf, actOf};
 ghost use Rattle.plan.specs.Runs.{change};
-ghost use Rattle.station.specs.Station.{ofBook, allowed, leaves, shown, seenMost};
+ghost use Rattle.station.specs.Station.{ofBook, rightOf, allowed, leaves, shown, seenMost};
 ghost use Rattle.station.specs.Inner.{ruleAt};
 
 // How many valuations a table tells of.
 const VALUATIONS: u8 = 128;
 
-// Whether a book of n settings and m posts has the setting and the post.
-fn has(n: u8, m: u8, setting: u8, post: u8) -> bool
-    ensures { λ r. ⌜ r ≡ ltb setting n && ltb post m ⌝ }
+// The setting of an act, its post, and the right that it takes: one call for either kind of act, so that the
+// processor has no branch to guess.
+fn setting_of(act: Act) -> u8
+    ensures { λ r. ⌜ r ≡ settingOf act ⌝ }
 {
-    if setting < n {
-        return post < m;
+    match act {
+        Act::Set {
+            setting,
+            post: _,
+            value: _,
+        } => setting,
+        Act::Look { setting, post: _ } => setting,
     }
-    false
+}
+
+fn post_of(act: Act) -> u8
+    ensures { λ r. ⌜ r ≡ postOf act ⌝ }
+{
+    match act {
+        Act::Set {
+            setting: _,
+            post,
+            value: _,
+        } => post,
+        Act::Look { setting: _, post } => post,
+    }
+}
+
+fn right_of(act: Act) -> Right
+    ensures { λ r. ⌜ r ≡ rightOf act ⌝ }
+{
+    match act {
+        Act::Set {
+            setting: _,
+            post: _,
+            value: _,
+        } => Right::Set,
+        Act::Look {
+            setting: _,
+            post: _,
+        } => Right::Look,
+    }
 }
 
 // Whether it is an act of a book of n settings and m posts, whoever is in a team.
 pub(crate) fn is_of_book(n: u8, m: u8, act: Act) -> bool
     ensures { λ r. ⌜ r ≡ ofBook n m act ⌝ }
 {
-    match act {
-        Act::Set {
-            setting,
-            post,
-            value: _,
-        } => has(n, m, setting, post),
-        Act::Look { setting, post } => has(n, m, setting, post),
+    if setting_of(act) < n {
+        return post_of(act) < m;
     }
+    false
 }
 
 // Whether such an act can be recorded with this second byte: 0 for a set, 0 or 1 for a look.
@@ -63,14 +92,7 @@ pub(crate) fn can_show(act: Act, seen: u8) -> bool
 fn rule_of(book: &[u8], act: Act) -> usize
     ensures { λ r. ⌜ r ≡ ruleAt (now (book .entry)) act ⌝ }
 {
-    match act {
-        Act::Set {
-            setting,
-            post,
-            value: _,
-        } => rule_at(book, setting, post, Right::Set),
-        Act::Look { setting, post } => rule_at(book, setting, post, Right::Look),
-    }
+    rule_at(book, setting_of(act), post_of(act), right_of(act))
 }
 
 // Whether the act's rule is true at these settings. Past the 128 valuations that a table tells of, none is.
@@ -93,12 +115,7 @@ pub fn shows(present: Present, act: Act) -> u8
             post: _,
             value: _,
         } => 0,
-        Act::Look { setting, post: _ } => {
-            if bit_of(present.0, setting) {
-                return 1;
-            }
-            0
-        }
+        Act::Look { setting, post: _ } => bit_of(present.0, setting) as u8,
     }
 }
 

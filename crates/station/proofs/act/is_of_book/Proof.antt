@@ -1,34 +1,28 @@
--- `is_of_book` meets its contract: by that of the call, for either kind of act.
+-- `is_of_book` meets its contract: by the two tests.
 use borrow.Author.Needs.{needs}
+use borrow.Author.Tests.{lt-ltb, le-ltb}
 use Rattle.station.specs.Station.{ofBook}
 use Rattle.station.proofs.act.is_of_book.Statement.{statement}
 use Rattle.station.proofs.act.is_of_book.Tie as tie
 
-enum-known-act : tie.Need-enum-known-act
-enum-known-act c = search needs
+setting-of-requires : tie.Need-setting-of-requires
+setting-of-requires c κs = search needs
 
-has-requires : tie.Need-has-requires
-has-requires c κs = search needs
-
-enum-known-act-2 : tie.Need-enum-known-act-2
-enum-known-act-2 c = search needs
-
-has-requires-2 : tie.Need-has-requires-2
-has-requires-2 c κs = search needs
+post-of-requires : tie.Need-post-of-requires
+post-of-requires c κs = search needs
 
 returns : tie.Need-returns
 unfolding ofBook
 returns c =
-    let set : tie.After-act = search in
-    rw (set .act .given .1) (c .has .ensures)
+    let asked : tie.After-setting-of = search in
+    let ours : tie.Then1 = search in
+    rw (← asked .setting-of .ensures, ← c .post-of .ensures, lt-ltb _ _ (ours .if1 .taken))
 
 returns-2 : tie.Need-returns-2
 unfolding ofBook
 returns-2 c =
-    let look : tie.After-act2 = search in
-    rw (look .act2 .given .1) (c .has2 .ensures)
+    let asked : tie.After-setting-of = search in
+    rw (← asked .setting-of .ensures, le-ltb _ _ (c .if1 .left))
 
 pub is-of-book-spec : {M : Type 1} → statement M
-is-of-book-spec =
-    tie.close
-    (tie.spec enum-known-act has-requires enum-known-act-2 has-requires-2 returns returns-2)
+is-of-book-spec = tie.close (tie.spec setting-of-requires post-of-requires returns returns-2)

@@ -1,37 +1,30 @@
--- `rule_of` meets its contract: by that of the call, for either kind of act.
+-- `rule_of` meets its contract: by that of the call.
 use borrow.Author.Needs.{needs}
+use Rattle.station.specs.Inner.{ruleAt}
 use Rattle.station.proofs.act.rule_of.Statement.{statement}
 use Rattle.station.proofs.act.rule_of.Tie as tie
 
-enum-known-act : tie.Need-enum-known-act
-enum-known-act c = search needs
+setting-of-requires : tie.Need-setting-of-requires
+setting-of-requires c κs = search needs
+
+post-of-requires : tie.Need-post-of-requires
+post-of-requires c κs = search needs
+
+right-of-requires : tie.Need-right-of-requires
+right-of-requires c κs = search needs
 
 rule-at-requires : tie.Need-rule-at-requires
 rule-at-requires c κs = search needs
 
-enum-known-act-2 : tie.Need-enum-known-act-2
-enum-known-act-2 c = search needs
-
-rule-at-requires-2 : tie.Need-rule-at-requires-2
-rule-at-requires-2 c κs = search needs
-
 returns : tie.Need-returns
+unfolding ruleAt
 returns c =
-    let set : tie.After-act = search in
-    rw (set .act .given .1) (c .rule-at .ensures)
-
-returns-2 : tie.Need-returns-2
-returns-2 c =
-    let look : tie.After-act2 = search in
-    rw (look .act2 .given .1) (c .rule-at2 .ensures)
+    let setting : tie.After-setting-of = search in
+    let post : tie.After-post-of = search in
+    let right : tie.After-right-of = search in
+    rw (← setting .setting-of .ensures, ← post .post-of .ensures, ← right .right-of .ensures) (c .rule-at .ensures)
 
 pub rule-of-spec : {M : Type 1} → statement M
 rule-of-spec =
     tie.close
-    (tie.spec
-    enum-known-act
-    rule-at-requires
-    enum-known-act-2
-    rule-at-requires-2
-    returns
-    returns-2)
+    (tie.spec setting-of-requires post-of-requires right-of-requires rule-at-requires returns)
