@@ -11,7 +11,7 @@ use Rattle.sheet_check.proofs.check_text.Statement.{statement}
 use Rattle.sheet_check.proofs.check_text.Tie as tie
 
 slice-aggregate-read : tie.Need-slice-aggregate-read
-slice-aggregate-read c = search needs
+slice-aggregate-read c = sym (length-replicate {A = ℕ} 74897 0)
 
 read-requires : tie.Need-read-requires
 read-requires c κs = search needs
