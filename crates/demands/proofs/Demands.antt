@@ -1,6 +1,6 @@
 -- The three demands, each said of what the public functions' contracts allow. The functions have no `requires`: they take every input there is,
 -- and the gate proves that each returns and meets its contract. The contracts are `ReadsFormula` (of `formula::read`), `ReadsBook` and
--- `WritesBook` (of `book::read` and `write`), `Finds` (of `finder::find`), `Checks` (of `plancheck::check`) and `AnswersSheet` (of `sheet::answer`).
+-- `WritesBook` (of `book::read` and `write`), `Finds` (of `finder::find`), `Checks` (of `plancheck::check`), `Replays` (of `station::replay`) and `AnswersSheet` (of `sheet::answer`).
 use denote.Ref.{now}
 use mathlib.Core.Path.{_≡_, subst}
 use mathlib.Core.Logic.{_⊎_, _↔_}
@@ -42,6 +42,10 @@ use Rattle.plancheck.specs.declared.answer.CheckAnswer.{CheckAnswer}
 use Rattle.plancheck.specs.declared.answer.CheckAnswer.the-variants.{Yes, Refused as NotAccepted}
 use Rattle.plancheck.proofs.OneAnswer.{checks-one}
 use Rattle.plancheck.proofs.Theorems.{yes-exact}
+use Rattle.station.specs.Replay.{replayRows, Replays}
+use Rattle.station.specs.declared.shift.Replayed.{Replayed}
+use Rattle.station.specs.declared.shift.Replayed.the-variants.{Refused as NotPlayed}
+use Rattle.station.proofs.OneAnswer.{replays-one}
 use Rattle.print_answer.specs.Printed.{refusedText, cannotText, reachText, Prints}
 use Rattle.sheet_reading.specs.Sheet.{Sheet}
 use Rattle.sheet_reading.specs.Reading.{Meaning, sheetMeaning, refused, stated}
@@ -55,6 +59,7 @@ use Rattle.book.proofs.read.Reads as book-read-contract
 use Rattle.book.proofs.write.Reads as book-write-contract
 use Rattle.finder.proofs.find.Reads as find-contract
 use Rattle.plancheck.proofs.check.Reads as check-contract
+use Rattle.station.proofs.replay.Reads as replay-contract
 use Rattle.sheet.proofs.answer.Reads as answer-contract
 
 -- ---- Demand 1. "Every sheet, book, question or plan, of any length and content, gets its result or a numbered refusal in the written order. The
@@ -76,6 +81,9 @@ one-answer = find-unique
 
 pub one-verdict : (book : List ℕ) (q : Question) (goal : Goal) (plan : List ℕ) (a b : CheckAnswer) → Checks book q goal plan a → Checks book q goal plan b → a ≡ b
 one-verdict = checks-one
+
+pub one-replay : (book : List ℕ) (start : ℕ) (shift : List ℕ) (a b : Replayed) → Replays book start shift a → Replays book start shift b → a ≡ b
+one-replay = replays-one
 
 pub one-sheet-answer : (s old : List ℕ) (r r′ : ℕ) (new new′ : List ℕ) → AnswersSheet s old r new → AnswersSheet s old r′ new′ → (r ≡ r′) × (new ≡ new′)
 one-sheet-answer = answer-unique
@@ -102,6 +110,10 @@ refused-question = find-refused
 pub refused-plan : (book : List ℕ) (q : Question) (goal : Goal) (plan : List ℕ) (r : Refusal) → Checks book q goal plan (NotAccepted r)
     → RefusesPlan book q goal plan r
 refused-plan book q goal plan r x = x
+
+-- a shift's before any record is read; the act at fault, 27 to 29, is in Shifts
+pub refused-shift : (book : List ℕ) (start : ℕ) (shift : List ℕ) (r : Refusal) → Replays book start shift (NotPlayed r) → First (replayRows book start shift) r
+refused-shift book start shift r x = x
 
 -- a sheet's is printed; 22 and its line are told by the grammar alone, unless an earlier line is refused for something else; and the formula's number
 -- is the one that `formula::read` answers. Exactly has every refusal of a sheet by the grammar, both ways.
@@ -226,6 +238,9 @@ tied-find κs a x s = (λ p. p, λ p. p)
 pub tied-check : (κs : _) (a : _) (x : _) (s : _) → check-contract.Post κs a x s
     ↔ Checks (now (a .0)) (a .1 .0) (goalOf (now (a .1 .1 .0)) (now (a .1 .1 .1 .0))) (now (a .1 .1 .1 .1 .0)) x
 tied-check κs a x s = (λ p. p, λ p. p)
+
+pub tied-replay : (κs : _) (a : _) (x : _) (s : _) → replay-contract.Post κs a x s ↔ Replays (now (a .0)) (a .1 .0) (now (a .1 .1 .0)) x
+tied-replay κs a x s = (λ p. p, λ p. p)
 
 pub tied-answer : (κs : _) (a : _) (x : _) (s : _) → answer-contract.Post κs a x s ↔ AnswersSheet (now (a .0)) (now (a .1 .0)) x (now (s .1 .0))
 tied-answer κs a x s = (λ p. p, λ p. p)

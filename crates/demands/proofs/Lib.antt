@@ -1,6 +1,7 @@
--- The three demands, on one page; the same in full strength (Exactly); that the finder and the plan check agree; and that a sheet is answered as its rules
--- and its question are (Texts).
+-- The three demands, on one page; the same in full strength (Exactly); that the finder and the plan check agree; that a sheet is answered as its rules
+-- and its question are (Texts); and what the replay of a recorded shift says (Shifts).
 pub mod Demands
 pub mod Agree
 pub mod Exactly
 pub mod Texts
+pub mod Shifts
