@@ -121,8 +121,8 @@ enum {
     PJ_REFUSED_MALFORMED = 22,
     // A line names a right, a post or a setting that was named already. [the line]
     PJ_REFUSED_TWICE = 23,
-    // The sheet has more than 32,768 bytes, the text of rules or of a question more than 65,536, or that of a plan more
-    // than 524,288.
+    // The sheet has more than 32,768 bytes, the text of rules or of a question more than 65,536, that of a plan more
+    // than 524,288, or a shift more than 2,097,152.
     PJ_REFUSED_SHEET_LENGTH = 24,
     // The sheet's size has 6 or 7 settings, and the program takes 5. [1]
     PJ_REFUSED_SHEET_SETTINGS = 25,
@@ -175,8 +175,8 @@ enum {
 // tests/host/stack.c paints a stack, calls the function where it goes deepest, and finds the lowest byte that changed.
 // On x86-64, with the library that kit 5b made on 2026-11-16, in the order below: 102,752 bytes (255 brackets: 400 each
 // and 752), 232, 200, 113,096 (a plan of height 254: 208 for each act and 60,264), 552, 142,608 and 122,432 (a look rule
-// of 255 brackets), and 146,024 (a plan of height 254); that of pj_replay is printed by the test. The frames in the
-// object code add up to the same on the deepest path. memcpy and memset are counted, but the first call of one in a
+// of 255 brackets), 146,024 (a plan of height 254), and 184. The frames in the object code add up to the same on the
+// deepest path. memcpy and memset are counted, but the first call of one in a
 // process takes more where the dynamic linker binds it then: 3,152 bytes were seen, for which there is room, since
 // nothing that calls itself calls them.
 enum {

@@ -3,10 +3,10 @@
 -- (`StrayLines`); and that printed lines are written so (`PrintedLines`).
 pub mod Theorems
 pub mod Examples
-mod LineLaws
-mod TextLaws
-mod WrittenLines
-mod ReadLines
-mod PlanTexts
+pub mod LineLaws
+pub mod TextLaws
+pub mod WrittenLines
+pub mod ReadLines
+pub mod PlanTexts
 mod StrayLines
 mod PrintedLines

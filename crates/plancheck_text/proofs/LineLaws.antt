@@ -79,16 +79,17 @@ pub byte-by : (w : List ℕ) (a b : Bool) → isStop w ≡ a → isLook w ≡ b 
 unfolding wordsByte
 byte-by w a b x y = rw (x, y) refl
 
--- an act from the bytes that were read
-pub look-from : (w : List ℕ) {i q x y : ℕ} → x ≡ getD w 6 0 → i ≡ x - 97 → y ≡ getD w 8 0 → q ≡ y - 49 → planByte (Look i q) ≡ planByte (lookOf w)
-look-from w a b c d = ap planByte (ap₂ Look (b ∙ ap (λ (n : ℕ). n - 97) a) (d ∙ ap (λ (n : ℕ). n - 49) c))
+-- an act from the bytes that were read at these places
+pub look-from : (w : List ℕ) (j k : ℕ) {i q x y : ℕ} → x ≡ getD w j 0 → i ≡ x - 97 → y ≡ getD w k 0 → q ≡ y - 49
+    → planByte (Look i q) ≡ planByte (Look (getD w j 0 - 97) (getD w k 0 - 49))
+look-from w j k a b c d = ap planByte (ap₂ Look (b ∙ ap (λ (n : ℕ). n - 97) a) (d ∙ ap (λ (n : ℕ). n - 49) c))
 
-pub set-from : (w : List ℕ) {i q x y z : ℕ} → x ≡ getD w 5 0 → i ≡ x - 97 → y ≡ getD w 7 0 → q ≡ y - 49 → z ≡ getD w 9 0
-    → planByte (Set i q (eqb z 49)) ≡ planByte (setOf w)
-set-from w {i} {q} {z = z} a b c d e =
+pub set-from : (w : List ℕ) (j k l : ℕ) {i q x y z : ℕ} → x ≡ getD w j 0 → i ≡ x - 97 → y ≡ getD w k 0 → q ≡ y - 49 → z ≡ getD w l 0
+    → planByte (Set i q (eqb z 49)) ≡ planByte (Set (getD w j 0 - 97) (getD w k 0 - 49) (eqb (getD w l 0) 49))
+set-from w j k l {i} {q} {z = z} a b c d e =
     ap planByte
-    (ap₂ (λ (j k : ℕ). Set j k (eqb z 49)) (b ∙ ap (λ (n : ℕ). n - 97) a) (d ∙ ap (λ (n : ℕ). n - 49) c)
-    ∙ ap (λ (n : ℕ). Set (getD w 5 0 - 97) (getD w 7 0 - 49) (eqb n 49)) e)
+    (ap₂ (λ (m n : ℕ). Set m n (eqb z 49)) (b ∙ ap (λ (n : ℕ). n - 97) a) (d ∙ ap (λ (n : ℕ). n - 49) c)
+    ∙ ap (λ (n : ℕ). Set (getD w j 0 - 97) (getD w k 0 - 49) (eqb n 49)) e)
 
 -- ---- a line
 

@@ -29,7 +29,7 @@ fine-line L l another more h e = by-test (isPlanLine l) (strayLine (suc L) (anot
     by-test true n e = (refl, e)
     by-test false n e = absurd (omega (arith, e, h))
 
-rest-empty : (L : ℕ) (rest : List ℕ) → 1 ≤ L → strayRest L rest ≡ 0 → rest ≡ []
+pub rest-empty : (L : ℕ) (rest : List ℕ) → 1 ≤ L → strayRest L rest ≡ 0 → rest ≡ []
 rest-empty L [] h e = refl
 rest-empty L (c ∷ rest) h e = absurd (omega (arith, e, h))
 

@@ -38,22 +38,22 @@ digits-taken (c ∷ s) = by-test (among 48 10 c) refl (digits-taken s)
 no-form : {A : Type 0} → false ≡ true → A
 no-form e = absurd (let y : _≡_ {A = ℕ} 0 1 = cc in omega arith)
 
-both-true : (a b : Bool) → (a && b) ≡ true → (a ≡ true) × (b ≡ true)
+pub both-true : (a b : Bool) → (a && b) ≡ true → (a ≡ true) × (b ≡ true)
 both-true a b e = let t = true→T {a = a && b} e in (T→true a (and-left a b t), T→true b (and-right a b t))
 
 -- the first byte
-form-head : (sign : ℕ) (form w : List ℕ) → hasForm (sign ∷ form) w ≡ true → (c : ℕ) × (t : List ℕ) × (w ≡ c ∷ t) × (standsFor sign c ≡ true) × (hasForm form t ≡ true)
+pub form-head : (sign : ℕ) (form w : List ℕ) → hasForm (sign ∷ form) w ≡ true → (c : ℕ) × (t : List ℕ) × (w ≡ c ∷ t) × (standsFor sign c ≡ true) × (hasForm form t ≡ true)
 unfolding hasForm
 form-head sign form [] e = no-form e
 form-head sign form (c ∷ t) e = let x = both-true (standsFor sign c) (hasForm form t) e in (c, t, refl, x .0, x .1)
 
-form-end : (w : List ℕ) → hasForm [] w ≡ true → w ≡ []
+pub form-end : (w : List ℕ) → hasForm [] w ≡ true → w ≡ []
 unfolding hasForm
 form-end [] e = refl
 form-end (c ∷ t) e = no-form e
 
 -- signs that stand for themselves
-abbrev plain : List ℕ → Bool
+abbrev pub plain : List ℕ → Bool
 plain [] = true
 plain (sign ∷ form) = (not (eqb sign 80) && not (eqb sign 71) && not (eqb sign 86)) && plain form
 
@@ -67,7 +67,7 @@ plain-sign sign c h e =
     (stands-by sign c false false false (T→false (eqb sign 80) (and-left p g x)) (T→false (eqb sign 71) (and-right p g x)) (T→false (eqb sign 86) (and-right (p && g) v h)))
     ∙ e)))
 
-form-plain : (form more w : List ℕ) → plain form ≡ true → hasForm (form ++ more) w ≡ true → (t : List ℕ) × (w ≡ form ++ t) × (hasForm more t ≡ true)
+pub form-plain : (form more w : List ℕ) → plain form ≡ true → hasForm (form ++ more) w ≡ true → (t : List ℕ) × (w ≡ form ++ t) × (hasForm more t ≡ true)
 form-plain [] more w h e = (w, refl, e)
 form-plain (sign ∷ form) more w h e =
     let x = form-head sign (form ++ more) w e in
@@ -79,7 +79,7 @@ form-plain (sign ∷ form) more w h e =
 sign-is : (first count c : ℕ) → among first count c ≡ true → (i : ℕ) × (i < count) × (c ≡ first + i)
 sign-is first count c e = let x = between first count c (true→T e) in (c - first, omega (arith, x .0, x .1), omega (arith, x .0))
 
-value-is : (c : ℕ) → among 48 2 c ≡ true → (b : Bool) × (c ≡ valueDigit b)
+pub value-is : (c : ℕ) → among 48 2 c ≡ true → (b : Bool) × (c ≡ valueDigit b)
 value-is c e = let x = sign-is 48 2 c e in by-digit (x .0) (x .1) (x .2)
   where
     by-digit : (i : ℕ) → i < 2 → c ≡ 48 + i → (b : Bool) × (c ≡ valueDigit b)
@@ -88,7 +88,7 @@ value-is c e = let x = sign-is 48 2 c e in by-digit (x .0) (x .1) (x .2)
     by-digit (suc (suc i)) h e = absurd (omega arith)
 
 -- `P G`, and what follows it
-names-are : (more w : List ℕ) → hasForm (bytes "P G" ++ more) w ≡ true
+pub names-are : (more w : List ℕ) → hasForm (bytes "P G" ++ more) w ≡ true
     → (i : ℕ) × (q : ℕ) × (t : List ℕ) × (i < 7) × (q < 8) × (w ≡ (97 + i) ∷ 32 ∷ (49 + q) ∷ t) × (hasForm more t ≡ true)
 unfolding standsFor
 names-are more w e =
@@ -165,7 +165,7 @@ line-only line e =
 
 -- ---- the first line
 
-begins-then : (w s : List ℕ) → begins w s ≡ true → s ≡ w ++ drop (length w) s
+pub begins-then : (w s : List ℕ) → begins w s ≡ true → s ≡ w ++ drop (length w) s
 unfolding begins
 begins-then [] s e = refl
 begins-then (c ∷ w) [] e = no-form e

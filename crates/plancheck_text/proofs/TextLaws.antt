@@ -43,11 +43,11 @@ module _ (line t : List ℕ) where
 
 -- ---- from a place on
 
-rest-some : (L : ℕ) (t : List ℕ) → 0 < length t → strayRest L t ≡ L
+pub rest-some : (L : ℕ) (t : List ℕ) → 0 < length t → strayRest L t ≡ L
 rest-some L [] h = absurd (omega arith)
 rest-some L (c ∷ t) h = refl
 
-rest-none : (L : ℕ) (t : List ℕ) → length t ≤ 0 → strayRest L t ≡ 0
+pub rest-none : (L : ℕ) (t : List ℕ) → length t ≤ 0 → strayRest L t ≡ 0
 rest-none L [] h = refl
 rest-none L (c ∷ t) h = absurd (omega arith)
 

@@ -1,5 +1,5 @@
--- What `read` settles: each follows from the meaning and the laws of a plan's lines. What a caller makes of the room is said by `prints-whole` and `prints-part`
--- (print_answer/proofs/Theorems).
+-- What `read` settles, and the two functions on the form of words: each follows from the meaning and the laws of a plan's lines. What a caller makes of the room
+-- is said by `prints-whole` and `prints-part` (print_answer/proofs/Theorems).
 use mathlib.Core.Path.{_≡_, refl, sym, ap, ap₂, _∙_, subst}
 use mathlib.Core.Logic.{_⊎_, inl, inr, ⊎-elim}
 use mathlib.Core.List.{List, [], _∷_, _++_, append-nil}
@@ -28,6 +28,8 @@ use Rattle.plancheck_text.proofs.PlanTexts.{text-only, line-at, lines-l
 use Rattle.plancheck_text.proofs.StrayLines.{refusal-is, lines-stray}
 use Rattle.plancheck_text.proofs.WrittenLines.{reach-clear, is-reach, line-split, lines-taken}
 use Rattle.plancheck_text.proofs.PrintedLines.{decimal-number, plan-lines}
+use Rattle.plancheck_text.proofs.line.has_form.Reads as has-form
+use Rattle.plancheck_text.proofs.line.index.Reads as index
 
 -- ---- a text is taken where it is written as the grammar says
 
@@ -107,3 +109,9 @@ stray-first s r e =
 pub read-one : (m : Meaning) (x y : PlanTold) (old new other : List ℕ) → ReadsPlan m x old new → ReadsPlan m y old other → (x ≡ y) × (new ≡ other)
 read-one (refused r) (Refused why) (Refused cause) old new other p q = (ap Refused (p .0 ∙ sym (q .0)), p .1 ∙ sym (q .1))
 read-one (plan b) (Read n) (Read k) old new other p q = (ap Read (p .count ∙ sym (q .count)), p .room ∙ sym (q .room))
+
+pub has-form-unique : (κs : _) (a : _) (x y : _) (s : _) → has-form.Post κs a x s → has-form.Post κs a y s → x ≡ y
+has-form-unique κs a x y s p q = p ∙ sym q
+
+pub index-unique : (κs : _) (a : _) (x y : _) (s : _) → index.Post κs a x s → index.Post κs a y s → x ≡ y
+index-unique κs a x y s p q = p ∙ sym q

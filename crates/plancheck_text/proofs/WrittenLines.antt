@@ -28,11 +28,11 @@ use Rattle.plancheck_text.proofs.TextLaws.{stray-line, byte-line}
 
 -- ---- bytes that are no line's end
 
-abbrev above : List ℕ → Bool
+abbrev pub above : List ℕ → Bool
 above [] = true
 above (c ∷ s) = ltb 10 c && above s
 
-above-clear : (s : List ℕ) → above s ≡ true → Clear newline s
+pub above-clear : (s : List ℕ) → above s ≡ true → Clear newline s
 above-clear [] e = tt
 above-clear (c ∷ s) e =
     let t = true→T {a = ltb 10 c && above s} e in
@@ -83,22 +83,22 @@ unfolding isStop hasForm standsFor wordsByte
 stop-words = record { form = refl; says = refl; clear = above-clear (bytes "stop") refl }
 
 -- what P, G and V stand for
-sign-of : (first count i : ℕ) → i < count → among first count (first + i) ≡ true
+pub sign-of : (first count i : ℕ) → i < count → among first count (first + i) ≡ true
 sign-of first count i h = T→true (among first count (first + i)) (among-in first count (first + i) (omega arith) (omega arith))
 
-index-of : (first i : ℕ) → first + i - first ≡ i
+pub index-of : (first i : ℕ) → first + i - first ≡ i
 index-of first i = omega arith
 
-value-fits : (b : Bool) → among 48 2 (valueDigit b) ≡ true
+pub value-fits : (b : Bool) → among 48 2 (valueDigit b) ≡ true
 unfolding among
 value-fits true = refl
 value-fits false = refl
 
-value-read : (b : Bool) → eqb (valueDigit b) 49 ≡ b
+pub value-read : (b : Bool) → eqb (valueDigit b) 49 ≡ b
 value-read true = refl
 value-read false = refl
 
-value-past : (b : Bool) → 10 < valueDigit b
+pub value-past : (b : Bool) → 10 < valueDigit b
 value-past true = omega arith
 value-past false = omega arith
 

@@ -1,12 +1,14 @@
 // The text of a plan, as the sheet program prints it, back to the plan's bytes. A text of any length and
 // content is taken: one that is too long is 24, and any line that is not of the form is 22. The bytes go
 // to the start of a lent room, as far as they fit; a refusal leaves the room as it was. Whether the bytes
-// are a plan is for plancheck.
+// are a plan is for plancheck. The forms of a line's words are public: a shift's text has the same signs.
 mod line;
 
 use crate::line::is_plan_line;
 use crate::line::is_reach;
 use crate::line::line_byte;
+pub use line::has_form;
+pub use line::index;
 use refusal::Refusal;
 use sheet_words::piece_end;
 ghost use mathlib.Core.Path.{_≡_};

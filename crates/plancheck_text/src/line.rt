@@ -62,7 +62,7 @@ fn stands_for(sign: u8, c: u8) -> bool
 }
 
 // Whether the text has this form, byte by byte.
-fn has_form(form: &[u8], text: &[u8]) -> bool
+pub fn has_form(form: &[u8], text: &[u8]) -> bool
     ensures { λ r. ⌜ r ≡ hasForm (now (form .entry)) (now (text .entry)) ⌝ }
 {
     if form.len() != text.len() {
@@ -92,7 +92,7 @@ fn are_words(words: &[u8]) -> bool
 }
 
 // What a sign names, counted from `first` on; 0 for a sign before it.
-fn index(first: u8, c: u8) -> u8
+pub fn index(first: u8, c: u8) -> u8
     ensures { λ r. ⌜ r ≡ c - first ⌝ }
 {
     if c < first {

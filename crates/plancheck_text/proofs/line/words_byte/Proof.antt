@@ -55,7 +55,7 @@ returns-2 c =
     let i2 : tie.After-index2 = search in
     let w = start .args .words .now in
     c .byte .ensures
-    ∙ look-from w (p1 .peek .ensures) (i1 .index .ensures) (p2 .peek2 .ensures) (i2 .index2 .ensures)
+    ∙ look-from w 6 8 (p1 .peek .ensures) (i1 .index .ensures) (p2 .peek2 .ensures) (i2 .index2 .ensures)
     ∙ sym (byte-by w false true (sym (stop-point .has-form .ensures) ∙ no1 .if1 .left) (sym (look-point .has-form2 .ensures) ∙ yes2 .if2 .taken))
 
 peek-requires-3 : tie.Need-peek-requires-3
@@ -91,7 +91,7 @@ returns-3 c =
     let p5 : tie.After-peek5 = search in
     let w = start .args .words .now in
     c .byte2 .ensures
-    ∙ set-from w (p3 .peek3 .ensures) (i3 .index3 .ensures) (p4 .peek4 .ensures) (i4 .index4 .ensures) (p5 .peek5 .ensures)
+    ∙ set-from w 5 7 9 (p3 .peek3 .ensures) (i3 .index3 .ensures) (p4 .peek4 .ensures) (i4 .index4 .ensures) (p5 .peek5 .ensures)
     ∙ sym (byte-by w false false (sym (stop-point .has-form .ensures) ∙ no1 .if1 .left) (sym (look-point .has-form2 .ensures) ∙ no2 .if2 .left))
 
 pub words-byte-spec : {M : Type 1} → statement M
