@@ -2,7 +2,7 @@
 -- all its acts; else the count is the number of records before the first fault, and the record there is what the refusal's number says.
 use mathlib.Core.Path.{_≡_, refl, sym, ap, _∙_}
 use mathlib.Core.List.{List}
-use Prim.Native.Nat.{ℕ, _≤_, _<_}
+use Prim.Native.Nat.{ℕ, _^_, _<_}
 use native.Mathlib.Omega.{arith}
 use Rattle.refusal.specs.declared.Refusal.{Refusal}
 use Rattle.refusal.specs.Refusals.{number, place}
@@ -14,6 +14,7 @@ use Rattle.station.specs.declared.record.Running.{Running}
 use Rattle.station.specs.declared.shift.Replayed.{Replayed}
 use Rattle.station.specs.declared.shift.Replayed.the-variants.{Whole, Stopped}
 use Rattle.station.proofs.OneAnswer.{replays-one}
+use Rattle.station.proofs.ShiftShape.{reached-below}
 
 -- the number of each fault: 27 no act of this book, 28 not permitted, 29 a look that disagrees
 abbrev pub faultNumber : RecordFault → ℕ
@@ -41,16 +42,18 @@ module _ (book : List ℕ) (start : ℕ) (shift : List ℕ) where
 
   -- no fault: all its acts are done
   pub whole : (running : Running) → Replays book start shift (Whole running)
-      → (n : ℕ) × (m : ℕ) × Sound book n m × (running .count ≡ records shift) × (running .present .0 ≡ settingsAt start shift (records shift))
-      × ((k : ℕ) → k < records shift → FaultlessAt n m k)
+      → (n : ℕ) × (m : ℕ) × Sound book n m × ShiftFits n start shift × (running .count ≡ records shift)
+      × (running .present .0 ≡ settingsAt start shift (records shift)) × (running .present .0 < 2 ^ n) × ((k : ℕ) → k < records shift → FaultlessAt n m k)
   whole running p =
       let all = p .plays .1 in
-      (p .n, p .m, p .sound, all, p .plays .0 .left ∙ ap (settingsAt start shift) all, λ k l. p .plays .0 .faultless k (rw all l))
+      let r = p .plays .0 in
+      let below = reached-below (p .n) (p .m) book start shift (p .fits .below) running r in
+      (p .n, p .m, p .sound, p .fits, all, r .left ∙ ap (settingsAt start shift) all, below, λ k l. r .faultless k (rw all l))
 
   -- a fault: those before it are faultless, and the record there is what its number says
   pub stopped : (w : Refusal) (running : Running) → Replays book start shift (Stopped w running)
-      → (n : ℕ) × (m : ℕ) × (f : RecordFault) × Sound book n m × (running .count < records shift)
-      × (running .present .0 ≡ settingsAt start shift (running .count)) × ((k : ℕ) → k < running .count → FaultlessAt n m k)
+      → (n : ℕ) × (m : ℕ) × (f : RecordFault) × Sound book n m × ShiftFits n start shift × (running .count < records shift)
+      × (running .present .0 ≡ settingsAt start shift (running .count)) × (running .present .0 < 2 ^ n) × ((k : ℕ) → k < running .count → FaultlessAt n m k)
       × FaultAt n m f (running .count) × (number w ≡ faultNumber f) × (place w ≡ running .count)
   stopped w running p =
       let r = p .plays .0 in
@@ -60,8 +63,10 @@ module _ (book : List ℕ) (start : ℕ) (shift : List ℕ) where
         p .m,
         s .fault,
         p .sound,
+        p .fits,
         s .more,
         r .left,
+        reached-below (p .n) (p .m) book start shift (p .fits .below) running r,
         r .faultless,
         rw (sym (r .left)) (s .at-fault),
         ap number (s .why-is) ∙ told .0,

@@ -1,7 +1,7 @@
 -- A host takes a result apart. The upper half is 0 exactly for a success; of a refusal it holds the number, and above it the second number, and the lower
 -- half is the place; and a book's n and m, and a plan's height and length, come back by one division each: every place and every length that is given
--- has room.
-use mathlib.Core.Path.{_≡_, sym, ap, _∙_, subst}
+-- has room, but for a record's index past 2^32.
+use mathlib.Core.Path.{_≡_, refl, sym, ap, _∙_, subst}
 use mathlib.Core.List.{List}
 use Prim.Native.Nat.{ℕ, _+_, _*_, _/_, _%_, _^_, _<_}
 use native.Mathlib.Nat.{div-eq-of-lt, mod-eq-of-lt}
@@ -9,6 +9,10 @@ use native.Mathlib.Omega.{arith}
 use lib.Arith.{digits-div, digits-mod}
 use Rattle.refusal.specs.declared.Refusal.{Refusal}
 use Rattle.refusal.specs.Refusals.{number, place, second}
+use Rattle.refusal.specs.Order.{First}
+use Rattle.refusal.proofs.OrderLaws.{first-place-below, places-append}
+use Rattle.book_sound.specs.Rows.{bookRows}
+use Rattle.book_sound.proofs.Theorems.{book-places}
 use Rattle.refusal.proofs.NumberLaws.{number-some, number-small, second-small}
 use Rattle.knowledge.specs.Goal.{Goal}
 use Rattle.formula.specs.Read.{ReadsFormula}
@@ -33,7 +37,10 @@ use Rattle.plancheck.proofs.Small as CheckSmall
 use Rattle.sheet_book.specs.declared.MakeAnswer.the-variants.{Made, Refused as NotMade}
 use Rattle.sheet_book.proofs.Theorems.{line-most, length-most}
 use Rattle.station.specs.declared.record.Running.{Running}
+use Rattle.station.specs.declared.shift.Replayed.{Replayed}
 use Rattle.station.specs.declared.shift.Replayed.the-variants.{Whole, Stopped, Refused as NotPlayed}
+use Rattle.station.specs.Shift.{RecordFault, no-record, not-allowed, disagrees, faultAt}
+use Rattle.station.specs.Replay.{replayRows, Replays}
 use Rattle.exports.specs.Replay.{ShiftReplayed}
 use Rattle.exports.specs.Texts.{RulesMade}
 use Rattle.exports.specs.Packed.{packed, packedAt, upper, lower, numberIn, secondIn}
@@ -136,17 +143,36 @@ rules-apart {rules} {old} {new} {r} c = (
   λ w line e. apart-at w line (c .result-is ∙ ap rulesReturned e) (omega (arith, line-most rules old (c .answer) w line new e (c .makes))),
 )
 
--- of `pj_replay` the lower half is the low 32 bits of the place: a shift may have more records, and the first lent number has the index whole
+-- of `pj_replay` the lower half of 27, 28 and 29 is the low 32 bits of the record's index, since a shift may have more records; the first lent number is that index
+-- whole
 low-apart : {result : ℕ} (r : Refusal) → result ≡ packed r → Tells-at result r (place r % 2 ^ 32)
 unfolding packed packedAt
 low-apart r e = apart-at r (place r % 2 ^ 32) (omega (arith, e)) (omega arith)
 
+fault-place : (f : RecordFault) (k : ℕ) → place (faultAt f k) ≡ k
+fault-place no-record k = refl
+fault-place not-allowed k = refl
+fault-place disagrees k = refl
+
+rows-place : (book : List ℕ) (start : ℕ) (shift : List ℕ) (w : Refusal) → First (replayRows book start shift) w → place w < 9
+unfolding replayRows
+rows-place book start shift w f =
+    first-place-below 9 (replayRows book start shift) (places-append 9 (bookRows book) _ (book-places book) (λ _. ((λ i g. omega arith), λ _. tt))) f
+
 pub replay-apart : {book : List ℕ} {start : ℕ} {shift old new : List ℕ} {r : ℕ} (c : ShiftReplayed book start shift old r new)
     → ((running : Running) → c .answer ≡ Whole running → (upper r ≡ 0) × (new ≡ reachedAs running))
-    × ((w : Refusal) (running : Running) → c .answer ≡ Stopped w running → Tells-at r w (place w % 2 ^ 32) × (new ≡ reachedAs running))
-    × ((w : Refusal) → c .answer ≡ NotPlayed w → Tells-at r w (place w % 2 ^ 32) × (new ≡ old))
-replay-apart {old = old} c = (
+    × ((w : Refusal) (running : Running) → c .answer ≡ Stopped w running → Tells-at r w (running .count % 2 ^ 32) × (new ≡ reachedAs running))
+    × ((w : Refusal) → c .answer ≡ NotPlayed w → Tells-refusal r w × (new ≡ old))
+replay-apart {book} {start} {shift} {old} {r = r} c = (
   λ running e. (ap upper (c .result-is ∙ ap replayReturned e), c .new-is ∙ ap (λ x. reachedAfter x old) e),
-  λ w running e. (low-apart w (c .result-is ∙ ap replayReturned e), c .new-is ∙ ap (λ x. reachedAfter x old) e),
-  λ w e. (low-apart w (c .result-is ∙ ap replayReturned e), c .new-is ∙ ap (λ x. reachedAfter x old) e),
+  λ w running e. let played = subst (λ (x : Replayed). Replays book start shift x) e (c .replays) in
+      let stops = played .plays .1 in
+      let at = ap place (stops .why-is) ∙ fault-place (stops .fault) (running .count) in (
+        subst (λ (k : ℕ). Tells-at r w (k % 2 ^ 32)) at (low-apart w (c .result-is ∙ ap replayReturned e)),
+        c .new-is ∙ ap (λ x. reachedAfter x old) e,
+      ),
+  λ w e. let refused = subst (λ (x : Replayed). Replays book start shift x) e (c .replays) in (
+    apart w (c .result-is ∙ ap replayReturned e) (omega (arith, rows-place book start shift w refused)),
+    c .new-is ∙ ap (λ x. reachedAfter x old) e,
+  ),
 )

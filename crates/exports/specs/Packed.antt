@@ -4,7 +4,7 @@ use Rattle.refusal.specs.declared.Refusal.{Refusal}
 use Rattle.refusal.specs.Refusals.{number, place, second}
 
 -- the second number (one more than it is, 0 where there is none) from bit 40 on, the number from bit 32 on, and the place below; no place that is given
--- has more than 32 bits (proofs/Apart)
+-- has more than 32 bits, but for the index of a shift's record (proofs/Apart)
 unfoldable pub packed : Refusal → ℕ
 packed r = second r * 2 ^ 40 + number r * 2 ^ 32 + place r % 2 ^ 32
 

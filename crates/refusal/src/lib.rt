@@ -52,7 +52,7 @@ pub enum Refusal {
     Malformed(usize),
     // 23: right, post or setting named twice, on this line.
     Twice(usize),
-    // 24: sheet over 32,768 bytes.
+    // 24: sheet over 32,768 bytes; or another text, or a shift, over its own bound.
     SheetLength,
     // 25: n above 5 in the program. Its place is 1, the line of the size.
     SheetSettings,

@@ -3,8 +3,12 @@
 use mathlib.Core.Path.{_≡_, refl, ap}
 use mathlib.Core.Bool.{Bool}
 use mathlib.Core.List.{List}
-use Prim.Native.Nat.{ℕ, _^_, _<_}
-use lib.Dec.{T, ltb, ltb→lt, lt→ltb}
+use Prim.Native.Nat.{ℕ, _/_, _%_, _^_, _<_}
+use native.Mathlib.Nat.{mod-lt}
+use native.Mathlib.Omega.{arith}
+use lib.Dec.{T, eqb, ltb, ltb→lt, lt→ltb}
+use Rattle.ground.specs.Digits.{digit, bit}
+use Rattle.ground.proofs.Bits.{below-2}
 use Rattle.ground.specs.Table.{truth}
 use Rattle.ground.proofs.Bools.{and-in, and-left, and-right}
 use Rattle.book_block.specs.Rule.{rule}
@@ -33,6 +37,14 @@ set-judged book v i q b = refl
 pub look-judged : (book : List ℕ) (v i q : ℕ) → allowed book v (Look i q) ≡ truth (rule book i q look-rule) v
 unfolding allowed ruleOf
 look-judged book v i q = refl
+
+-- a look shows the setting's own bit, 0 or 1; a set shows nothing
+pub look-shows : (v i q : ℕ) → shown v (Look i q) ≡ v / 2 ^ i % 2
+unfolding bit digit
+look-shows v i q = below-2 (λ x. seenAs (eqb x 1) ≡ x) refl refl (v / 2 ^ i % 2) (mod-lt (v / 2 ^ i) (omega arith))
+
+pub set-shows : (v i q : ℕ) (b : Bool) → shown v (Set i q b) ≡ 0
+set-shows v i q b = refl
 
 -- after a set a look shows the value that was set, and elsewhere what it would have shown before
 pub set-shown : (v i p q : ℕ) (b : Bool) → shown (leftBy v (Set i p b)) (Look i q) ≡ seenAs b

@@ -28,10 +28,13 @@ abbrev names-some : Named → ℕ
 names-some Nothing = 0
 names-some (One a) = 1
 
+pub names-none : {A : Type 0} {a : Act} → Nothing ≡ One a → A
+names-none e = let z : _≡_ {A = ℕ} 0 1 = ap names-some e in absurd (omega arith)
+
 module _ (n m : ℕ) (book : List ℕ) (v k seen : ℕ) where
   -- a byte that names no act
   pub judged-nothing : Judges n m book v k Nothing seen (AtFault (NoRecord k))
-  judged-nothing = (no-record, refl, λ b r. let e : _≡_ {A = ℕ} 0 1 = ap names-some (r .names) in omega arith)
+  judged-nothing = (no-record, refl, λ b r. names-none (r .names))
 
   module _ (a : Act) where
     -- an act of another book

@@ -1,4 +1,4 @@
--- What a replay answers, from what the code found: the book's refusals, then 26, then what the shift comes to.
+-- What a replay answers, from what the code found: the book's refusals, then 26, then the records.
 use mathlib.Core.Path.{_≡_, sym, ap, _∙_, subst}
 use mathlib.Core.List.{List, [], _∷_}
 use Prim.Native.Nat.{ℕ, min, _%_, _^_, _≤_, _<_}

@@ -23,13 +23,13 @@ pub record ShiftFits (n start : ℕ) (shift : List ℕ) : Type 0 where
 unfoldable pub replayRows : List ℕ → ℕ → List ℕ → List Row
 replayRows book start shift = bookRows book ++ (when (ShiftFits (settingsOf book) start shift → ⊥) Shift ∷ [])
 
--- what a shift comes to that is played: all its acts were done; or the next record is at fault
+-- the answer to a shift that is played: all its acts were done; or the next record is at fault
 abbrev pub Plays : ℕ → ℕ → List ℕ → ℕ → List ℕ → Replayed → Type 0
 Plays n m book start shift (Whole running) = Reached n m book start shift running × (running .count ≡ records shift)
 Plays n m book start shift (Stopped why running) = Reached n m book start shift running × StopsAt n m book shift running why
 Plays n m book start shift (Refused why) = ⊥
 
--- a sound book of n settings and m posts, and a shift that can be played, with what it comes to
+-- a sound book of n settings and m posts, a shift that can be played, and the answer to it
 pub record PlaysAs (book : List ℕ) (start : ℕ) (shift : List ℕ) (answer : Replayed) : Type 0 where
   pub n : ℕ
   pub m : ℕ

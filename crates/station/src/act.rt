@@ -72,7 +72,7 @@ pub(crate) fn is_of_book(n: u8, m: u8, act: Act) -> bool
 }
 
 // Whether such an act can be recorded with this second byte: 0 for a set, 0 or 1 for a look.
-pub(crate) fn can_show(act: Act, seen: u8) -> bool
+pub(crate) fn can_record(act: Act, seen: u8) -> bool
     ensures { λ r. ⌜ r ≡ leb seen (seenMost act) ⌝ }
 {
     match act {
@@ -96,7 +96,7 @@ fn rule_of(book: &[u8], act: Act) -> usize
 }
 
 // Whether the act's rule is true at these settings. Past the 128 valuations that a table tells of, none is.
-pub fn allows(book: &[u8], present: Present, act: Act) -> bool
+pub(crate) fn allows(book: &[u8], present: Present, act: Act) -> bool
     ensures { λ r. ⌜ r ≡ allowed (now (book .entry)) (present .0) act ⌝ }
 {
     if VALUATIONS <= present.0 {
@@ -106,7 +106,7 @@ pub fn allows(book: &[u8], present: Present, act: Act) -> bool
 }
 
 // What the act shows: a look the present value, a set nothing, which is recorded as 0.
-pub fn shows(present: Present, act: Act) -> u8
+pub(crate) fn shows(present: Present, act: Act) -> u8
     ensures { λ r. ⌜ r ≡ shown (present .0) act ⌝ }
 {
     match act {
@@ -130,7 +130,7 @@ fn changed(present: u8, setting: u8, value: bool) -> u8
 }
 
 // The settings after the act that a byte names; a byte that names none changes nothing.
-pub fn after(present: Present, byte: u8) -> Present
+pub(crate) fn after(present: Present, byte: u8) -> Present
     ensures { λ r. ⌜ r .0 ≡ leaves (present .0) (actOf byte) ⌝ }
 {
     match Act::of_byte(byte) {

@@ -1,6 +1,6 @@
 // One record of a shift, on the settings before its act: 27, then 28, then 29, or nothing that is at fault.
 use crate::act::allows;
-use crate::act::can_show;
+use crate::act::can_record;
 use crate::act::is_of_book;
 use crate::act::shows;
 use ground::Present;
@@ -27,7 +27,7 @@ fn judge_act(n: u8, m: u8, book: &[u8], present: Present, at: usize, act: Act, s
     if !is_of_book(n, m, act) {
         return Judged::AtFault(Refusal::NoRecord(at));
     }
-    if !can_show(act, seen) {
+    if !can_record(act, seen) {
         return Judged::AtFault(Refusal::NoRecord(at));
     }
     if !allows(book, present, act) {

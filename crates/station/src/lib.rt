@@ -8,9 +8,6 @@ mod judge;
 mod record;
 mod shift;
 
-pub use act::after;
-pub use act::allows;
-pub use act::shows;
 pub use record::Running;
 pub use shift::Replayed;
 pub use shift::replay;

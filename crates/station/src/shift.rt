@@ -21,7 +21,7 @@ const RECORD: usize = 2;
 pub enum Replayed {
     // Every act was done: where that leaves the station.
     Whole(Running),
-    // The act of the next record was at fault, 27 to 29: what was reached before it.
+    // The next record is at fault, 27 to 29: what was reached before it.
     Stopped(Refusal, Running),
     // Nothing was played: 6 to 9, or 26.
     Refused(Refusal),

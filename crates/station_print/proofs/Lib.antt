@@ -9,5 +9,6 @@ mod Lengths
 mod ShortLaws
 mod PrintLaws
 pub mod Theorems
+pub mod Played
 pub mod Exactly
 pub mod Examples

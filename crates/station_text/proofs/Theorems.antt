@@ -1,5 +1,6 @@
 -- What `read`, `print`, `line_of` and `is_text` settle: each follows from the meanings and the laws of lines and records. What a caller makes of the room is said by
 -- `prints-whole` and `prints-part` (print_answer/proofs/Theorems).
+use denote.Ref.{now}
 use mathlib.Core.Path.{_≡_, refl, sym, ap, ap₂, _∙_, subst}
 use mathlib.Core.Logic.{⊎-elim}
 use mathlib.Core.Bool.{true, false, _||_}
@@ -28,6 +29,8 @@ use Rattle.station_text.proofs.BytesLaws.{said-turn, with-stray, prints
 use Rattle.station_text.proofs.WrittenText.{lines-taken, text-of, all-said, shortest, bytes-least}
 use Rattle.station_text.proofs.ReadText.{lines-only, not-refused}
 use Rattle.station_text.proofs.LineNumbers.{gives-at, find-none}
+use Rattle.station_text.proofs.text.read.Reads as read
+use Rattle.station_text.proofs.bytes.print.Reads as print
 use Rattle.station_text.proofs.is_text.Reads as is-text
 use Rattle.station_text.proofs.record.is_record.Reads as is-record
 use Rattle.station_text.proofs.text.line_of.Reads as line-of
@@ -140,6 +143,12 @@ text-no-bytes s e fits even =
 pub told-one : (m : Meaning) (x y : ShiftTold) (old new other : List ℕ) → Tells m x old new → Tells m y old other → (x ≡ y) × (new ≡ other)
 told-one (refused r) (Refused why) (Refused cause) old new other p q = (ap Refused (p .0 ∙ sym (q .0)), p .1 ∙ sym (q .1))
 told-one (gives b) (Read n) (Read k) old new other p q = (ap Read (p .count ∙ sym (q .count)), p .room ∙ sym (q .room))
+
+pub read-unique : (κs : _) (a : _) (x y : _) (s : _) → read.Post κs a x s → read.Post κs a y s → x ≡ y
+read-unique κs a x y s p q = told-one (readMeaning (now (a .0))) x y (now (a .1 .0)) (now (s .1 .0)) (now (s .1 .0)) p q .0
+
+pub print-unique : (κs : _) (a : _) (x y : _) (s : _) → print.Post κs a x s → print.Post κs a y s → x ≡ y
+print-unique κs a x y s p q = told-one (printMeaning (now (a .0))) x y (now (a .1 .0)) (now (s .1 .0)) (now (s .1 .0)) p q .0
 
 pub is-text-unique : (κs : _) (a : _) (x y : _) (s : _) → is-text.Post κs a x s → is-text.Post κs a y s → x ≡ y
 is-text-unique κs a x y s p q = p ∙ sym q

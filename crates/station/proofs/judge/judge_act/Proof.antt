@@ -19,16 +19,16 @@ returns c =
     judged-other (a .n) (a .m) (a .book .now) (a .present .0) (a .at) (a .seen) (a .act)
     (sym (asked .is-of-book .ensures) ∙ not-true _ (c .if1 .taken))
 
-can-show-requires : tie.Need-can-show-requires
-can-show-requires c κs = search needs
+can-record-requires : tie.Need-can-record-requires
+can-record-requires c κs = search needs
 
 returns-2 : tie.Need-returns-2
 returns-2 c =
     let start : tie.Start = search in
-    let asked : tie.After-can-show = search in
+    let asked : tie.After-can-record = search in
     let a = start .args in
     judged-second (a .n) (a .m) (a .book .now) (a .present .0) (a .at) (a .seen) (a .act)
-    (sym (asked .can-show .ensures) ∙ not-true _ (c .if2 .taken))
+    (sym (asked .can-record .ensures) ∙ not-true _ (c .if2 .taken))
 
 -- past the first two tests it is a record of the book
 is : (c : tie.Else2) →
@@ -39,10 +39,10 @@ is c =
     let start : tie.Start = search in
     let of-book : tie.After-is-of-book = search in
     let ours : tie.Else1 = search in
-    let shown : tie.After-can-show = search in
+    let shown : tie.After-can-record = search in
     let a = start .args in
     is-one (a .n) (a .m) (a .book .now) (a .present .0) (a .at) (a .seen) (a .act)
-    (sym (of-book .is-of-book .ensures) ∙ not-false _ (ours .if1 .left)) (sym (shown .can-show .ensures) ∙ not-false _ (c .if2 .left))
+    (sym (of-book .is-of-book .ensures) ∙ not-false _ (ours .if1 .left)) (sym (shown .can-record .ensures) ∙ not-false _ (c .if2 .left))
 
 allows-requires : tie.Need-allows-requires
 allows-requires c κs = search needs
@@ -87,7 +87,7 @@ judge-act-spec =
     (tie.spec
     is-of-book-requires
     returns
-    can-show-requires
+    can-record-requires
     returns-2
     allows-requires
     returns-3
