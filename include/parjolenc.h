@@ -122,7 +122,7 @@ enum {
     // A line names a right, a post or a setting that was named already. [the line]
     PJ_REFUSED_TWICE = 23,
     // The sheet has more than 32,768 bytes, the text of rules or of a question more than 65,536, that of a plan more
-    // than 524,288, or a shift more than 2,097,152.
+    // than 524,288, or a shift that the command takes more than 2,097,152.
     PJ_REFUSED_SHEET_LENGTH = 24,
     // The sheet's size has 6 or 7 settings, and the program takes 5. [1]
     PJ_REFUSED_SHEET_SETTINGS = 25,
