@@ -11,20 +11,11 @@ const BOOK_WORD: usize = 2;
 // One byte more than rules may have, so that a longer text is seen to be too long.
 const READ_MOST: usize = sheet_words::TEXT_MOST + 1;
 
-// Makes the file, and says what came of it.
-fn store(book: &[u8]) {
-    if program_files::make_named(BOOK_WORD, book) {
-        program_outcome::say(Outcome::Done);
-    } else {
-        program_outcome::say(Outcome::Trouble);
-    }
-}
-
 // The book of a rules text, or its refusal.
 fn make(rules: &[u8]) {
     let mut book = [0u8; sheet_book::BOOK_MOST];
     match sheet_book::make_book(rules, &mut book) {
-        MakeAnswer::Made(length) => store(&book[..length]),
+        MakeAnswer::Made(length) => program_outcome::store(BOOK_WORD, &book[..length]),
         MakeAnswer::Refused(why, line) => {
             let numbers = why.numbers();
             program_outcome::refuse(

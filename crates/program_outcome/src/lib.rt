@@ -14,7 +14,7 @@ const REFUSED_MOST: usize = 64;
 pub enum Outcome {
     // Reach, yes or done.
     Done,
-    // Cannot, or a plan that does not work.
+    // Cannot, a plan that does not work, or a shift with an act at fault.
     No,
     // The input is refused, with a number.
     Refused,
@@ -51,6 +51,21 @@ pub fn of_answer(text: &[u8]) -> Outcome
 pub fn say(outcome: Outcome) {
     let line = [status_digit(outcome), b'\n'];
     program_files::write_all(OUTCOME_FILENO, &line);
+}
+
+// Says the outcome, and whose fault it is.
+pub fn say_whose(outcome: Outcome, whose: &[u8]) {
+    say(outcome);
+    program_files::write_all(OUTCOME_FILENO, whose);
+}
+
+// Makes the file that one of the program's words names, with these bytes, and says what came of it.
+pub fn store(word: usize, bytes: &[u8]) {
+    if program_files::make_named(word, bytes) {
+        say(Outcome::Done);
+    } else {
+        say(Outcome::Trouble);
+    }
 }
 
 // Says that standard input or output has failed.
