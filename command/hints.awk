@@ -1,5 +1,5 @@
 # hints.awk: what is wrong with a text that was refused, in words and with its place, as far as the text shows it. Help, and
-# no promise: the proved line on standard output says what is so. Settings: kind (sheet, rules, question or plan), name (the
+# no promise: the proved line on standard output says what is so. Settings: kind (sheet, rules, question, plan or shift), name (the
 # file's), number and line of the answer, place (the refusal's own: of a formula the byte, from 0), unended (1 where the text's
 # last byte is no newline); n and m where a book has the size.
 
@@ -21,8 +21,8 @@ function shown(c,   i) {
     return "a byte that is no sign of ASCII"
 }
 
-# passed TEXT: a line that rules and questions pass over.
-function passed(text) { return (kind == "rules" || kind == "question") && (text == "" || text ~ /^#/) }
+# passed TEXT: a line that rules, questions and shifts pass over.
+function passed(text) { return (kind == "rules" || kind == "question" || kind == "shift") && (text == "" || text ~ /^#/) }
 
 # word TEXT: the first word of a line.
 function word(text) { return text ~ / / ? substr(text, 1, index(text, " ") - 1) : text }
@@ -39,6 +39,7 @@ function front(text) {
 # due: the lines that may stand where the fault is, by those before it.
 function due(   w) {
     w = kind == "question" ? "" : last
+    if (kind == "shift") return "an act, 'look SETTING POST SEEN' or 'set SETTING POST VALUE', or a line that begins with #"
     if (kind == "plan") return line == 1 ? "'reach H'" : "a plan's line, 'DEPTH stop', 'DEPTH look P G' or 'DEPTH set P G V'"
     if (kind == "question" && last == "") return "'team POST ..'"
     if (last == "") return "'size N M', N from 1 to " (kind == "sheet" ? 5 : 7) " and M from 1 to 8"
@@ -95,6 +96,22 @@ function wrong(text,   i, count, names) {
     return ""
 }
 
+# strange TEXT: the first piece of a shift's line that is not as it must be.
+function strange(text,   count, names) {
+    count = split(text, names, " ")
+    if (names[1] ~ /^(reach|cannot|stop)$/ || text ~ /^[0-9]+ (look|set|stop)/) return "this is a plan's line; an act of a shift has no depth in front"
+    if (names[1] ~ /^(size|read|write)$/) return "this is a line of rules"
+    if (names[1] ~ /^(team|known|make|ask)$/) return "this is a line of a question"
+    if (names[1] !~ /^(look|set)$/) return ""
+    if (names[2] ~ /^[1-8]$/ && names[3] ~ /^[a-g]$/) return "the setting comes first, then the post"
+    if (names[2] ~ /^[A-G]$/) return "settings are small letters"
+    if (names[2] !~ /^[a-g]$/) return "'" names[2] "' is no setting, a to g"
+    if (names[3] !~ /^[1-8]$/) return "'" names[3] "' is no post, 1 to 8"
+    if (count == 3) return names[1] == "look" ? "what was seen is missing" : "the value is missing"
+    if (names[4] !~ /^[01]$/) return "'" names[4] "' is neither 0 nor 1"
+    return count > 4 ? "words after the act" : ""
+}
+
 # malformed: 22, at a line of the text or one past it.
 function malformed(   text, at, what) {
     if (kind == "question" && line <= lines && all[line] ~ /^reach [0-9]/) hint("this is a plan, where a question is due; the order is BOOK QUESTION PLAN")
@@ -113,7 +130,7 @@ function malformed(   text, at, what) {
     if (at > 0) hint("a tab in column " at ", where words are split by one space")
     if (unended && line == lines) hint("the last line has no byte 10 at its end")
     if (kind == "sheet" && text ~ /^#/) hint("a sheet has no comments; rules and question files may have lines that begin with #")
-    if (tolower(word(text)) ~ /^(size|read|write|team|known|make|ask|reach)$/ && word(text) != tolower(word(text))) hint("capitals: the word is '" tolower(word(text)) "'")
+    if (tolower(word(text)) ~ (kind == "shift" ? "^(look|set)$" : "^(size|read|write|team|known|make|ask|reach)$") && word(text) != tolower(word(text))) hint("capitals: the word is '" tolower(word(text)) "'")
     if (text ~ /^ /) hint("a space before the first word")
     at = front(text) == 0 ? match(text, /  /) : 0
     if (at > 0) hint("two spaces in column " at ", where words are split by one")
@@ -123,7 +140,7 @@ function malformed(   text, at, what) {
     if (text ~ /^(read|write|team|known) .*[A-G]/ && front(text) == 0) hint("capitals: settings are small letters")
     if (word(text) == "size" && kind == "question") hint("a question has no 'size' line: the book has the size")
     if (text ~ /^(read|write) / && kind == "question") hint("a question has no rights: the book has them")
-    what = wrong(text)
+    what = kind == "shift" ? strange(text) : wrong(text)
     hint((what == "" ? "" : what "; ") "due here is " due())
 }
 

@@ -33,6 +33,14 @@ readable() {
     return 1
 }
 
+# fresh FILE WHAT: a name under which a file can be made.
+fresh() {
+    [ -n "$1" ] || trouble "the name of the $2 is empty"
+    [ "$1" != - ] || trouble "-: the $2 is made as a file; give its name"
+    [ ! -e "$1" ] && [ ! -L "$1" ] || trouble "$1 is there already, and is not overwritten; remove it or choose another name"
+    case $1 in */*) [ -d "${1%/*}/" ] || trouble "the folder ${1%/*} is not there: make it first" ;; esac
+}
+
 # kept: a folder of its own for what a call writes on the side.
 kept() {
     [ -n "${side-}" ] || { side=$(mktemp -d) && trap 'rm -rf "$side"' EXIT; } || trouble 'no room for a temporary folder'
@@ -144,4 +152,43 @@ empty_hint() {
 able() {
     od -An -v -tu1 -w32 -j512 <"$1" | awk '(NR - 1) % 16 < 8 { for (i = 1; i <= NF; i++) if ($i) post[(NR - 1) % 16 + 1] = 1 }
         END { for (q in post) printf "%s", q }'
+}
+
+# shift_form FILE: what a shift's file looks like: `text` by how it begins, `other` where it has signs, blanks and line ends alone, and
+# else `bytes`. No record's second byte is such a sign.
+shift_form() {
+    case $(head -c 5 <"$1" | tr -d '\0') in
+    'look ' | 'set '* | '# '*) echo text ;;
+    *) [ "$(head -c 512 <"$1" | tr -d '\11\12\15\40-\176\200-\377' | wc -c)" -eq 0 ] && echo other || echo bytes ;;
+    esac
+}
+
+# long_hint FILE NAME: a shift that is too long, as it stands or as text.
+long_hint() {
+    if [ "$(head -c 2097153 <"$1" | wc -c)" -gt 2097152 ]; then
+        say "$2: the shift is too long: it may have 2,097,152 bytes"
+    else
+        say "$2: the text of this shift would be too long: it may have 2,097,152 bytes"
+    fi
+}
+
+# record_hint FILE NAME INDEX: two bytes of a shift that are no record of any book.
+record_hint() {
+    local act seen
+    read -r act seen < <(od -An -tu1 -j "$((2 * $3))" -N2 <"$1")
+    [ "$act" -ge 1 ] && [ "$act" -le 168 ] && [ "$seen" -le "$((act > 112))" ] ||
+        say "$2, record $3: bytes $act $seen are no act, 1 to 168, and what was seen: 0 or 1, and 0 for a set"
+}
+
+# shift_hint FILE NAME: what is wrong with a shift, text or bytes, by the refusal that the program says last but one.
+shift_hint() {
+    local number place
+    read -r _ number place < <(tail -n 2 <<<"$said" | head -n 1)
+    case $number-$(shift_form "$1") in
+    22-*) hint shift "$1" "$2" ;;
+    24-*) long_hint "$1" "$2" ;;
+    2[67]-other) say "$2: this is taken for bytes: the text of a shift begins with 'look ', 'set ' or '# '$(is_text "$1")" ;;
+    26-bytes) say "$2: the shift has an odd number of bytes, and a record has two" ;;
+    27-bytes) record_hint "$1" "$2" "$place" ;;
+    esac
 }

@@ -1,4 +1,4 @@
-# book, ask and check: the examples of books/, statuses, troubles with files, and hints.
+# book, ask and check: the examples of books/ (its shifts are in 7-shifts.sh), statuses, troubles with files, and hints.
 for rules in books/*.rules; do
     name=$(basename "$rules" .rules)
     book=$room/$name.book
