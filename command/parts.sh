@@ -37,7 +37,8 @@ readable() {
 fresh() {
     [ -n "$1" ] || trouble "the name of the $2 is empty"
     [ "$1" != - ] || trouble "-: the $2 is made as a file; give its name"
-    [ ! -e "$1" ] && [ ! -L "$1" ] || trouble "$1 is there already, and is not overwritten; remove it or choose another name"
+    [ ! -d "$1" ] || trouble "$1 is a folder; give the name of a new file"
+    [ ! -e "$1" ] && [ ! -L "$1" ] || trouble "$1 is there already, and is not overwritten; choose another name"
     case $1 in */*) [ -d "${1%/*}/" ] || trouble "the folder ${1%/*} is not there: make it first" ;; esac
 }
 
@@ -117,6 +118,7 @@ is_text() {
     team) echo ', and this is a question' ;;
     size) echo ", and these are rules: './parjolenc book' makes a book of them" ;;
     reach | cannot) echo ', and this is an answer' ;;
+    look | set) echo ', and this is a shift' ;;
     esac
 }
 

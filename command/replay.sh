@@ -1,10 +1,12 @@
 # replay BOOK START SHIFT: a recorded shift, text or bytes, run against a book from the settings that START says.
 [ $# -eq 3 ] || trouble "usage: ./parjolenc replay BOOK START SHIFT, START in quotes: 'a ~b c ~d'"
+[ -e "$3" ] || [ ! -f "$2" ] || trouble "$3: there is no such file; START comes before SHIFT"
 for each in "$1" "$3"; do readable "$each" || exit 3; done
 taken "$1" 4096
 book=$file
 taken "$3" 2097152
 recorded=$file
+trap '' PIPE # a reader that goes away is a failed write, and not the program's end
 run program_replay "$book" "$2" "$recorded"
 
 # unnamed LETTERS NAMED: the letters that are not named.
@@ -21,6 +23,7 @@ start_fault() {
     local words word letter named=
     case " $2 " in
     '  ') echo 'START is empty' && return ;;
+    ' now '*) echo "START begins with 'now': leave that word out" && return ;;
     *'  '*) echo 'START has a space too many: its words are split by one' && return ;;
     esac
     IFS=' ' read -r -d '' -a words < <(printf '%s ' "$2")

@@ -43,6 +43,7 @@ expect 'a shift without a name' 3 '' 'the name of the shift is empty' shift "$ca
 expect 'standard output where a shift is made' 3 '' 'give its name' shift "$cards" -
 ln -s "$room/nowhere" "$room/hanging"
 expect 'a link that leads nowhere' 3 '' 'is there already' shift "$cards" "$room/hanging"
+expect 'a folder for the shift' 3 '' 'is a folder; give the name of a new file' shift "$cards" "$room"
 if [ "$(uname -m)" = x86_64 ]; then
     # a file may have 1,024 bytes here: the write of a shift of 2,000 bytes fails in its midst
     for i in $(seq 1000); do echo 'set a 2 0'; done >"$room/thousand.txt"
@@ -53,6 +54,7 @@ fi
 
 # words and files
 expect 'replay with two words' 3 '' "usage: ./parjolenc replay BOOK START SHIFT, START in quotes: 'a ~b c ~d'" replay "$night" "$cards"
+expect 'SHIFT before START' 3 '' 'START comes before SHIFT' replay "$night" "$cards" 'a ~b ~c ~d'
 expect 'replay with START not in quotes' 3 '' 'usage: ./parjolenc replay BOOK START SHIFT' replay "$night" a '~b' '~c' '~d' "$cards"
 expect 'shift with one word' 3 '' 'usage: ./parjolenc shift TEXT SHIFT' shift "$cards"
 expect 'shift-text with two words' 3 '' 'usage: ./parjolenc shift-text SHIFT' shift-text "$cards" "$cards"
@@ -97,6 +99,7 @@ wrong() {
 }
 wrong '' 'START is empty'
 wrong 'a ~b' 'START does not name c d'
+wrong 'now a ~b ~c ~d' "START begins with 'now': leave that word out"
 wrong 'a ~b ~c ~d a' 'START names a twice'
 wrong 'a ~b ~c ~d ~a' 'START names a twice'
 wrong 'a ~b ~c ~d e' 'START names e, which the book has not'
