@@ -20,14 +20,9 @@ use Rattle.sheet_rules.specs.Rules.{Size, Rule, Rules, withRule, sameRig
 use Rattle.sheet_rules.specs.Desk.{slotOf, tableIn, markOf, Filled, inSize, RulesOnDesk, OnDesk}
 use Rattle.sheet_rules.specs.Turns.{rulesLaid, ruledDesk}
 use Rattle.sheet_rules.specs.declared.desk.RulesDesk.{RulesDesk}
-use Rattle.sheet_rules.proofs.HoldLaws.{slot-small}
+use Rattle.sheet_rules.proofs.SlotLaws.{slot-small, slot-one, own-slot, other-slot}
 
 -- ---- one right more
-
-pub getD-sets-other : (l : List ℕ) (i : ℕ) (vs : List ℕ) (j : ℕ) → (j < i) ⊎ (i + length vs ≤ j) → getD (sets l i vs) j 0 ≡ getD l j 0
-getD-sets-other l i [] j h = refl
-getD-sets-other l i (v ∷ vs) j (inl h) = getD-sets-other (set l i v) (suc i) vs j (inl (omega arith)) ∙ getD-set-other l i j v 0 (λ e. omega arith)
-getD-sets-other l i (v ∷ vs) j (inr h) = getD-sets-other (set l i v) (suc i) vs j (inr (omega arith)) ∙ getD-set-other l i j v 0 (λ e. omega arith)
 
 stated-snoc : (rs : List Rule) (r : Rule) (right : Right) (i q : ℕ) → isStated (rs ++ (r ∷ [])) right i q ≡ (isStated rs right i q || concerns r right i q)
 unfolding isStated
@@ -68,32 +63,6 @@ concerned rs r right i q t =
     let f = eqb→eq (r .setting) i (and-right (sameRight (r .right) right) (eqb (r .setting) i) u) in
     let g = eqb→eq (r .post) q (and-right (sameRight (r .right) right && eqb (r .setting) i) (eqb (r .post) q) t) in
     cc
-
--- a slot is of one right alone
-kind : Right → ℕ
-kind Look = 0
-kind Set = 1
-
-slot-is : (right : Right) (i q : ℕ) → (slotOf right i q ≡ 16 * i + 2 * q + kind right) × (kind right < 2)
-unfolding slotOf tablePlace kind
-slot-is Look i q = (omega arith, omega arith)
-slot-is Set i q = (omega arith, omega arith)
-
-kind-one : (a b : Right) → kind a ≡ kind b → T (sameRight a b)
-unfolding sameRight kind
-kind-one Look Look e = tt
-kind-one Look Set e = absurd (omega arith)
-kind-one Set Look e = absurd (omega arith)
-kind-one Set Set e = tt
-
-slot-one : (a b : Right) (i j p q : ℕ) → p < 8 → q < 8 → slotOf a i p ≡ slotOf b j q → T (sameRight a b) × (i ≡ j) × (p ≡ q)
-slot-one a b i j p q h k e =
-    let x = slot-is a i p in
-    let y = slot-is b j q in
-    let z : 16 * i + 2 * p + kind a ≡ 16 * j + 2 * q + kind b = sym (x .0) ∙ e ∙ y .0 in
-    let u = x .1 in
-    let v = y .1 in
-    (kind-one a b (omega (arith, z, u, v)), omega (arith, z, u, v), omega (arith, z, u, v))
 
 slot-concerns : (r : Rule) (right : Right) (i q : ℕ) → r .post < 8 → q < 8 → slotOf (r .right) (r .setting) (r .post) ≡ slotOf right i q → T (concerns r right i q)
 unfolding concerns
@@ -142,11 +111,7 @@ module _ (rules : List Rule) (d : RulesDesk) (size : Size) (h : RulesOnDesk size
   not-yet right i q c = subst (λ (x : Bool). x ≡ false) (concerned rules r right i q c) new
 
   own-table : tableIn (sets (d .rights) (16 * own) t) own ≡ t
-  unfolding tableIn
-  own-table =
-      part-same (sets (d .rights) (16 * own) t) t (16 * own) 0 16 (omega (arith, room, sixteen, length-sets (d .rights) (16 * own) t)) (omega (arith, sixteen))
-      (λ o k. getD-sets (d .rights) (16 * own) t o room (omega (arith, sixteen)) ∙ ap (λ (j : ℕ). getD t j 0) (sym (zero-add o)))
-      ∙ take-all 16 t (omega (arith, sixteen))
+  own-table = own-slot (d .rights) t own sixteen (omega (arith, small, h .rights-size))
 
   apart : (right : Right) (i q : ℕ) → q < 8 → T (not (concerns r right i q)) → own ≡ slotOf right i q → ⊥
   unfolding own
@@ -154,15 +119,8 @@ module _ (rules : List Rule) (d : RulesDesk) (size : Size) (h : RulesOnDesk size
 
   other-table : (right : Right) (i q : ℕ) → i < 7 → q < 8 → T (not (concerns r right i q))
       → tableIn (sets (d .rights) (16 * own) t) (slotOf right i q) ≡ tableIn (d .rights) (slotOf right i q)
-  unfolding tableIn
   other-table right i q x y c =
-      let l = slot-small right i q x y in
-      part-same (sets (d .rights) (16 * own) t) (d .rights) (16 * slotOf right i q) (16 * slotOf right i q) 16
-      (omega (arith, h .rights-size, length-sets (d .rights) (16 * own) t)) (omega (arith, h .rights-size))
-      (λ o k. getD-sets-other (d .rights) (16 * own) t (16 * slotOf right i q + o) (elim (lt-or-ge (slotOf right i q) own) [
-        | inl m ↦ inl (omega arith)
-        | inr m ↦ inr (elim (lt-or-ge own (slotOf right i q)) [ inl z ↦ omega (arith, sixteen) | inr z ↦ absurd (apart right i q y c (omega arith)) ])
-      ]))
+      other-slot (d .rights) t own sixteen (slotOf right i q) (omega (arith, slot-small right i q x y, h .rights-size)) (λ e. apart right i q y c (sym e))
 
   -- the right that the rule concerns, or another
   stated-after : (right : Right) (i q : ℕ) (b : Bool) → concerns r right i q ≡ b → isStated (rules ++ (r ∷ [])) right i q ≡ (isStated rules right i q || b)

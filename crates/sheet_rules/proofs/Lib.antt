@@ -4,6 +4,7 @@
 pub mod FormLaws
 pub mod StepLaws
 pub mod FormulaLaws
+pub mod SlotLaws
 pub mod HoldLaws
 pub mod DeskLaws
 pub mod Turns

@@ -23,7 +23,7 @@ use Rattle.sheet_rules.specs.declared.desk.RulesDesk.{RulesDesk}
 use Rattle.sheet_rules.specs.declared.desk.Taken.{Taken}
 use Rattle.sheet_rules.proofs.FormLaws.{RuleBounds, of-rules-by}
 use Rattle.sheet_rules.proofs.StepLaws.{rule-twice, rule-once, line-by}
-use Rattle.sheet_rules.proofs.HoldLaws.{slot-small}
+use Rattle.sheet_rules.proofs.SlotLaws.{slot-small}
 use Rattle.sheet_rules.proofs.DeskLaws.{holds-rule}
 
 -- the mark of a right

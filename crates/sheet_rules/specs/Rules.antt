@@ -52,9 +52,9 @@ unfoldable pub isStated : List Rule → Right → ℕ → ℕ → Bool
 isStated [] right i q = false
 isStated (r ∷ rs) right i q = concerns r right i q || isStated rs right i q
 
--- "A right not stated is `0`."
+-- what a right is that nobody wrote down, as formula text: "Sheets must read an unstated `read` as `1` and an unstated `write` as `0`" (R-2)
 unfoldable pub unstated : Right → List ℕ
-unstated Look = bytes "0"
+unstated Look = bytes "1"
 unstated Set = bytes "0"
 
 -- the text of a right

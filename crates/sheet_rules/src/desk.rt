@@ -1,4 +1,5 @@
 // The rules' desk: what rules have stated so far, by value, with the formulas as their tables.
+use crate::unstated::unstated_rights;
 use book_block::TABLES;
 use ground::SETTINGS_MOST;
 use ground::TABLE;
@@ -43,10 +44,11 @@ pub(crate) fn sized(settings: u8, posts: u8) -> RulesDesk
     requires { ⌜ (1 ≤ settings) × (settings ≤ 7) × (1 ≤ posts) × (posts ≤ 8) ⌝ }
     ensures { λ r. ⌜ RulesOnDesk (sizeOf settings posts) [] r ⌝ }
 {
+    let rights = unstated_rights(settings, posts);
     RulesDesk {
         settings,
         posts,
-        rights: [0u8; RIGHTS],
+        rights,
         stated: [0u8; SLOTS],
     }
 }

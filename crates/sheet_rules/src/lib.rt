@@ -5,6 +5,7 @@
 mod desk;
 mod line;
 mod rights;
+mod unstated;
 
 use crate::desk::Taken;
 use crate::desk::sized;

@@ -56,7 +56,7 @@ fn slot_of(right: Right, setting: u8, post: u8) -> usize
 }
 
 // Writes a table into the room at `at`.
-fn put_table(table: &[u8; TABLE], room: &mut [u8], at: usize)
+pub(crate) fn put_table(table: &[u8; TABLE], room: &mut [u8], at: usize)
     requires { ⌜ length (now table) ≡ 16 ⌝ }
     ensures { λ _. ⌜ now (room .exit) ≡ sets (now (room .entry)) at (now (table .entry)) ⌝ }
 {
