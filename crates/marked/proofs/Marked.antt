@@ -27,6 +27,10 @@ p6 : RowHolds Table.p6
 unfolding decided
 p6 = holds Table.p6 tt
 
+p6-no-read : RowHolds Table.p6-no-read
+unfolding decided
+p6-no-read = holds Table.p6-no-read tt
+
 p7 : RowHolds Table.p7
 unfolding decided
 p7 = holds Table.p7 tt
@@ -86,7 +90,7 @@ six-settings = holds Table.six-settings tt
 pub marked : All Table.examples
 marked =
     p1 and p2 and p3 and p4 and p5
-    and p6 and p7 and p8a and p8c
+    and p6 and p6-no-read and p7 and p8a and p8c
     and p9 and p9-printed and p10 and p11 and p11-printed and p12 and p12-printed
     and p13-zeros and p13-ones
     and empty-sheet and six-settings

@@ -40,32 +40,44 @@ p6-sheet = "size 3 2\nwrite a 2 ~c\nwrite b 1 a\nread c 2 1\nwrite c 2 c\nteam 1
 
 -- "Output, whole"
 abbrev pub p6-output : String
-p6-output = "reach 4\n0 look c 2\n1 set a 2 1\n2 set b 1 1\n3 stop\n1 set c 2 0\n2 set a 2 1\n3 set b 1 1\n4 stop\n"
+p6-output = "reach 4\n0 look c 1\n1 set a 2 1\n2 set b 1 1\n3 stop\n1 set c 2 0\n2 set a 2 1\n3 set b 1 1\n4 stop\n"
 
--- "P6 the sheet above: bytes 130, 58, 65, 0, 18, 58, 65, 0"
+-- "P6 the sheet above: bytes 130, 58, 65, 0, 18, 58, 65, 0"; by R-2 "post 1 may look too, so its first byte becomes 129, its first act line `0 look c 1`,
+-- and the rest stays"
 abbrev pub p6 : Row
-p6 = sheet-reaches p6-sheet 4 (130 ∷ 58 ∷ 65 ∷ 0 ∷ 18 ∷ 58 ∷ 65 ∷ 0 ∷ []) p6-output
+p6 = sheet-reaches p6-sheet 4 (129 ∷ 58 ∷ 65 ∷ 0 ∷ 18 ∷ 58 ∷ 65 ∷ 0 ∷ []) p6-output
 
--- "P7 the same with team 1: cannot"
+-- R-2: "P6 without its `read` line now prints just that"
+abbrev pub p6-no-read-sheet : String
+p6-no-read-sheet = "size 3 2\nwrite a 2 ~c\nwrite b 1 a\nwrite c 2 c\nteam 1 2\nknown\nmake b\n"
+
+abbrev pub p6-no-read : Row
+p6-no-read = sheet-reaches p6-no-read-sheet 4 (129 ∷ 58 ∷ 65 ∷ 0 ∷ 18 ∷ 58 ∷ 65 ∷ 0 ∷ []) p6-output
+
+-- "P7 the same with team 1: cannot"; R-2: "P7 stays cannot"
 abbrev pub p7-sheet : String
 p7-sheet = "size 3 2\nwrite a 2 ~c\nwrite b 1 a\nread c 2 1\nwrite c 2 c\nteam 1\nknown\nmake b\n"
 
 abbrev pub p7 : Row
 p7 = sheet-cannot p7-sheet "cannot\n"
 
--- "P8 P6 with `ask a`: cannot"
+-- "P8 P6 with `ask a`": R-2: "P8 with `ask a` becomes reach 5"
 abbrev pub p8a-sheet : String
 p8a-sheet = "size 3 2\nwrite a 2 ~c\nwrite b 1 a\nread c 2 1\nwrite c 2 c\nteam 1 2\nknown\nmake b\nask a\n"
 
+abbrev pub p8a-output : String
+p8a-output =
+    "reach 5\n0 look a 1\n1 look c 1\n2 set a 2 1\n3 set b 1 1\n4 stop\n2 set c 2 0\n3 set a 2 1\n4 set b 1 1\n5 stop\n1 set b 1 1\n2 stop\n"
+
 abbrev pub p8a : Row
-p8a = sheet-cannot p8a-sheet "cannot\n"
+p8a = sheet-reaches p8a-sheet 5 (113 ∷ 129 ∷ 58 ∷ 65 ∷ 0 ∷ 18 ∷ 58 ∷ 65 ∷ 0 ∷ 65 ∷ 0 ∷ []) p8a-output
 
 -- "with `ask c` in its place: reach 4"
 abbrev pub p8c-sheet : String
 p8c-sheet = "size 3 2\nwrite a 2 ~c\nwrite b 1 a\nread c 2 1\nwrite c 2 c\nteam 1 2\nknown\nmake b\nask c\n"
 
 abbrev pub p8c : Row
-p8c = sheet-reaches p8c-sheet 4 (130 ∷ 58 ∷ 65 ∷ 0 ∷ 18 ∷ 58 ∷ 65 ∷ 0 ∷ []) p6-output
+p8c = sheet-reaches p8c-sheet 4 (129 ∷ 58 ∷ 65 ∷ 0 ∷ 18 ∷ 58 ∷ 65 ∷ 0 ∷ []) p6-output
 
 -- ---- P9 to P12, by their numbers and formulas; and as the sheets sheets/p9, p11 and p12. There is one post, and it is the team
 
@@ -141,7 +153,7 @@ six-settings = prints "size 6 2\n" "refused 25 1\n"
 abbrev pub examples : List Row
 examples =
     p1 ∷ p2 ∷ p3 ∷ p4 ∷ p5
-    ∷ p6 ∷ p7 ∷ p8a ∷ p8c
+    ∷ p6 ∷ p6-no-read ∷ p7 ∷ p8a ∷ p8c
     ∷ p9 ∷ p9-printed ∷ p10 ∷ p11 ∷ p11-printed ∷ p12 ∷ p12-printed
     ∷ p13-zeros ∷ p13-ones
     ∷ empty-sheet ∷ six-settings
