@@ -117,6 +117,9 @@ fn own_check(group: &mut Group) {
 
 fn by_hand_plans(group: &mut Group) {
     let p6 = by_hand(3, 2, &["write a 2 ~c", "write b 1 a", "read c 2 1", "write c 2 c"], "1 2", "", "b", &[]);
+    // by request R-2 post 1 may look at c as well
+    let p6_open =
+        by_hand(3, 2, &["write a 2 ~c", "write b 1 a", "read c 1 1", "read c 2 1", "write c 2 c"], "1 2", "", "b", &[]);
     let p9 = by_hand(1, 1, &["read a 1 1", "write a 1 1"], "1", "", "~a", &["a"]);
     let p12 = by_hand(2, 1, &[], "1", "~a", "1", &["a&b"]);
     let refused = |number, place| Err(Refusal { number, place });
@@ -133,6 +136,9 @@ fn by_hand_plans(group: &mut Group) {
         (&p6, &[130, 58, 2, 58, 65, 0, 18, 58, 65, 0], Ok(())),
         (&p6, &[130, 18, 58, 65, 0, 18, 58, 65, 0], refused(18, 1)),
         (&p6, &[], refused(20, 0)),
+        (&p6_open, &[129, 58, 65, 0, 18, 58, 65, 0], Ok(())),
+        (&p6_open, &[130, 58, 65, 0, 18, 58, 65, 0], Ok(())),
+        (&p6_open, &[129, 58, 65, 0, 129, 58, 65, 0], refused(18, 4)),
         (&p9, &[1, 0], refused(19, 1)),
         (&p9, &[113, 0, 1, 0], Ok(())),
         (&p9, &[113, 1, 0, 1, 0], Ok(())),

@@ -271,22 +271,38 @@ fn own_finders(group: &mut Group) {
 
 const P6: &[&str] = &["write a 2 ~c", "write b 1 a", "read c 2 1", "write c 2 c"];
 
-/// Answers from paper 01: they check the library and this program's own finder.
+/// Looks that P6 says nothing of are open (request R-2).
+const OPEN: &[&str] = &["read a 1 1", "read a 2 1", "read b 1 1", "read b 2 1", "read c 1 1"];
+
+/// Answers from paper 01 and request R-2: they check the library and this program's own finder.
 fn marked(group: &mut Group) {
     let reach = |height, plan: &[u8]| Found::Reach { height, plan: plan.to_vec() };
-    let p6 = by_hand(3, 2, P6, "1 2", "", "b", &[]);
-    let p6_plan = [130, 58, 65, 0, 18, 58, 65, 0];
-    let without_read = [&P6[..2], &P6[3..]].concat();
+    let open = [P6, OPEN].concat();
+    let p6 = by_hand(3, 2, &open, "1 2", "", "b", &[]);
+    let p6_plan = [129, 58, 65, 0, 18, 58, 65, 0];
+    let p8_plan = [113, 129, 58, 65, 0, 18, 58, 65, 0, 65, 0];
+    let without_read = [&P6[..2], &P6[3..], OPEN, &["read c 2 1"]].concat();
+    let stored_plan = [130, 58, 65, 0, 18, 58, 65, 0];
+    let stored_without_read = [&P6[..2], &P6[3..]].concat();
     let both_ways = &["read a 1 1", "write a 1 1"];
     let marked: &[(&str, Question, Found)] = &[
         ("P6", p6.clone(), reach(4, &p6_plan)),
-        ("P7", by_hand(3, 2, P6, "1", "", "b", &[]), Found::Cannot),
-        ("P8 with ask a", by_hand(3, 2, P6, "1 2", "", "b", &["a"]), Found::Cannot),
-        ("P8 with ask c", by_hand(3, 2, P6, "1 2", "", "b", &["c"]), reach(4, &p6_plan)),
+        ("P7", by_hand(3, 2, &open, "1", "", "b", &[]), Found::Cannot),
+        ("P8 with ask a", by_hand(3, 2, &open, "1 2", "", "b", &["a"]), reach(5, &p8_plan)),
+        ("P8 with ask c", by_hand(3, 2, &open, "1 2", "", "b", &["c"]), reach(4, &p6_plan)),
         ("P9", by_hand(1, 1, both_ways, "1", "", "~a", &["a"]), reach(2, &[113, 0, 1, 0])),
         ("P11", by_hand(2, 1, &["write a 1 b|~b"], "1", "", "a", &[]), reach(1, &[57, 0])),
         ("P12", by_hand(2, 1, &[], "1", "~a", "1", &["a&b"]), reach(0, &[0])),
-        ("P6 without its read line", by_hand(3, 2, &without_read, "1 2", "", "b", &[]), Found::Cannot),
+        ("P6 without its read line", by_hand(3, 2, &without_read, "1 2", "", "b", &[]), reach(4, &p6_plan)),
+        ("P6, a stored book", by_hand(3, 2, P6, "1 2", "", "b", &[]), reach(4, &stored_plan)),
+        ("P7, a stored book", by_hand(3, 2, P6, "1", "", "b", &[]), Found::Cannot),
+        ("P8 with ask a, a stored book", by_hand(3, 2, P6, "1 2", "", "b", &["a"]), Found::Cannot),
+        ("P8 with ask c, a stored book", by_hand(3, 2, P6, "1 2", "", "b", &["c"]), reach(4, &stored_plan)),
+        (
+            "P6 without its read line, a stored book",
+            by_hand(3, 2, &stored_without_read, "1 2", "", "b", &[]),
+            Found::Cannot,
+        ),
     ];
     for (name, question, found) in marked {
         let solution = finder::find(question);

@@ -1,5 +1,5 @@
-//! The lines of sheets, rules texts and question texts, from paper 01's section on the sheet program and issue 18's
-//! points 1 and 2 alone. A sheet is rules followed by a question, so all three have the same lines.
+//! The lines of sheets, rules texts and question texts, from paper 01's section on the sheet program, issue 18's points
+//! 1 and 2 and request R-2 alone. A sheet is rules followed by a question, so all three have the same lines.
 
 use std::collections::HashMap;
 
@@ -171,12 +171,20 @@ impl Desk {
         digit(word, self.m).map(|digit| digit - 1).ok_or(MALFORMED)
     }
 
-    /// The book of the rights that were stated. A right not stated is `0`.
+    /// The book of the rights that were stated, and of what those are that were not.
     pub fn book(&self) -> Vec<u8> {
-        let rule = |setting, post, look| self.rules.get(&(look, setting, post)).copied().unwrap_or_default();
+        let rule = |setting, post, look| match self.rules.get(&(look, setting, post)) {
+            Some(stated) => *stated,
+            None => self.unstated(look),
+        };
         let rights = rights(self.n, self.m, rule);
         let book = book::write(self.n as u64, self.m as u64, &rights, usize::MAX);
         book.unwrap_or_else(|refusal| panic!("a text's book was {refusal}"))
+    }
+
+    /// Request R-2: "Sheets must read an unstated `read` as `1` and an unstated `write` as `0`."
+    fn unstated(&self, look: bool) -> Table {
+        self.formula(if look { b"1" } else { b"0" }).unwrap_or_else(|number| panic!("a digit was refused {number}"))
     }
 
     /// What a sheet asks.

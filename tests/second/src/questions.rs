@@ -6,7 +6,8 @@ use crate::question::Question;
 use crate::rng::Rng;
 use crate::tables::{any_rights, any_table, conjunction, letter, rights, table};
 
-/// A question in the words of a sheet: rights as `write a 2 ~c`, posts and settings as `1 2` and `a ~b`.
+/// A question in the words of a sheet: rights as `write a 2 ~c`, posts and settings as `1 2` and `a ~b`. Of the book all
+/// other tables are zero, those of looks too: a book has no rights that are not stated.
 pub fn by_hand(n: usize, m: usize, stated: &[&str], team: &str, known: &str, make: &str, learn: &[&str]) -> Question {
     let formula = |text: &str| formula::read(n as u64, text.as_bytes()).unwrap_or_else(|_| panic!("{text}"));
     let rule = |setting: usize, post: usize, look: bool| {

@@ -3,6 +3,7 @@
 mod by_hand;
 mod faulty;
 pub mod made;
+mod unstated;
 
 use std::fs;
 use std::path::Path;
@@ -17,6 +18,7 @@ use crate::spoilt::{cut_short, every_byte, joined, moved_lines, odd_lines, two_b
 use by_hand::{by_hand, P6};
 use faulty::{every_line, formula_lengths, lengths, rubbish, sizes, twice};
 use made::{any_sheet, climb, longest_sheet, small_sheet};
+use unstated::{any_mixture, every_mixture, every_post};
 
 /// Lines of the longest sheet: a size, 2 × 5 × 8 rights, a team, what is known, a make and four asks.
 const LINES_MOST: u32 = 88;
@@ -32,6 +34,9 @@ pub fn test(subject: &mut Subject) {
     for (n, count) in [(1, 300), (2, 500), (3, 300), (4, 60), (5, 15)] {
         subject.group(&format!("random sheets, n = {n}"), |group| random(group, n, count));
     }
+    subject.group("rights not stated, every mixture with one setting and three posts", every_mixture);
+    subject.group("rights not stated, of every post in the team and out of it", every_post);
+    subject.group("rights not stated, random mixtures", any_mixture);
     subject.group("the longest sheets that are answered", longest_sheets);
     subject.group("the longest answers", longest_answers);
     subject.group("every room up to the answer's length and past it", rooms);

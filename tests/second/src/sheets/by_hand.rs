@@ -5,7 +5,15 @@ use crate::report::Group;
 use crate::sheet::answer;
 
 pub const P6: &str = "size 3 2\nwrite a 2 ~c\nwrite b 1 a\nread c 2 1\nwrite c 2 c\nteam 1 2\nknown\nmake b\n";
-const P6_ANSWER: &str = "reach 4\n0 look c 2\n1 set a 2 1\n2 set b 1 1\n3 stop\n1 set c 2 0\n2 set a 2 1\n\
+/// Post 1 may look too, since nothing is said of its looks (request R-2).
+const P6_ANSWER: &str = "reach 4\n0 look c 1\n1 set a 2 1\n2 set b 1 1\n3 stop\n1 set c 2 0\n2 set a 2 1\n\
+    3 set b 1 1\n4 stop\n";
+
+const P8_ANSWER: &str = "reach 5\n0 look a 1\n1 look c 1\n2 set a 2 1\n3 set b 1 1\n4 stop\n2 set c 2 0\n3 set a 2 1\n\
+    4 set b 1 1\n5 stop\n1 set b 1 1\n2 stop\n";
+
+/// Paper 01's own answer to P6, where looks that nobody stated were closed.
+const P6_CLOSED_ANSWER: &str = "reach 4\n0 look c 2\n1 set a 2 1\n2 set b 1 1\n3 stop\n1 set c 2 0\n2 set a 2 1\n\
     3 set b 1 1\n4 stop\n";
 
 /// Lines between the size and the team of a sheet with two settings and two posts, and what is printed.
@@ -112,12 +120,21 @@ fn whole_sheets() -> Vec<(String, &'static str)> {
     let p8_other = [P6, "ask c\n"].concat();
     let p7 = P6.replace("team 1 2", "team 1");
     let no_read = P6.replace("read c 2 1\n", "");
+    // the five looks that P6 says nothing of, said to be closed
+    let closed = "read a 1 0\nread a 2 0\nread b 1 0\nread b 2 0\nread c 1 0\n";
+    let shut = |sheet: &str| sheet.replace("write a 2", &[closed, "write a 2"].concat());
+    let shut_no_read = shut(&no_read.replace("write a 2", "read c 2 0\nwrite a 2"));
     vec![
         (P6.to_string(), P6_ANSWER),
+        (shut(P6), P6_CLOSED_ANSWER),
+        (shut(&p7), "cannot\n"),
+        (shut(&p8), "cannot\n"),
+        (shut(&p8_other), P6_CLOSED_ANSWER),
+        (shut_no_read, "cannot\n"),
         (p7, "cannot\n"),
-        (p8, "cannot\n"),
+        (p8, P8_ANSWER),
         (p8_other, P6_ANSWER),
-        (no_read, "cannot\n"),
+        (no_read, P6_ANSWER),
         (p9.to_string(), "reach 2\n0 look a 1\n1 stop\n1 set a 1 0\n2 stop\n"),
         ("size 2 1\nwrite a 1 b|~b\nteam 1\nknown\nmake a\n".to_string(), "reach 1\n0 set a 1 1\n1 stop\n"),
         ("size 2 1\nteam 1\nknown ~a\nmake 1\nask a&b\n".to_string(), "reach 0\n0 stop\n"),

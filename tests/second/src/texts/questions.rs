@@ -158,7 +158,8 @@ const P6: &[&str] = &["write a 2 ~c", "write b 1 a", "read c 2 1", "write c 2 c"
 const P6_ANSWER: &str =
     "reach 4\n0 look c 2\n1 set a 2 1\n2 set b 1 1\n3 stop\n1 set c 2 0\n2 set a 2 1\n3 set b 1 1\n4 stop\n";
 
-/// Questions to the book of P6, three settings and two posts, and what is printed.
+/// Questions to a stored book, that of P6 as paper 01 read it: three settings, two posts, and looks closed where P6 says
+/// nothing of them. Request R-2: "Stored books mean what they meant."
 const TO_P6: &[(&str, &str)] = &[
     ("team 1 2\nknown\nmake b\n", P6_ANSWER),
     ("# a note\n\nteam 1 2\n#\nknown\n\n\nmake b\n# the end\n", P6_ANSWER),
@@ -213,10 +214,28 @@ const TO_P6: &[(&str, &str)] = &[
     ("team 1\nknown\nmake b\nask b\nask b\nask b\nask (\nask b\n", "refused 4 7\n"),
 ];
 
+/// Questions to the book that the same rules make now, and what is printed.
+const TO_P6_NOW: &[(&str, &str)] = &[
+    ("team 1 2\nknown\nmake b\n", P6_ANSWER_NOW),
+    ("team 2\nknown\nmake 1\nask a\nask b\nask c\n", LOOKS_OF_TWO),
+    ("team 1\nknown\nmake b\n", "cannot\n"),
+    ("team 1 2\nknown\nmake b\nask a\n", P8_ANSWER_NOW),
+    ("team 1 2\nknown\nmake b\nask c\n", P6_ANSWER_NOW),
+];
+const P6_ANSWER_NOW: &str =
+    "reach 4\n0 look c 1\n1 set a 2 1\n2 set b 1 1\n3 stop\n1 set c 2 0\n2 set a 2 1\n3 set b 1 1\n4 stop\n";
+const P8_ANSWER_NOW: &str = "reach 5\n0 look a 1\n1 look c 1\n2 set a 2 1\n3 set b 1 1\n4 stop\n2 set c 2 0\n\
+    3 set a 2 1\n4 set b 1 1\n5 stop\n1 set b 1 1\n2 stop\n";
+const LOOKS_OF_TWO: &str = "reach 3\n0 look a 2\n1 look b 2\n2 look c 2\n3 stop\n3 stop\n2 look c 2\n3 stop\n3 stop\n\
+    1 look b 2\n2 look c 2\n3 stop\n3 stop\n2 look c 2\n3 stop\n3 stop\n";
+
 fn points(group: &mut Group) {
     let book = by_hand(3, 2, P6, "1", "", "1", &[]).book;
     let mut points: Vec<(Vec<u8>, &str, &str)> =
         TO_P6.iter().map(|&(text, answer)| (book.clone(), text, answer)).collect();
+    let rules = ["size 3 2", &P6.join("\n"), ""].join("\n");
+    let now = text::book(rules.as_bytes(), usize::MAX).unwrap_or_else(|refusal| panic!("P6's rules were {refusal}"));
+    points.extend(TO_P6_NOW.iter().map(|&(text, answer)| (now.clone(), text, answer)));
     let book = |n, m| by_hand(n, m, &["write a 1 1", "read b 1 a"], "1", "", "1", &[]).book;
     points.extend([
         (

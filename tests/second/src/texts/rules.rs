@@ -1,10 +1,10 @@
 //! The cases for rules texts: the word, and every byte of the room for the book, are compared with `text.rs`.
 
 use crate::book::BLOCK;
+use crate::books::repaired;
 use crate::ffi;
-use crate::formula::LENGTH_MOST;
+use crate::formula::{self, LENGTH_MOST};
 use crate::grow::{sentence, SHAPES};
-use crate::questions::by_hand;
 use crate::refusal::{refusal, told, Refusal};
 use crate::report::{shown, Group, Subject};
 use crate::rng::Rng;
@@ -27,6 +27,8 @@ pub fn test(subject: &mut Subject) {
     for (n, count) in [(1, 200), (2, 200), (3, 200), (4, 150), (5, 100), (6, 100), (7, 100)] {
         subject.group(&format!("random rules, n = {n}"), |group| random(group, n, count));
     }
+    subject.group("rights not stated, for every size, and one right stated at each place", one_stated);
+    subject.group("rights not stated, every mixture of eight rights", every_mixture);
     subject.group("the longest rules", longest);
     subject.group("rooms of every length around the book's", rooms);
     subject.group("odd lines at every place", |group| odd_lines::<Rules>(group, 6));
@@ -199,11 +201,79 @@ const TAKEN: &[(&str, usize, usize, &[&str])] = &[
     ("\n\n# a note\n\nsize 7 1\n\n", 7, 1, &[]),
     ("#\nsize 2 2\n#\nread a 1 b\n\nwrite b 2 ~a\n#\n", 2, 2, &["read a 1 b", "write b 2 ~a"]),
     ("size 7 8\nread g 8 a&g\nwrite a 1 ~(f|g)\n", 7, 8, &["read g 8 a&g", "write a 1 ~(f|g)"]),
-    ("size 6 8\n#read a 1 1\nread a 1 0\n", 6, 8, &[]),
+    ("size 6 8\n#read a 1 1\nread a 1 0\n", 6, 8, &["read a 1 0"]),
+    ("size 6 8\n#read a 1 0\nwrite a 1 0\n", 6, 8, &[]),
     ("size 1 1\n#read a 1 1\nread a 1 1\n", 1, 1, &["read a 1 1"]),
     ("size 2 1\nwrite a 1 b|~b\nread a 1 1\nread b 1 1\n", 2, 1, &["write a 1 1", "read a 1 1", "read b 1 1"]),
     ("size 1 1\n#\0\r\t \u{e9}\nread a 1 a\n", 1, 1, &["read a 1 a"]),
 ];
+
+/// The book of n settings and m posts, byte by byte: each look of posts 1 to m is `1` and each set `0`, but for the
+/// rights that are stated. Tables of posts past m are zero.
+fn book_of(n: usize, m: usize, stated: &[&str]) -> Vec<u8> {
+    let mut book = vec![0; (1 + n) * BLOCK];
+    (book[0], book[1]) = (n as u8, m as u8);
+    for setting in 1..=n {
+        for post in 0..m {
+            for v in 0..1 << n {
+                book[setting * BLOCK + 32 * post + v / 8] |= 1 << (v % 8);
+            }
+        }
+    }
+    for right in stated {
+        let words: Vec<&[u8]> = right.as_bytes().split(|&byte| byte == b' ').collect();
+        let (setting, post) = (usize::from(words[1][0] - b'a'), usize::from(words[2][0] - b'1'));
+        let table = formula::read(n as u64, words[3]).unwrap_or_else(|refusal| panic!("{right}: {refusal}"));
+        let place = (1 + setting) * BLOCK + 32 * post + if words[0] == b"read" { 0 } else { 16 };
+        book[place..place + 16].copy_from_slice(&table);
+    }
+    repaired(&book)
+}
+
+/// This program's own answer and the library's, both against the book by hand.
+fn stated_alone(group: &mut Group, n: usize, m: usize, stated: &[&str]) {
+    let lines: String = stated.iter().map(|right| format!("{right}\n")).collect();
+    let rules = format!("size {n} {m}\n{lines}").into_bytes();
+    let expected = book_of(n, m, stated);
+    let own = book(&rules, usize::MAX);
+    group.case(own.as_ref() == Ok(&expected), || format!("this program's own answer to {}", shown(&rules)));
+    expect(group, &rules, expected.len() + 9, Ok(expected));
+}
+
+fn one_stated(group: &mut Group) {
+    for n in 1..=7 {
+        for m in 1..=8 {
+            stated_alone(group, n, m, &[]);
+            for setting in 0..n {
+                for post in 1..=m {
+                    for verb in ["read", "write"] {
+                        let formula = group.rng.one_of(&["0", "1", "a", "~a", "a|~a", "a&~a"]);
+                        let letter = (b'a' + setting as u8) as char;
+                        stated_alone(group, n, m, &[&format!("{verb} {letter} {post} {formula}")]);
+                    }
+                }
+            }
+        }
+    }
+}
+
+/// Each of eight rights is `0`, `1` or not stated: two settings with two posts, and one setting with four.
+fn every_mixture(group: &mut Group) {
+    for (n, m) in [(2, 2), (1, 4)] {
+        for mixture in 0..3usize.pow(8) {
+            let mut stated = Vec::new();
+            for right in 0..8 {
+                let (letter, post) = ((b'a' + (right / 2 / m) as u8) as char, right / 2 % m + 1);
+                let verb = if right % 2 == 0 { "read" } else { "write" };
+                match mixture / 3usize.pow(right as u32) % 3 {
+                    0 => {}
+                    said => stated.push(format!("{verb} {letter} {post} {}", said - 1)),
+                }
+            }
+            stated_alone(group, n, m, &stated.iter().map(String::as_str).collect::<Vec<_>>());
+        }
+    }
+}
 
 fn points(group: &mut Group) {
     for &(rules, number, line) in REFUSED {
@@ -215,7 +285,7 @@ fn points(group: &mut Group) {
         }
     }
     for &(rules, n, m, stated) in TAKEN {
-        let expected = by_hand(n, m, stated, "1", "", "1", &[]).book;
+        let expected = book_of(n, m, stated);
         let own = book(rules.as_bytes(), usize::MAX);
         group.case(own.as_ref() == Ok(&expected), || format!("this program's own answer to {rules:?}"));
         expect(group, rules.as_bytes(), expected.len(), Ok(expected.clone()));
@@ -406,7 +476,7 @@ fn lengths(group: &mut Group) {
     }
     let size = "size 7 8\n";
     let late = [&vec![b'\n'; TEXT_MOST - size.len()][..], size.as_bytes()].concat();
-    expect(group, &late, BOOK_MOST, Ok(by_hand(7, 8, &[], "1", "", "1", &[]).book));
+    expect(group, &late, BOOK_MOST, Ok(book_of(7, 8, &[])));
 }
 
 fn rubbish(group: &mut Group) {
