@@ -7,11 +7,21 @@ use finder::Answer;
 use question::Question;
 
 // Where a rule's table stands in the rights: 256 bytes a setting, 32 a post, to look and then to set.
+const READ_A_1: usize = 0;
+
 const WRITE_A_1: usize = 16;
+
+const READ_A_2: usize = 32;
 
 const WRITE_A_2: usize = 32 + 16;
 
+const READ_B_1: usize = 256;
+
 const WRITE_B_1: usize = 256 + 16;
+
+const READ_B_2: usize = 256 + 32;
+
+const READ_C_1: usize = 512;
 
 const READ_C_2: usize = 512 + 32;
 
@@ -93,9 +103,14 @@ fn show_asked(
     show(name, answer, plan);
 }
 
-// The book of P6: `write a 2 ~c`, `write b 1 a`, `read c 2 1`, `write c 2 c`.
+// The book of P6: `write a 2 ~c`, `write b 1 a`, `read c 2 1`, `write c 2 c`, and the looks that it does not state are open.
 fn sixth(book: &mut [u8]) {
     let mut rights = [0u8; 768];
+    rule(3, &mut rights, READ_A_1, b"1");
+    rule(3, &mut rights, READ_A_2, b"1");
+    rule(3, &mut rights, READ_B_1, b"1");
+    rule(3, &mut rights, READ_B_2, b"1");
+    rule(3, &mut rights, READ_C_1, b"1");
     rule(3, &mut rights, WRITE_A_2, b"~c");
     rule(3, &mut rights, WRITE_B_1, b"a");
     rule(3, &mut rights, READ_C_2, b"1");
@@ -115,9 +130,11 @@ pub(crate) fn plan_rooms() {
     show_sixth(b"P6, plan room 7:", &mut [0u8; 7]);
 }
 
-// The book of P11: `write a 1 b|~b`.
+// The book of P11: `write a 1 b|~b`, and both looks open.
 fn eleventh(book: &mut [u8]) {
     let mut rights = [0u8; 512];
+    rule(2, &mut rights, READ_A_1, b"1");
+    rule(2, &mut rights, READ_B_1, b"1");
     rule(2, &mut rights, WRITE_A_1, b"b|~b");
     book::write(2, 1, &rights, book);
 }
