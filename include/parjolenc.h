@@ -1,4 +1,4 @@
-// The C interface of Parjolenc, version 1.2, for x86-64 Linux: what a host has to know stands in this file.
+// The C interface of Parjolenc, version 2.0, for x86-64 Linux: what a host has to know stands in this file.
 //
 // `rt staticlib exports` writes the library. A program is compiled with it by the ordinary line, in C99 or C++11:
 //
@@ -38,10 +38,10 @@ extern "C" {
 
 // The version of this interface, and not of what is behind it. The first number grows where a program that was
 // written for the header before it would not compile or would mean something else, the second where something is added.
-#define PJ_VERSION_FIRST 1
-#define PJ_VERSION_SECOND 2
+#define PJ_VERSION_FIRST 2
+#define PJ_VERSION_SECOND 0
 #define PJ_VERSION (100 * PJ_VERSION_FIRST + PJ_VERSION_SECOND)
-#define PJ_VERSION_TEXT "1.2"
+#define PJ_VERSION_TEXT "2.0"
 
 typedef unsigned char pj_u8;
 typedef unsigned long long pj_u64;
@@ -174,7 +174,7 @@ enum {
 // Stack that a call takes at most, whatever its arguments, rounded up to 4,096 bytes. It is measured and not proved:
 // tests/host/stack.c paints a stack, calls the function where it goes deepest, and finds the lowest byte that changed.
 // On x86-64, with the library that kit 5b made on 2026-11-16, in the order below: 102,752 bytes (255 brackets: 400 each
-// and 752), 232, 200, 113,096 (a plan of height 254: 208 for each act and 60,264), 552, 142,608 and 122,432 (a look rule
+// and 752), 232, 200, 113,096 (a plan of height 254: 208 for each act and 60,264), 552, 138,688 and 118,384 (a look rule
 // of 255 brackets), 146,024 (a plan of height 254), and 184. The frames in the object code add up to the same on the
 // deepest path. memcpy and memset are counted, but the first call of one in a
 // process takes more where the dynamic linker binds it then: 3,152 bytes were seen, for which there is room, since
@@ -185,8 +185,8 @@ enum {
     PJ_STACK_BOOK_WRITE = 4096,
     PJ_STACK_FIND = 114688,
     PJ_STACK_PLAN_CHECK = 4096,
-    PJ_STACK_SHEET = 143360,
-    PJ_STACK_RULES = 122880,
+    PJ_STACK_SHEET = 139264,
+    PJ_STACK_RULES = 118784,
     PJ_STACK_ASK = 147456,
     PJ_STACK_REPLAY = 4096
 };
@@ -194,7 +194,7 @@ enum {
 // ---- rights and books
 
 // Where the 16 bytes of a rule's table begin, in rights and in a book: the rule of setting i for the post with index q,
-// to look (set is 0) or to set (set is 1). A rule that is not stated is 16 zeros: never.
+// to look (set is 0) or to set (set is 1). 16 zeros are never, for a look as for a set.
 #define PJ_RIGHT(i, q, set) (PJ_TABLES * (i) + 2 * PJ_TABLE * (q) + PJ_TABLE * (set))
 #define PJ_RULE(i, q, set) (PJ_BLOCK * (1 + (i)) + 2 * PJ_TABLE * (q) + PJ_TABLE * (set))
 
@@ -229,11 +229,14 @@ static inline int pj_post(pj_u8 byte) { return (byte - 1) % 8; }
 //
 //     size N M       n, 1 to 7, and m: one line; in a sheet n is 1 to 5
 //     read P G F     post G may look at P where F holds: any number of lines, mixed with `write`
-//     write P G F    post G may set P where F holds; a rule that is not stated is `0`
+//     write P G F    post G may set P where F holds
 //     team G ..      the team, one or more posts: one line
 //     known ..       what is known at the start, `a` for true and `~a` for false, or `known` alone: one line
 //     make F         the make formula: one line
 //     ask F          a learn formula: none to four lines
+//
+// A rule that is not stated is `1` to look and `0` to set, for each post from 1 to m: the settings are on the screen.
+// Tables of posts past m are zero. This is about text alone: a book has all its rules, and means what it meant.
 //
 // What is printed is `reach H`, H the height, and a line for each byte of the plan; or `cannot`; or a refusal, `refused
 // NUMBER PLACE`. A plan byte's line is the count of acts before it on its way, and `stop`, `look P G` or `set P G V`, V

@@ -1,5 +1,6 @@
 // A host in C, by include/parjolenc.h alone: paper 01's example P6 from its rules to its plan, the plan read and
-// checked, a question refused, and the sheet of the same example. Each step is a test; the last line counts them.
+// checked, a question refused, and the sheet of the same example. Looks that the sheet does not state are open, so the
+// rules have them open too. Each step is a test; the last line counts them.
 #include "tell.h"
 
 static pj_u8 rights[PJ_RIGHTS_ROOM(3)], back[PJ_RIGHTS_ROOM(3)], book[PJ_BOOK_ROOM(3)];
@@ -18,10 +19,10 @@ int main(void) {
 
     pj_u64 found = pj_find(book, sizeof book, 3, 0, 0, make, sizeof make, 0, 0, ranks, sizeof ranks, plan, sizeof plan);
     test("both posts reach it in 4 steps", pj_number(found) == 0 && pj_height(found) == 4 && pj_length(found) == 8);
-    static const pj_u8 steps[8] = {130, 58, 65, 0, 18, 58, 65, 0};
-    test("by the plan of paper 01", same(plan, steps, 8));
-    test("whose first act is: post 2 looks at c", pj_kind(plan[0]) == PJ_LOOK && pj_setting(plan[0]) == 2 &&
-                                                      pj_post(plan[0]) == 1);
+    static const pj_u8 steps[8] = {129, 58, 65, 0, 18, 58, 65, 0};
+    test("by the plan of request R-2", same(plan, steps, 8));
+    test("whose first act is: post 1 looks at c", pj_kind(plan[0]) == PJ_LOOK && pj_setting(plan[0]) == 2 &&
+                                                      pj_post(plan[0]) == 0);
     test("which the check accepts",
          pj_plan_check(book, sizeof book, 3, 0, 0, make, sizeof make, 0, 0, plan, pj_length(found)) == 0);
     test("post 1 alone cannot",
@@ -30,6 +31,7 @@ int main(void) {
     test("a team of nobody is refused", pj_number(none) == PJ_REFUSED_TEAM && pj_place(none) == 0);
 
     pj_u64 printed = pj_sheet((const pj_u8 *)sheet, sizeof sheet - 1, out, sizeof out);
-    test("the sheet's answer begins with `reach 4`", printed <= sizeof out && same_text(out, "reach 4\n"));
+    test("the sheet's answer begins with the same height and act",
+         printed <= sizeof out && same_text(out, "reach 4\n0 look c 1\n"));
     return closing();
 }

@@ -160,7 +160,7 @@ static void replayed(const char *name, const pj_u8 *of, pj_u64 book_length, pj_u
 }
 
 // Order: the book's 6 to 9, 26, then record by record 27, 28, 29. P6's book: post 2 may set a where c is false, post 1
-// may set b where a is true, post 2 may look at c, and set it where it is true.
+// may set b where a is true, post 2 may look at c, and set it where it is true. Here post 1 may not look at c.
 static void shifts(void) {
     static const pj_u8 done[8] = {130, 1, 18, 0, 58, 0, 65, 0}; // look c 2 sees 1, set c 2 0, set a 2 1, set b 1 1
     pj_u8 shift[8];
@@ -207,6 +207,7 @@ int main(void) {
     char long_text[PJ_FORMULA_MOST + 1];
     for (int i = 0; i <= PJ_FORMULA_MOST; i++) long_text[i] = i % 2 == 0 ? 'a' : '&';
     p6_rights(rights);
+    formula(3, "0", rights + PJ_RIGHT(2, 0, 0));
     formula(3, "b", make);
     pj_book_write(3, 2, rights, sizeof rights, book, sizeof book);
 

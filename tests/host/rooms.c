@@ -39,7 +39,7 @@ static int rooms_of(int settings) {
 static int rules_room(int settings) {
     pj_u64 n = (pj_u64)settings, b = PJ_BOOK_ROOM(n);
     pj_u8 rules[9] = {'s', 'i', 'z', 'e', ' ', (pj_u8)('0' + settings), ' ', '1', '\n'};
-    fill(rights, sizeof rights, 0);
+    if (unstated_rights(settings, 1, rights) != 0) return 0;
     if (pj_book_write(n, 1, rights, PJ_RIGHTS_ROOM(n), book, sizeof book) != 0) return 0;
     for (int turn = 0; turn < 2; turn++) {
         pj_u64 lent = turn == 0 ? b : sizeof room;
@@ -178,7 +178,7 @@ static int any_address(void) {
         pj_u64 length = pj_rules(rules_at, sizeof rules - 1, made, PJ_BOOK_ROOM(3));
         if (length != PJ_BOOK_ROOM(3) || !same(made, b, length)) return 0;
         pj_ask(made, length, question_at, sizeof question - 1, k, PJ_RANKS_ROOM(3), o, 200);
-        if (!same_text(o, "reach 4\n0 look c 2\n")) return 0;
+        if (!same_text(o, "reach 4\n0 look c 1\n")) return 0;
         static const pj_u8 acts[4 * PJ_RECORD] = {130, 1, 18, 0, 58, 0, 65, 0};
         pj_u8 *shift = at + 15001;
         pj_u64 reached[2];

@@ -65,11 +65,21 @@ static inline pj_u64 formula(pj_u64 n, const char *text, pj_u8 *table) {
     return pj_formula_read(n, (const pj_u8 *)text, length_of(text), table);
 }
 
+// Every look of n settings and m posts is open, and every set closed: what rules text says by `size` alone. 0 where `1`
+// is a formula.
+static inline pj_u64 unstated_rights(int n, int m, pj_u8 *rights) {
+    pj_u64 refused = 0;
+    fill(rights, (pj_u64)PJ_RIGHTS_ROOM(n), 0);
+    for (int i = 0; i < n; i++)
+        for (int q = 0; q < m; q++) refused |= formula((pj_u64)n, "1", rights + PJ_RIGHT(i, q, 0));
+    return refused;
+}
+
 // The rights of P6: three settings, two posts. 0 where all texts are formulas.
 static inline pj_u64 p6_rights(pj_u8 *rights) {
-    fill(rights, PJ_RIGHTS_ROOM(3), 0);
-    return formula(3, "~c", rights + PJ_RIGHT(0, 1, 1)) | formula(3, "a", rights + PJ_RIGHT(1, 0, 1)) |
-           formula(3, "1", rights + PJ_RIGHT(2, 1, 0)) | formula(3, "c", rights + PJ_RIGHT(2, 1, 1));
+    return unstated_rights(3, 2, rights) | formula(3, "~c", rights + PJ_RIGHT(0, 1, 1)) |
+           formula(3, "a", rights + PJ_RIGHT(1, 0, 1)) | formula(3, "1", rights + PJ_RIGHT(2, 1, 0)) |
+           formula(3, "c", rights + PJ_RIGHT(2, 1, 1));
 }
 
 // The rights of the book of greatest rank, 2^(n+1) - 2, for one post: setting j may be looked at where all before it are

@@ -37,8 +37,8 @@ static pj_u64 length;
 
 // The same rules by their formulas, and not by their text. 0 where all are formulas.
 static pj_u64 night_rights(void) {
-    fill(rights, sizeof rights, 0);
-    return formula(4, "1", rights + PJ_RIGHT(0, 1, 0)) | formula(4, "a", rights + PJ_RIGHT(0, 1, 1)) |
+    return unstated_rights(4, 3, rights) | formula(4, "0", rights + PJ_RIGHT(0, 0, 0)) |
+           formula(4, "1", rights + PJ_RIGHT(0, 1, 0)) | formula(4, "a", rights + PJ_RIGHT(0, 1, 1)) |
            formula(4, "~a", rights + PJ_RIGHT(1, 1, 1)) | formula(4, "1", rights + PJ_RIGHT(2, 0, 0)) |
            formula(4, "1", rights + PJ_RIGHT(2, 2, 1)) | formula(4, "b|c", rights + PJ_RIGHT(3, 0, 1));
 }
