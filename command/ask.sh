@@ -15,7 +15,7 @@ asked() {
     case $(whose) in
     book) book_hint "$book" "$named" ;;
     question) question_hint "$book" "$file" "$1" ;;
-    *) empty_hint "$file" "$1" -v n="$(od -An -tu1 -N1 <"$book" | tr -d ' ')" -v able="$(able "$book")" ;;
+    *) empty_hint "$file" "$1" -v n="$(od -An -tu1 -N1 <"$book" | tr -d ' ')" -v able="$(able "$book" 1)" -v setters="$(able "$book" 17)" ;;
     esac
 }
 

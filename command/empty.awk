@@ -1,6 +1,7 @@
 # empty.awk: whether a question that was answered asks nothing: a make formula that is never or always true, or a team none of whose
-# posts has a right that can ever hold. Help, and no promise. The text is a sheet or a question without a fault. Settings: name (the
-# file's); able, the digits of the posts with a right that can hold, and n, where a book has the rules.
+# posts has a right, or a right to set, that can ever hold. Help, and no promise. The text is a sheet or a question without a fault.
+# Settings: name (the file's); where a book has the rules, n, able and setters: the digits of the posts with a right that can hold,
+# and of those with such a right to set.
 
 function hint(text) { printf "parjolenc: %s: %s\n", name, text }
 
@@ -31,8 +32,9 @@ function counted(F,   v, count) {
     return count
 }
 
-$1 == "size" { n = $2 }
-$1 == "read" || $1 == "write" { if (index(able, $3) == 0 && counted($4) > 0) able = able $3 }
+$1 == "size" { n = $2; sheet = 1 }
+$1 == "read" { looks[$3]++; if (index(able, $3) == 0 && counted($4) > 0) able = able $3 }
+$1 == "write" { if (index(setters, $3) == 0 && counted($4) > 0) { able = able $3; setters = setters $3 } }
 $1 == "team" { for (i = 2; i <= NF; i++) team[$i] = 1 }
 $1 == "make" { make = $2 }
 $1 == "ask" { asks++ }
@@ -42,6 +44,10 @@ END {
     if (true_at == 0) hint("the make formula is never true, so no team can make it so")
     if (true_at == 2 ^ n && !asks) hint("the make formula is always true and nothing is asked, so there is nothing to do")
     else if (true_at == 2 ^ n && make != "1") hint("the make formula is always true")
-    for (post in team) if (index(able, post)) acts = 1
+    for (post in team) {
+        if (index(able, post) || (sheet && looks[post] < n)) acts = 1 # a look that is not stated is open
+        if (index(setters, post)) sets = 1
+    }
     if (!acts) hint("no post of the team has a right that can ever hold, so the team can do nothing")
+    else if (!sets && true_at > 0 && true_at < 2 ^ n) hint("no post of the team has a right to set that can ever hold, so the team can look and change nothing")
 }

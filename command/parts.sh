@@ -149,10 +149,11 @@ empty_hint() {
     [ "$status" -gt 1 ] || awk -v name="$name" "$@" -f "$home/command/empty.awk" <"$file" >&2 2>/dev/null
 }
 
-# able BOOK: the digits of the posts that have a right that can hold. A setting's block has 16 rows of 32 bytes, and the first
-# eight are its posts' tables.
+# able BOOK FROM: the digits of the posts that have a right that can hold. A setting's block has 16 rows of 32 bytes, and the first
+# eight are its posts' tables: to look, and from byte 17 on to set. FROM is 1 for any right, and 17 for a right to set.
 able() {
-    od -An -v -tu1 -w32 -j512 <"$1" | awk '(NR - 1) % 16 < 8 { for (i = 1; i <= NF; i++) if ($i) post[(NR - 1) % 16 + 1] = 1 }
+    od -An -v -tu1 -w32 -j512 <"$1" | awk -v from="$2" '
+        (NR - 1) % 16 < 8 { for (i = from; i <= NF; i++) if ($i) post[(NR - 1) % 16 + 1] = 1 }
         END { for (q in post) printf "%s", q }'
 }
 

@@ -22,6 +22,14 @@ expect 'several questions, one of them missing' 3 "books/night/both.question rea
 expect 'several questions, one of them refused' 2 "$room/bad.question refused 22 1
 books/night/both.question reach 4" "bad.question, line 1: due here is 'team POST" ask "$night" "$(printf 'make a\n' >"$room/bad.question"; echo "$room/bad.question")" books/night/both.question
 
+# a look that no rule states is open, and a book that was made when it was closed means what it meant
+printf 'team 1\nknown ~c ~d\nmake 1\nask b\n' >"$room/mode.question"
+expect 'a look that is not stated' 0 'reach 1
+0 look b 1
+1 stop
+1 stop' '' ask "$night" "$room/mode.question"
+expect 'a stored book, with that look closed' 1 'cannot' '' ask crates/program_ask/data/night.book "$room/mode.question"
+
 # a book is made, and never overwritten
 cp "$night" "$room/kept"
 expect 'a book that is there' 3 '' 'is there already' book books/night.rules "$room/kept"
