@@ -103,7 +103,8 @@ fn show_asked(
     show(name, answer, plan);
 }
 
-// The book of P6: `write a 2 ~c`, `write b 1 a`, `read c 2 1`, `write c 2 c`, and the looks that it does not state are open.
+// The book of P6: `write a 2 ~c`, `write b 1 a`, `read c 2 1`, `write c 2 c`; looks that are not
+// stated are open.
 fn sixth(book: &mut [u8]) {
     let mut rights = [0u8; 768];
     rule(3, &mut rights, READ_A_1, b"1");
