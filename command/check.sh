@@ -9,15 +9,32 @@ taken "$3" 524288
 plan=$file
 run program_check "$book" "$question" "$plan"
 
+# rule_of LINE: the right that a plan's line stands under, as a rules text names it.
+rule_of() {
+    local kind setting post
+    read -r _ kind setting post _ <<<"$1"
+    if [ "$kind" = look ]; then kind=read; else kind=write; fi
+    printf '%s' "$kind $setting $post"
+}
+
+# denied TEXT SECOND: why the act in a plan's line is not permitted, by the second number of 18.
+denied() {
+    case $2 in
+    0) printf '%s' "'$1' looks at a setting that is already known there" ;;
+    1) printf '%s' "'$1': the rule of '$(rule_of "$1")' is surely false there" ;;
+    *) printf '%s' "'$1': nobody in the team knows there whether the rule of '$(rule_of "$1")' holds" ;;
+    esac
+}
+
 # plan_hint NAME: the fault that the plan check found, with the line of the plan that it is in. Byte i stands in line i + 2.
 plan_hint() {
-    local number place line
-    read -r _ number place < <(sed -n 2p <<<"$said")
+    local number place second line
+    read -r _ number place second < <(sed -n 2p <<<"$said")
     line=$((place + 2))
     case $number in
     16) say "$1: the plan has more than 32,640 lines of acts and stops" ;;
     17) say "$1, line $line: '$(sed -n "${line}p" <"$plan")' names no act of this book and team" ;;
-    18) say "$1, line $line: '$(sed -n "${line}p" <"$plan")' is not known to be allowed there, or looks at a setting that is known" ;;
+    18) say "$1, line $line: $(denied "$(sed -n "${line}p" <"$plan")" "$second")" ;;
     19) say "$1, line $line: the plan stops where the goal is not settled" ;;
     20) say "$1, line $line: the plan ends too soon" ;;
     21) say "$1, line $line: the plan was whole before this line" ;;

@@ -1,4 +1,4 @@
-// The C interface of Parjolenc, version 2.0, for x86-64 Linux: what a host has to know stands in this file.
+// The C interface of Parjolenc, version 2.1, for x86-64 Linux: what a host has to know stands in this file.
 //
 // `rt staticlib exports` writes the library. A program is compiled with it by the ordinary line, in C99 or C++11:
 //
@@ -39,19 +39,20 @@ extern "C" {
 // The version of this interface, and not of what is behind it. The first number grows where a program that was
 // written for the header before it would not compile or would mean something else, the second where something is added.
 #define PJ_VERSION_FIRST 2
-#define PJ_VERSION_SECOND 0
+#define PJ_VERSION_SECOND 1
 #define PJ_VERSION (100 * PJ_VERSION_FIRST + PJ_VERSION_SECOND)
-#define PJ_VERSION_TEXT "2.0"
+#define PJ_VERSION_TEXT "2.1"
 
 typedef unsigned char pj_u8;
 typedef unsigned long long pj_u64;
 
 // ---- results
 
-// A refusal is second × 2^40 + number × 2^32 + place, and a success is below 2^32: `pj_number` is 0 for a success.
-// `pj_second` is one more than a refusal's second number, and 0 where it has none; none has one yet.
+// A refusal has its place in bits 0 to 31, its number in bits 32 to 39, and in bits 40 to 47 one more than its second
+// number, or 0 where it has none: 18 alone has one. A success is below 2^32: `pj_number` is 0 for a success, and no
+// refusal has the number 0. `pj_second` gives bits 40 to 47 as they stand; PJ_SECOND names what they can be.
 static inline pj_u64 pj_number(pj_u64 result) { return (result >> 32) & 0xff; }
-static inline pj_u64 pj_second(pj_u64 result) { return result >> 40; }
+static inline pj_u64 pj_second(pj_u64 result) { return (result >> 40) & 0xff; }
 static inline pj_u64 pj_place(pj_u64 result) { return result & 0xffffffff; }
 
 // A success of pj_rules, pj_sheet and pj_ask: a length.
@@ -108,8 +109,8 @@ enum {
     PJ_REFUSED_PLAN_LENGTH = 16,
     // A byte of the plan is above 168, or its setting is at or past n, or its post is not of the team. [its index]
     PJ_REFUSED_NO_ACT = 17,
-    // The rule of an act is not known to hold where the act is due, or a look is at a setting of which a value is
-    // known. [its index]
+    // A look is at a setting of which a value is known, or the rule of an act is not known to hold where the act is
+    // due: PJ_SECOND below says which. [its index]
     PJ_REFUSED_NOT_PERMITTED = 18,
     // The plan stops where the goal is not settled. [the stop's index]
     PJ_REFUSED_NOT_SETTLED = 19,
@@ -135,6 +136,16 @@ enum {
     PJ_REFUSED_NOT_ALLOWED = 28,
     // A look was recorded with another value than its setting has where the look is due. [the record's index]
     PJ_REFUSED_DISAGREES = 29
+};
+
+// pj_second of 18, one more than its second number: why the act is not permitted. They are judged in this order.
+enum {
+    // A look at a setting of which a value is known, whatever its rule.
+    PJ_SECOND_KNOWN_SETTING = 1 + 0,
+    // The rule is false at every valuation that fits what the team knows there: it is surely closed.
+    PJ_SECOND_SURELY_FALSE = 1 + 1,
+    // The rule is true at some of them and false at others: nobody in the team knows whether it holds.
+    PJ_SECOND_NOT_KNOWN = 1 + 2
 };
 
 // ---- sizes, in bytes where nothing else is said

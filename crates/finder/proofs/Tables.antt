@@ -17,7 +17,7 @@ use Rattle.ground.proofs.Bits.{bit-of-zero}
 use Rattle.knowledge_acts.specs.Acts.{offered}
 use Rattle.knowledge_acts.specs.declared.act.Act.{Act}
 use Rattle.knowledge_acts.specs.declared.act.Act.the-variants.{Set, Look}
-use Rattle.knowledge.specs.Fits.{known}
+use Rattle.knowledge.specs.Judgement.{known}
 use Rattle.knowledge.specs.Goal.{Goal, goalSettled}
 use Rattle.book_block.specs.Rule.{rule}
 use Rattle.book_block.specs.declared.rule.Right.the-variants.{Look as look-rule, Set as set-rule}
@@ -30,10 +30,10 @@ use Rattle.finder_sides.specs.Tables.{entry, PostTables, Made, Learnt, goalAt}
 use Rattle.finder_sides.proofs.Tables.{post-known, goal-at}
 use Rattle.finder_ranks.specs.Ranks.{rank, May, HasLower, by-set, by-look}
 use Rattle.finder_ranks.specs.Fills.{RankTable, FillsRanks}
-use Rattle.question.specs.Permitted.{permitted}
 use Rattle.question.specs.Question.{systemOf}
 use Rattle.question.specs.Asks.{ValidQuestion}
 use Rattle.question.specs.declared.Question.{Question}
+use Rattle.question.proofs.PermitLaws.{set-given, look-given}
 use Rattle.question.proofs.SystemLaws.{few, lawful}
 use Rattle.finder.specs.Finds.{RanksFilled}
 use Rattle.finder.specs.Tables.{TablesTell}
@@ -80,13 +80,13 @@ module _ {book : List ℕ} {q : Question} {goal : Goal} {n m : ℕ} (v : ValidQu
       (subst (λ (x : ℕ). Learnt x (goal .learn) learnt) counts hl′) k
 
   set-may : (k i p : ℕ) (b : Bool) → i < n → p < 8 → may (systemOf n book q goal) k (Set i p b) ≡ bit (entry set i (nowSideNumber n k)) p
-  unfolding systemOf offered permitted
-  set-may k i p b h l = rw (lt-ltb i n h) (sym (post-known hs k i p h l))
+  unfolding systemOf offered
+  set-may k i p b h l = rw (lt-ltb i n h, set-given n book (digit 7 k) i p b) (sym (post-known hs k i p h l))
 
   look-may : (k i p : ℕ) → i < n → p < 8 → digit 7 k i ≡ 0 → may (systemOf n book q goal) k (Look i p) ≡ bit (entry look i (nowSideNumber n k)) p
-  unfolding systemOf offered permitted
+  unfolding systemOf offered
   look-may k i p h l z =
-      rw (lt-ltb i n h, eq-eqb (digit 7 k i) 0 z)
+      rw (lt-ltb i n h, look-given n book (digit 7 k) i p, eq-eqb (digit 7 k i) 0 z)
       (ap (λ (x : Bool). bit (q .team) p && x) (and-true (known n (digit 7 k) (rule book i p look-rule))) ∙ sym (post-known hk k i p h l))
 
   set-in : (k i p : ℕ) (b : Bool) → T (may (systemOf n book q goal) k (Set i p b)) → May set n k i

@@ -11,11 +11,11 @@ use lib.ListN.{length, getD, drop}
 use Rattle.ground.specs.Digits.{digit}
 use Rattle.ground.specs.Search.{all}
 use Rattle.ground.proofs.Bools.{and-in, true→T}
-use Rattle.knowledge.specs.Fits.{known, learnSettled}
+use Rattle.knowledge.specs.Judgement.{known, learnSettled}
 use Rattle.knowledge.proofs.Known.{known-intro}
 use Rattle.refusal.proofs.OrderLaws.{first-clear}
 use Rattle.book_sound.proofs.Theorems.{sound-one}
-use Rattle.plan.specs.Plans.{System, Plan, Permitted, Works, height}
+use Rattle.plan.specs.Plans.{Plan, Permitted, Works, height}
 use Rattle.plan.specs.Ranks.{Cannot as CannotFrom}
 use Rattle.plan.specs.Bytes.{encode}
 use Rattle.plan.specs.Secret.{Twins}

@@ -15,8 +15,10 @@ use Rattle.ground.specs.Search.{all}
 use Rattle.ground.specs.Table.{truth}
 use Rattle.ground.proofs.Bits.{below-2, bit-of-zero}
 use Rattle.ground.proofs.Bools.{T→true, lt-or-ge}
-use Rattle.knowledge.specs.Fits.{always, is, oneValue}
-use Rattle.knowledge.proofs.Fits.{always-intro, always-take}
+use Rattle.knowledge.specs.Fits.{always, is}
+use Rattle.knowledge.specs.Judgement.{judgement, settles}
+use Rattle.knowledge.proofs.Fits.{always-intro}
+use Rattle.knowledge.proofs.JudgementLaws.{holds-is, settles-is, judgement-take}
 use Rattle.knowledge.specs.Goal.{learnTable}
 use Rattle.finder_sides.specs.Tables.{oneOf, SideTable, Made, Learnt}
 use Rattle.finder_sides.proofs.CountLaws.{sides-most}
@@ -68,7 +70,9 @@ module _ {n : ℕ} {columns t : List ℕ} (filled : Filled n columns t) where
   }
 
   pub made-table : (make : List ℕ) → EachColumn (MadeAt make) (2 ^ n) columns → Made n make t
-  made-table make cols = side-table true make cols
+  made-table make cols =
+      let w = side-table true make cols in
+      record { long = w .long; each = λ s h. w .each s h ∙ ap oneOf (sym (holds-is n (digit 3 s) make)); past = w .past }
 
   pub settled-table : (table : List ℕ) → EachColumn (SettledAt table) (2 ^ n) columns → Settled n table t
   settled-table table cols = record {
@@ -77,7 +81,8 @@ module _ {n : ℕ} {columns t : List ℕ} (filled : Filled n columns t) where
         two-bits (getD t s 0) (filled .each s h .small 3 (λ v m. rw (cols v m) (same-lt (truth table v))))
         ∙ ap₂ _||_
         (filled .each s h .tells 0 true true table (λ v m. rw (cols v m) (same-low (truth table v))))
-        (filled .each s h .tells 1 true false table (λ v m. rw (cols v m) (same-next (truth table v))));
+        (filled .each s h .tells 1 true false table (λ v m. rw (cols v m) (same-next (truth table v))))
+        ∙ sym (settles-is n (digit 3 s) table);
     past = filled .past;
   }
 
@@ -101,12 +106,9 @@ and-turned true false = refl
 and-turned false true = refl
 and-turned false false = refl
 
-settled-take : (n : ℕ) (side : ℕ → ℕ) (t : List ℕ) → n ≤ 7 → oneValue n side t ≡ oneValue n side (take 16 t)
-settled-take n side t h = sym (ap₂ _||_ (always-take true n side t h) (always-take false n side t h))
-
 -- the first j learn formulas
 abbrev pub LearntTo : ℕ → List ℕ → ℕ → List ℕ → Type 0
-LearntTo n learn j t = SideTable n (λ s. all j (λ i. oneValue n (digit 3 s) (learnTable learn i))) t
+LearntTo n learn j t = SideTable n (λ s. all j (λ i. settles (judgement n (digit 3 s) (learnTable learn i)))) t
 
 pub learnt-none : {n : ℕ} {t : List ℕ} (learn : List ℕ) → n ≤ 7 → Filled n (replicate 128 1) t → LearntTo n learn 0 t
 unfolding all
@@ -121,8 +123,9 @@ learnt-more {n} j {a} {b} {t} learn most x y m = record {
       rw (add-one j)
       (m .each s (omega (arith, h, sides-most n most))
       ∙ ap oneOf (ap₂ _&&_ (side-some x s h)
-      (y .each s h ∙ settled-take n (digit 3 s) (drop (16 * j) learn) most)
-      ∙ and-turned (all j (λ i. oneValue n (digit 3 s) (take 16 (drop (16 * i) learn)))) (oneValue n (digit 3 s) (take 16 (drop (16 * j) learn)))));
+      (y .each s h ∙ ap settles (sym (judgement-take n (digit 3 s) (drop (16 * j) learn) most)))
+      ∙ and-turned (all j (λ i. settles (judgement n (digit 3 s) (take 16 (drop (16 * i) learn)))))
+      (settles (judgement n (digit 3 s) (take 16 (drop (16 * j) learn))))));
   past = λ s h. elim (lt-or-ge s 2187) [
     | inl l ↦ m .each s l ∙ rw (x .past s h) refl
     | inr l ↦ List·getD-eq-default t 0 (omega (arith, m .long))

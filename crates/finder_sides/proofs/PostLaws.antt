@@ -16,7 +16,8 @@ use Rattle.ground.proofs.Bits.{bit-zero, bit-suc}
 use Rattle.ground.proofs.Bools.{lt-or-ge}
 use Rattle.book_block.specs.Rule.{rule}
 use Rattle.book_block.specs.declared.rule.Right.{Right}
-use Rattle.knowledge.specs.Fits.{always}
+use Rattle.knowledge.specs.Judgement.{judgement, holds}
+use Rattle.knowledge.proofs.JudgementLaws.{holds-is}
 use Rattle.finder_sides.proofs.ListLaws.{each-more}
 use Rattle.finder_sides.proofs.Ones.{one-lt}
 use Rattle.finder_sides.proofs.FillLaws.{zeros, zeros-long, zeros-at}
@@ -66,7 +67,7 @@ bits-all {f} {post} {bits} b none =
 -- one setting's table, and one that nothing was stored in
 pub record PostRow (n : ℕ) (book : List ℕ) (team : ℕ) (right : Right) (i : ℕ) (row : List ℕ) : Type 0 where
   pub long : length row ≡ 2187
-  pub posts : (s q : ℕ) → s < 3 ^ n → q < 8 → bit (getD row s 0) q ≡ (bit team q && always true n (digit 3 s) (rule book i q right))
+  pub posts : (s q : ℕ) → s < 3 ^ n → q < 8 → bit (getD row s 0) q ≡ (bit team q && holds (judgement n (digit 3 s) (rule book i q right)))
   pub bytes : (s : ℕ) → getD row s 0 < 256
   pub past : (s : ℕ) → 3 ^ n ≤ s → getD row s 0 ≡ 0
 
@@ -79,8 +80,10 @@ blank-row = record { long = zeros-long 2187; zero-at = λ s. zeros-at 2187 s }
 
 module _ {n team i : ℕ} {book columns t : List ℕ} {right : Right}
     (cols : EachColumn (PostsAt book team i right) (2 ^ n) columns) (filled : Filled n columns t) where
-  post-known : (s q : ℕ) → s < 3 ^ n → q < 8 → bit (getD t s 0) q ≡ (bit team q && always true n (digit 3 s) (rule book i q right))
-  post-known s q h l = filled .each s h .tells q (bit team q) true (rule book i q right) (λ v m. cols v m .posts q l)
+  post-known : (s q : ℕ) → s < 3 ^ n → q < 8 → bit (getD t s 0) q ≡ (bit team q && holds (judgement n (digit 3 s) (rule book i q right)))
+  post-known s q h l =
+      filled .each s h .tells q (bit team q) true (rule book i q right) (λ v m. cols v m .posts q l)
+      ∙ ap (λ (x : Bool). bit team q && x) (sym (holds-is n (digit 3 s) (rule book i q right)))
 
   post-byte : (s : ℕ) → getD t s 0 < 256
   post-byte s = elim (lt-or-ge s (3 ^ n)) [

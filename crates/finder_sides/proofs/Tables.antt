@@ -2,7 +2,7 @@
 -- digits, since a judgement reads nothing of a state but that side.
 use mathlib.Core.Path.{_≡_, ap, ap₂, _∙_}
 use mathlib.Core.List.{List}
-use mathlib.Core.Bool.{Bool, true, false, not, _&&_, _||_}
+use mathlib.Core.Bool.{Bool, not, _&&_}
 use Prim.Native.Nat.{ℕ, _<_}
 use lib.Dec.{eqb}
 use lib.ListN.{getD}
@@ -10,9 +10,10 @@ use Rattle.ground.specs.Digits.{digit, bit}
 use Rattle.ground.proofs.Search.{all-ext}
 use Rattle.book_block.specs.Rule.{rule}
 use Rattle.book_block.specs.declared.rule.Right.{Right}
-use Rattle.knowledge.specs.Fits.{always, nowSide, startSide, known, oneValue, learnSettled}
+use Rattle.knowledge.specs.Fits.{nowSide, startSide}
+use Rattle.knowledge.specs.Judgement.{judgement, holds, settles, known, learnSettled}
 use Rattle.knowledge.specs.Goal.{learnCount, learnTable, allSettled}
-use Rattle.knowledge.proofs.Fits.{always-ext}
+use Rattle.knowledge.proofs.JudgementLaws.{judgement-ext}
 use Rattle.finder_sides.specs.Sides.{nowSideNumber, startSideNumber}
 use Rattle.finder_sides.proofs.Shown.{now-number-lt, start-number-lt, now-digit, start-digit}
 use Rattle.finder_sides.proofs.Ones.{side-some}
@@ -20,19 +21,13 @@ use Rattle.finder_sides.specs.Tables.{entry, PostTables, Made, Learnt, g
 
 -- a judgement at the side that a knowledge number shows
 module _ (n k : ℕ) (t : List ℕ) where
-  pub always-now : (b : Bool) → always b n (digit 3 (nowSideNumber n k)) t ≡ always b n (nowSide (digit 7 k)) t
-  always-now b = always-ext b n (digit 3 (nowSideNumber n k)) (nowSide (digit 7 k)) t (now-digit n k)
-
-  pub always-start : (b : Bool) → always b n (digit 3 (startSideNumber n k)) t ≡ always b n (startSide (digit 7 k)) t
-  always-start b = always-ext b n (digit 3 (startSideNumber n k)) (startSide (digit 7 k)) t (start-digit n k)
-
-  pub known-now : always true n (digit 3 (nowSideNumber n k)) t ≡ known n (digit 7 k) t
+  pub known-now : holds (judgement n (digit 3 (nowSideNumber n k)) t) ≡ known n (digit 7 k) t
   unfolding known
-  known-now = always-now true
+  known-now = ap holds (judgement-ext n (digit 3 (nowSideNumber n k)) (nowSide (digit 7 k)) t (now-digit n k))
 
-  pub settled-start : oneValue n (digit 3 (startSideNumber n k)) t ≡ learnSettled n (digit 7 k) t
+  pub settled-start : settles (judgement n (digit 3 (startSideNumber n k)) t) ≡ learnSettled n (digit 7 k) t
   unfolding learnSettled
-  settled-start = ap₂ _||_ (always-start true) (always-start false)
+  settled-start = ap settles (judgement-ext n (digit 3 (startSideNumber n k)) (startSide (digit 7 k)) t (start-digit n k))
 
 -- "A rule is known to hold", "the make formula is true at every fitting present valuation"
 module _ (n : ℕ) (rule t : List ℕ) where

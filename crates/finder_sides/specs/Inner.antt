@@ -9,7 +9,7 @@ use Rattle.ground.specs.Digits.{digit, bit}
 use Rattle.ground.specs.Table.{truth}
 use Rattle.book_block.specs.Rule.{rule}
 use Rattle.book_block.specs.declared.rule.Right.{Right}
-use Rattle.knowledge.specs.Fits.{oneValue}
+use Rattle.knowledge.specs.Judgement.{judgement, settles}
 use Rattle.finder_sides.specs.Tables.{oneOf}
 use Rattle.knowledge_acts.specs.Seven.{unknown, told}
 use Rattle.finder_sides.specs.Fill.{FilledAt}
@@ -51,7 +51,7 @@ FoundAt bytes (Posts team setting right) v x = PostsAt bytes team setting right 
 -- not 0 exactly where the formula is settled
 pub record Settled (n : ℕ) (table t : List ℕ) : Type 0 where
   pub long : length t ≡ 2187
-  pub each : (s : ℕ) → s < 3 ^ n → not (eqb (getD t s 0) 0) ≡ oneValue n (digit 3 s) table
+  pub each : (s : ℕ) → s < 3 ^ n → not (eqb (getD t s 0) 0) ≡ settles (judgement n (digit 3 s) table)
   pub past : (s : ℕ) → 3 ^ n ≤ s → getD t s 0 ≡ 0
 
 unfoldable pub bothOf : ℕ → ℕ → ℕ

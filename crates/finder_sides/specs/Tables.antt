@@ -1,4 +1,5 @@
--- The tables over all sides that the finder works with: which posts of a team may act there, and the two halves of the goal.
+-- The tables over all sides that the finder works with: which posts of a team may act there, and the two halves of the goal. Each entry is what the one
+-- judgement (knowledge/specs/Judgement) says at that side.
 use mathlib.Core.Path.{_≡_}
 use mathlib.Core.List.{List, []}
 use mathlib.Core.Bool.{Bool, true, false, not, _&&_}
@@ -9,7 +10,7 @@ use Rattle.ground.specs.Digits.{digit, bit}
 use Rattle.ground.specs.Search.{all}
 use Rattle.book_block.specs.Rule.{rule}
 use Rattle.book_block.specs.declared.rule.Right.{Right}
-use Rattle.knowledge.specs.Fits.{always, oneValue}
+use Rattle.knowledge.specs.Judgement.{judgement, holds, settles}
 use Rattle.knowledge.specs.Goal.{learnCount, learnTable}
 use Rattle.finder_sides.specs.Sides.{nowSideNumber, startSideNumber}
 
@@ -20,7 +21,7 @@ entry t i s = getD (getD t i []) s 0
 -- bit q of the entry of setting i and side s: the post q is of the team, and its rule on the setting is known to hold at the side
 abbrev pub Posts : ℕ → List ℕ → ℕ → Right → List (List ℕ) → Type 0
 Posts n book team right t =
-    (i s q : ℕ) → i < n → s < 3 ^ n → q < 8 → bit (entry t i s) q ≡ (bit team q && always true n (digit 3 s) (rule book i q right))
+    (i s q : ℕ) → i < n → s < 3 ^ n → q < 8 → bit (entry t i s) q ≡ (bit team q && holds (judgement n (digit 3 s) (rule book i q right)))
 
 -- the tables of `posts_allowed`: seven settings of 2187 sides, bytes, and 0 at every setting past n and every side past 3^n
 pub record PostTables (n : ℕ) (book : List ℕ) (team : ℕ) (right : Right) (t : List (List ℕ)) : Type 0 where
@@ -43,11 +44,11 @@ pub record SideTable (n : ℕ) (f : ℕ → Bool) (t : List ℕ) : Type 0 where
 
 -- "the make formula is true at every fitting present valuation", at each side
 abbrev pub Made : ℕ → List ℕ → List ℕ → Type 0
-Made n make t = SideTable n (λ s. always true n (digit 3 s) make) t
+Made n make t = SideTable n (λ s. holds (judgement n (digit 3 s) make)) t
 
 -- "each learn formula has one same value at all fitting start valuations", at each side
 abbrev pub Learnt : ℕ → List ℕ → List ℕ → Type 0
-Learnt n learn t = SideTable n (λ s. all (learnCount learn) (λ j. oneValue n (digit 3 s) (learnTable learn j))) t
+Learnt n learn t = SideTable n (λ s. all (learnCount learn) (λ j. settles (judgement n (digit 3 s) (learnTable learn j)))) t
 
 -- "The goal is settled": both halves hold at the state k, by the entries of its present and its start side
 unfoldable pub goalAt : ℕ → List ℕ → List ℕ → ℕ → Bool

@@ -1,7 +1,7 @@
 -- The laws of what fits and what is judged, for any side: from the test at every valuation, and at every setting.
 use mathlib.Core.Path.{_≡_, refl, ap, _∙_}
 use mathlib.Core.Logic.{_⊎_, inl, inr}
-use mathlib.Core.Bool.{Bool, true, false, _&&_}
+use mathlib.Core.Bool.{Bool, true, false, not, _&&_}
 use mathlib.Core.List.{List}
 use Prim.Native.Nat.{ℕ, _^_, _≤_, _<_}
 use native.Mathlib.Decide.{ℕ-discrete}
@@ -13,8 +13,8 @@ use borrow.Author.Tests.{leb-true}
 use Rattle.ground.specs.Digits.{bit}
 use Rattle.ground.specs.Table.{truth}
 use Rattle.ground.proofs.Bits.{same-bits}
-use Rattle.ground.proofs.Bools.{and-in, and-left, and-right, decide, T-iff, T→true, T→false}
-use Rattle.ground.proofs.Search.{all-at, all-intro, all-ext}
+use Rattle.ground.proofs.Bools.{and-in, and-left, and-right, both, decide, T-iff, T→true, T→false}
+use Rattle.ground.proofs.Search.{all-at, all-intro, all-or, all-ext}
 use Rattle.ground.proofs.Table.{truth-take}
 use Rattle.knowledge_acts.specs.Seven.{unknown, told}
 use Rattle.knowledge.specs.Fits.{agrees, fits, implies, is, always}
@@ -26,6 +26,11 @@ implies-in false b f = tt
 
 pub implies-out : (a b : Bool) → T (implies a b) → T a → T b
 implies-out true b h t = h
+
+implies-no : (a b : Bool) → T (not (implies a b)) → T a × T (not b)
+implies-no true false h = (tt, tt)
+implies-no true true h = absurd h
+implies-no false b h = absurd h
 
 -- what is not known agrees with either value; what is told agrees with itself alone
 pub agrees-unknown : (b : Bool) → T (agrees unknown b)
@@ -64,6 +69,14 @@ module _ (b : Bool) (n : ℕ) (side : ℕ → ℕ) (t : List ℕ) where
   always-intro h =
       all-intro (2 ^ n) (λ v. implies (fits n side v) (is b (truth t v)))
       (λ v l. implies-in (fits n side v) (is b (truth t v)) (h v l))
+
+  -- where the table has not the value b everywhere, it has another at a valuation that fits
+  pub always-no : T (not (always b n side t)) → (v : ℕ) × (v < 2 ^ n) × T (fits n side v) × T (not (is b (truth t v)))
+  unfolding always
+  always-no h = elim (all-or (2 ^ n) (λ v. implies (fits n side v) (is b (truth t v)))) [
+    | inl all-so ↦ both (always b n side t) all-so h
+    | inr r ↦ (let c = implies-no (fits n side (r .0)) (is b (truth t (r .0))) (r .2) in (r .0, r .1, c .0, c .1))
+  ]
 
 -- a judgement reads the side at the n settings alone
 pub fits-ext : (n : ℕ) (s u : ℕ → ℕ) (v : ℕ) → ((i : ℕ) → i < n → s i ≡ u i) → fits n s v ≡ fits n u v

@@ -2,6 +2,7 @@
 pub mod Number
 pub mod States
 pub mod Fits
+pub mod JudgementLaws
 pub mod Known
 pub mod Unique
 pub mod Examples

@@ -3,6 +3,8 @@
 -- arguments at exit. No function here writes to what it is lent, so the result is all there is to determine.
 use mathlib.Core.Path.{_≡_, sym, _∙_}
 use Rattle.knowledge.specs.declared.state.Knowledge.{Knowledge}
+use Rattle.knowledge.proofs.judgement.Judgement.holds.Reads as holds
+use Rattle.knowledge.proofs.judgement.Judgement.settles.Reads as settles
 use Rattle.knowledge.proofs.state.Knowledge.from_number.Reads as from-number
 use Rattle.knowledge.proofs.state.Knowledge.at_start.Reads as at-start
 use Rattle.knowledge.proofs.state.Knowledge.number.Reads as number
@@ -31,3 +33,9 @@ after-set-unique κs a x y s p q = same-state (p ∙ sym q)
 
 pub after-look-unique : (κs : _) (a : _) (x y : _) (s : _) → after-look.Post κs a x s → after-look.Post κs a y s → x ≡ y
 after-look-unique κs a x y s p q = same-state (p ∙ sym q)
+
+pub holds-unique : (κs : _) (a : _) (x y : _) (s : _) → holds.Post κs a x s → holds.Post κs a y s → x ≡ y
+holds-unique κs a x y s p q = p ∙ sym q
+
+pub settles-unique : (κs : _) (a : _) (x y : _) (s : _) → settles.Post κs a x s → settles.Post κs a y s → x ≡ y
+settles-unique κs a x y s p q = p ∙ sym q

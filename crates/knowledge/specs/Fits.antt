@@ -1,6 +1,5 @@
 -- "A present valuation fits if it agrees with every known present value, a start valuation if it agrees with every known start
--- value. A rule is known to hold if it is true at every fitting present valuation." d i is the digit of setting i: of a
--- knowledge number k it is digit 7 k i. A side tells for each setting whether a value is unknown, false or true (knowledge_acts/specs/Seven).
+-- value." d i is the digit of setting i: of a knowledge number k it is digit 7 k i. A side tells for each setting whether a value is unknown, false or true (knowledge_acts/specs/Seven).
 use mathlib.Core.Bool.{Bool, true, false, not, _||_}
 use mathlib.Core.List.{List}
 use Prim.Native.Nat.{ℕ, _^_}
@@ -44,15 +43,3 @@ fitsNow n d v = fits n (nowSide d) v
 -- "a start valuation if it agrees with every known start value"
 unfoldable pub fitsStart : ℕ → (ℕ → ℕ) → ℕ → Bool
 fitsStart n d v = fits n (startSide d) v
-
--- "A rule is known to hold if it is true at every fitting present valuation."
-unfoldable pub known : ℕ → (ℕ → ℕ) → List ℕ → Bool
-known n d rule = always true n (nowSide d) rule
-
--- a formula's table has "one same value" at all valuations that fit the side
-abbrev pub oneValue : ℕ → (ℕ → ℕ) → List ℕ → Bool
-oneValue n side table = always true n side table || always false n side table
-
--- "each learn formula has one same value at all fitting start valuations"
-unfoldable pub learnSettled : ℕ → (ℕ → ℕ) → List ℕ → Bool
-learnSettled n d learn = oneValue n (startSide d) learn

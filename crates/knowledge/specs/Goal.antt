@@ -5,7 +5,7 @@ use Prim.Native.Nat.{ℕ, _*_, _/_}
 use lib.ListN.{length, take, drop}
 use Rattle.ground.specs.Digits.{digit}
 use Rattle.ground.specs.Search.{all}
-use Rattle.knowledge.specs.Fits.{known, learnSettled}
+use Rattle.knowledge.specs.Judgement.{known, learnSettled}
 
 -- "A goal here is a conjunction": the table of the make formula, and those of the learn formulas, one after the other
 pub record Goal : Type 0 where

@@ -1,6 +1,6 @@
 -- The goal's judgement on a state is the judgement on its number: rules and learn tables are judged by sixteen bytes, table after table.
-use mathlib.Core.Path.{_≡_, sym, ap, ap₂, _∙_}
-use mathlib.Core.Bool.{Bool, true, false, _&&_, _||_}
+use mathlib.Core.Path.{_≡_, sym, ap, _∙_}
+use mathlib.Core.Bool.{Bool, true, false, cond, _&&_}
 use mathlib.Core.List.{List}
 use Prim.Native.Nat.{ℕ, _*_, _/_, _≤_, _<_}
 use native.Mathlib.Omega.{arith}
@@ -13,12 +13,18 @@ use Rattle.ground.proofs.Bools.{T→true, T→false, false→T, both}
 use Rattle.ground.proofs.Search.{all-at, all-intro, all-ext}
 use Rattle.knowledge_acts.specs.Seven.{startTold, nowTold}
 use Rattle.knowledge.specs.Number.{digitIn, digitsOf}
-use Rattle.knowledge.specs.Fits.{always, nowSide, startSide, known, learnSettled}
-use Rattle.knowledge.proofs.Fits.{always-take, always-ext}
+use Rattle.knowledge.specs.Fits.{nowSide, startSide}
+use Rattle.knowledge.specs.Judgement.{judgement, holds, settles, known, learnSettled}
+use Rattle.knowledge.specs.declared.judgement.Judgement.{Judgement}
+use Rattle.knowledge.specs.declared.judgement.Judgement.the-variants.{Neither}
+use Rattle.knowledge.proofs.JudgementLaws.{judgement-take, judgement-ext}
 use Rattle.knowledge.proofs.Number.{digit-in}
 use Rattle.knowledge.specs.Goal.{goalOf, learnTable, allSettled, goalSettled}
 
--- a judgement that is guarded by at most seven settings
+-- what is guarded by at most seven settings
+pub within-seven : {A : Type 0} (n : ℕ) (x y : A) → n ≤ 7 → cond (leb n 7) x y ≡ x
+within-seven n x y h = rw (le-leb n 7 h)
+
 pub unguarded : (n : ℕ) (b : Bool) → n ≤ 7 → leb n 7 && b ≡ b
 unguarded n b h = rw (le-leb n 7 h)
 
@@ -30,12 +36,11 @@ module _ (n : ℕ) (d : ℕ → ℕ) (learn : List ℕ) (few : n ≤ 7) where
   abbrev at-table : ℕ → Bool
   at-table j = learnSettled n d (learnTable learn j)
 
-  -- what `learn_settled` tells of the table with index j
-  pub learn-at : (j : ℕ) → leb n 7 && learnSettled n d (drop (16 * j) learn) ≡ learnSettled n d (learnTable learn j)
+  -- what the judgement of the table with index j tells
+  pub learn-at : (j : ℕ) {judged : Judgement} {r : Bool} → judged ≡ cond (leb n 7) (judgement n (startSide d) (drop (16 * j) learn)) Neither → r ≡ settles judged
+      → r ≡ learnSettled n d (learnTable learn j)
   unfolding learnTable learnSettled
-  learn-at j =
-      unguarded n _ few
-      ∙ sym (ap₂ _||_ (always-take true n (startSide d) (drop (16 * j) learn) few) (always-take false n (startSide d) (drop (16 * j) learn) few))
+  learn-at j e f = f ∙ ap settles (e ∙ within-seven n _ _ few ∙ sym (judgement-take n (startSide d) (drop (16 * j) learn) few))
 
   pub learnt-all : (j : ℕ) → Learnt n d learn j → length learn / 16 ≤ j → true ≡ allSettled n d learn
   unfolding allSettled
@@ -54,23 +59,21 @@ module _ (n k : ℕ) (few : n ≤ 7) {ds : List ℕ} (e : ds ≡ digitsOf k) whe
 
   known-number : (t : List ℕ) → known n (digitIn ds) t ≡ known n (digit 7 k) t
   unfolding known
-  known-number t = always-ext true n (nowSide (digitIn ds)) (nowSide (digit 7 k)) t (λ i l. ap nowTold (same-digit i l))
+  known-number t = ap holds (judgement-ext n (nowSide (digitIn ds)) (nowSide (digit 7 k)) t (λ i l. ap nowTold (same-digit i l)))
 
   learn-number : (t : List ℕ) → learnSettled n (digitIn ds) t ≡ learnSettled n (digit 7 k) t
   unfolding learnSettled
-  learn-number t = ap₂ _||_ (one true) (one false)
-    where
-      one : (b : Bool) → always b n (startSide (digitIn ds)) t ≡ always b n (startSide (digit 7 k)) t
-      one b = always-ext b n (startSide (digitIn ds)) (startSide (digit 7 k)) t (λ i l. ap startTold (same-digit i l))
+  learn-number t = ap settles (judgement-ext n (startSide (digitIn ds)) (startSide (digit 7 k)) t (λ i l. ap startTold (same-digit i l)))
 
   settled-number : (learn : List ℕ) → allSettled n (digitIn ds) learn ≡ allSettled n (digit 7 k) learn
   unfolding allSettled
   settled-number learn = all-ext (length learn / 16) _ _ (λ j h. learn-number (learnTable learn j))
 
   -- the judgements on the state of k, as `is_settled` has them
-  module _ (make learn : List ℕ) {r : Bool} (f : r ≡ leb n 7 && known n (digitIn ds) make) where
+  module _ (make learn : List ℕ) {judged : Judgement} {r : Bool} (by-side : judged ≡ cond (leb n 7) (judgement n (nowSide (digitIn ds)) make) Neither) (f : r ≡ holds judged) where
     made : (b : Bool) → r ≡ b → known n (digit 7 k) make ≡ b
-    made b g = sym (known-number make) ∙ sym (unguarded n _ few) ∙ sym f ∙ g
+    unfolding known
+    made b g = sym (known-number make) ∙ sym (ap holds (by-side ∙ within-seven n _ _ few)) ∙ sym f ∙ g
 
     pub goal-not : r ≡ false → false ≡ leb n 7 && goalSettled n (goalOf make learn) k
     unfolding goalSettled

@@ -11,8 +11,7 @@ use Rattle.knowledge_judging.specs.declared.valuation.Valuation.{Valuati
 use Rattle.knowledge_judging.specs.declared.valuation.Valuation.the-variants.{AtStart, Present}
 use Rattle.knowledge_judging.proofs.valuation.Side.valuation.Reads as valuation
 use Rattle.knowledge_judging.proofs.valuation.fits.Reads as fits
-use Rattle.knowledge_judging.proofs.judge.known_to_hold.Reads as known-to-hold
-use Rattle.knowledge_judging.proofs.judge.learn_settled.Reads as learn-settled
+use Rattle.knowledge_judging.proofs.judging.judge.Reads as judge
 use Rattle.knowledge_judging.proofs.goal.is_settled.Reads as is-settled
 
 -- a valuation is known by its side and its bits
@@ -32,11 +31,8 @@ valuation-unique κs a x y s p q = valuation-one x y (p .0 ∙ sym (q .0)) (p .1
 pub fits-unique : (κs : _) (a : _) (x y : _) (s : _) → fits.Post κs a x s → fits.Post κs a y s → x ≡ y
 fits-unique κs a x y s p q = p ∙ sym q
 
-pub known-to-hold-unique : (κs : _) (a : _) (x y : _) (s : _) → known-to-hold.Post κs a x s → known-to-hold.Post κs a y s → x ≡ y
-known-to-hold-unique κs a x y s p q = p ∙ sym q
-
-pub learn-settled-unique : (κs : _) (a : _) (x y : _) (s : _) → learn-settled.Post κs a x s → learn-settled.Post κs a y s → x ≡ y
-learn-settled-unique κs a x y s p q = p ∙ sym q
+pub judge-unique : (κs : _) (a : _) (x y : _) (s : _) → judge.Post κs a x s → judge.Post κs a y s → x ≡ y
+judge-unique κs a x y s p q = p ∙ sym q
 
 pub is-settled-unique : (κs : _) (a : _) (x y : _) (s : _) → is-settled.Post κs a x s → is-settled.Post κs a y s → x ≡ y
 is-settled-unique κs a x y s p q = p ∙ sym q

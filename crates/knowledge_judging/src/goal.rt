@@ -1,6 +1,6 @@
 // Whether the goal is settled where the team knows so much.
-use crate::judge::known_to_hold;
-use crate::judge::learn_settled;
+use crate::judging::judge;
+use crate::valuation::Side;
 use ground::TABLE;
 use knowledge::Knowledge;
 ghost use mathlib.Core.Path.{_≡_};
@@ -18,7 +18,7 @@ fn learnt(n: u8, learn: &[u8], state: Knowledge) -> bool
     let count = learn.len() / TABLE;
     let mut j = 0;
     while j < count {
-        if !learn_settled(state, n, learn, TABLE * j) {
+        if !judge(state, n, Side::Start, learn, TABLE * j).settles() {
             return false;
         }
         j += 1;
@@ -35,7 +35,7 @@ pub fn is_settled(n: u8, make: &[u8], learn: &[u8], k: u32) -> bool
         return false;
     }
     let state = Knowledge::from_number(k);
-    if !known_to_hold(state, n, make, 0) {
+    if !judge(state, n, Side::Now, make, 0).holds() {
         return false;
     }
     learnt(n, learn, state)

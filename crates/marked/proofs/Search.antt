@@ -9,7 +9,7 @@ use Rattle.knowledge_acts.specs.Seven.{afterSet, afterLook}
 use Rattle.knowledge_acts.specs.Acts.{setTo, lookAt}
 use Rattle.knowledge_acts.specs.declared.act.Act.{Act}
 use Rattle.knowledge_acts.specs.declared.act.Act.the-variants.{Set, Look}
-use Rattle.plan.specs.Plans.{System, Plan, stop, set-then, look-then}
+use Rattle.plan.specs.Plans.{System, given, Plan, stop, set-then, look-then}
 use Rattle.plan.specs.Check.{outcomes}
 use Rattle.plan.proofs.States.{elem}
 use Rattle.plan.proofs.Sample.{entry}
@@ -43,7 +43,7 @@ pub record Node : Type 0 where
 
 -- (it asks for the rule only where the act is one of the team)
 unfoldable allowed : System → ℕ → Act → Bool
-allowed S k a = elim (S .offers a) [ true ↦ S .permits k a | false ↦ false ]
+allowed S k a = elim (S .offers a) [ true ↦ given (S .permits k a) | false ↦ false ]
 
 unfoldable ways-at : System → ℕ → List Act → List Way
 unfolding allowed setTo lookAt afterSet afterLook digit put

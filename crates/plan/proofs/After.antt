@@ -16,7 +16,8 @@ use Rattle.knowledge_acts.specs.Acts.{setTo, lookAt}
 use Rattle.knowledge_acts.specs.declared.act.Act.the-variants.{Set, Look}
 use Rattle.knowledge_acts.proofs.Seven.{now-set, now-look}
 use Rattle.knowledge_acts.proofs.Outcomes.{set-here, set-other, look-here, look-other}
-use Rattle.knowledge.specs.Fits.{fitsNow, fitsStart, nowSide, known}
+use Rattle.knowledge.specs.Fits.{fitsNow, fitsStart, nowSide}
+use Rattle.knowledge.specs.Judgement.{known}
 use Rattle.knowledge.proofs.Fits.{agrees-told, fits-at, fits-intro, fits-ext}
 use Rattle.knowledge.proofs.Known.{known-at}
 use Rattle.plan.specs.Plans.{System, Lawful, Plan, stop, set-then, look-then, Permitted, Works}

@@ -14,11 +14,18 @@ use Rattle.knowledge_acts.specs.declared.act.Act.{Act}
 use Rattle.knowledge_acts.specs.declared.act.Act.the-variants.{Set, Look}
 use Rattle.knowledge_acts.specs.declared.act.Named.{Named}
 use Rattle.knowledge_acts.specs.declared.act.Named.the-variants.{One, Nothing}
-use Rattle.plan.specs.Plans.{System, may, Lawful, Plan, stop, set-then, look-then, Works}
+use Rattle.refusal.specs.declared.Why.{Why}
+use Rattle.plan.specs.declared.Permit.{Permit}
+use Rattle.plan.specs.declared.Permit.the-variants.{Given, Denied}
+use Rattle.plan.specs.Plans.{System, given, may, Lawful, Plan, stop, set-then, look-then, Works}
 use Rattle.plan.specs.Bytes.{encode}
 use Rattle.plan.specs.Check.{Fault, no-act, not-permitted, not-settled, Verdict, accepted, faulty, Reading, goes-on, fails, outcomes, readAct, readNamed, readStop, readByte, judge, check}
 use Rattle.knowledge_acts.proofs.Acts.{act-of-byte}
 use Rattle.plan.proofs.Bytes.{byte-of-act, byte-positive}
+
+given-only : (p : Permit) → T (given p) → p ≡ Given
+given-only Given t = refl
+given-only (Denied why) t = absurd t
 
 module _ (S : System) (k : ℕ) where
   -- what a byte comes to, case by case
@@ -38,13 +45,18 @@ module _ (S : System) (k : ℕ) where
   pub read-other : (c : ℕ) (a : Act) → 0 < c → actOf c ≡ One a → T (not (S .offers a)) → readByte S k c ≡ fails no-act
   read-other c a h e o = read-named c h ∙ rw (e, T→false (S .offers a) o)
 
-  pub read-forbidden : (c : ℕ) (a : Act) → 0 < c → actOf c ≡ One a → T (S .offers a) → T (not (S .permits k a)) → readByte S k c ≡ fails not-permitted
-  read-forbidden c a h e o p = read-named c h ∙ rw (e, T→true (S .offers a) o, T→false (S .permits k a) p)
+  pub read-forbidden : (c : ℕ) (a : Act) (why : Why) → 0 < c → actOf c ≡ One a → T (S .offers a) → S .permits k a ≡ Denied why
+      → readByte S k c ≡ fails (not-permitted why)
+  read-forbidden c a why h e o p = read-named c h ∙ rw (e, T→true (S .offers a) o, p)
 
   pub read-act : (c : ℕ) (a : Act) → 0 < c → actOf c ≡ One a → T (may S k a) → readByte S k c ≡ goes-on (outcomes k a)
   read-act c a h e m =
       read-named c h
-      ∙ rw (e, T→true (S .offers a) (and-left (S .offers a) (S .permits k a) m), T→true (S .permits k a) (and-right (S .offers a) (S .permits k a) m))
+      ∙ rw (
+        e,
+        T→true (S .offers a) (and-left (S .offers a) (given (S .permits k a)) m),
+        given-only (S .permits k a) (and-right (S .offers a) (given (S .permits k a)) m),
+      )
 
   -- a byte that reads well is a stop with the goal, or an act that may be done
   pub data Good : ℕ → List ℕ → Type 0 where
@@ -55,12 +67,12 @@ module _ (S : System) (k : ℕ) where
   named-good c Nothing new h e r = absurd (let z : _≡_ {A = ℕ} 0 1 = cc in omega arith)
   named-good c (One a) new h e r = go (S .offers a) (S .permits k a) refl refl r
     where
-      go : (o p : Bool) → S .offers a ≡ o → S .permits k a ≡ p → readAct o p (outcomes k a) ≡ goes-on new → Good c new
+      go : (o : Bool) (p : Permit) → S .offers a ≡ o → S .permits k a ≡ p → readAct o p (outcomes k a) ≡ goes-on new → Good c new
       go false p eo ep s = absurd (let z : _≡_ {A = ℕ} 0 1 = cc in omega arith)
-      go true false eo ep s = absurd (let z : _≡_ {A = ℕ} 0 1 = cc in omega arith)
-      go true true eo ep s =
+      go true (Denied why) eo ep s = absurd (let z : _≡_ {A = ℕ} 0 1 = cc in omega arith)
+      go true Given eo ep s =
           let same : outcomes k a ≡ new = cc in
-          rw (← same) (good-act c a h e (and-in (S .offers a) (S .permits k a) (true→T eo) (true→T ep)))
+          rw (← same) (good-act c a h e (and-in (S .offers a) (given (S .permits k a)) (true→T eo) (true→T (ap given ep))))
 
   stop-good : (g : Bool) (new : List ℕ) → S .goal k ≡ g → readStop g ≡ goes-on new → Good 0 new
   stop-good false new e r = absurd (let z : _≡_ {A = ℕ} 0 1 = cc in omega arith)

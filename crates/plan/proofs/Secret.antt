@@ -3,19 +3,21 @@
 use mathlib.Core.Path.{_≡_, refl, sym, ap, _∙_}
 use mathlib.Core.Logic.{_⊎_, inl, inr}
 use mathlib.Core.List.{List, _∷_}
-use mathlib.Core.Bool.{Bool, true, false, not, _||_}
+use mathlib.Core.Bool.{Bool, true, false, not}
 use Prim.Native.Nat.{ℕ, _^_, _<_}
 use native.Mathlib.Decide.{ℕ-discrete}
 use native.Mathlib.Omega.{arith}
 use lib.Dec.{T}
 use Rattle.ground.specs.Digits.{digit, bit}
 use Rattle.ground.specs.Table.{truth}
-use Rattle.ground.proofs.Bools.{T→false, decide, both}
-use Rattle.ground.proofs.Search.{all-at, all-intro, all-or}
+use Rattle.ground.proofs.Bools.{decide}
+use Rattle.ground.proofs.Search.{all-at, all-intro}
 use Rattle.knowledge_acts.specs.Seven.{startTold, afterLook}
 use Rattle.knowledge_acts.specs.Acts.{setTo, lookAt}
 use Rattle.knowledge_acts.specs.declared.act.Act.the-variants.{Set, Look}
-use Rattle.knowledge.specs.Fits.{agrees, fits, implies, is, always, fitsStart, startSide, learnSettled}
+use Rattle.knowledge.specs.Fits.{agrees, fits, fitsStart, startSide}
+use Rattle.knowledge.specs.Judgement.{learnSettled}
+use Rattle.knowledge.proofs.JudgementLaws.{open-both}
 use Rattle.plan.specs.Plans.{System, Lawful, Plan, stop, set-then, look-then, Permitted, Works}
 use Rattle.plan.specs.Ranks.{Cannot}
 use Rattle.plan.specs.Runs.{change, did, saw, run}
@@ -31,20 +33,6 @@ seen false false h = refl
 seen false true h = absurd h
 seen true false h = absurd h
 seen true true h = refl
-
-not-or : (a b : Bool) → T (not (a || b)) → T (not a) × T (not b)
-not-or false false h = (tt, tt)
-not-or false true h = absurd h
-not-or true b h = absurd h
-
-not-not : (a : Bool) → T (not (not a)) → a ≡ true
-not-not true h = refl
-not-not false h = absurd h
-
-implies-no : (a b : Bool) → T (not (implies a b)) → T a × T (not b)
-implies-no true false h = (tt, tt)
-implies-no true true h = absurd h
-implies-no false b h = absurd h
 
 module _ (n : ℕ) where
   pub fits-set : (k i v : ℕ) (b : Bool) → T (fitsStart n (digit 7 (setTo k i b)) v) → T (fitsStart n (digit 7 k) v)
@@ -67,14 +55,6 @@ module _ (n : ℕ) where
       seen b (bit v i) (rw (look-here k i b) at (all-at n (λ j. agrees (startSide (digit 7 (lookAt k i b)) j) (bit v j)) t i l))
 
 module _ (n : ℕ) (formula : List ℕ) where
-  -- where the formula has not the value b everywhere, a fitting start gives it another
-  always-no : (b : Bool) (side : ℕ → ℕ) → T (not (always b n side formula)) → (v : ℕ) × (v < 2 ^ n) × T (fits n side v) × T (not (is b (truth formula v)))
-  unfolding always
-  always-no b side h = elim (all-or (2 ^ n) (λ v. implies (fits n side v) (is b (truth formula v)))) [
-    | inl t ↦ both (always b n side formula) t h
-    | inr r ↦ (let c = implies-no (fits n side (r .0)) (is b (truth formula (r .0))) (r .2) in (r .0, r .1, c .0, c .1))
-  ]
-
   -- two starts that differ on the formula, and run alike from all real settings that they can have come to
   record Open (k : ℕ) (p : Plan) : Type 0 where
     one : ℕ
@@ -90,19 +70,16 @@ module _ (n : ℕ) (formula : List ℕ) where
   open-stop : (k : ℕ) → T (not (learnSettled n (digit 7 k) formula)) → Open k stop
   unfolding learnSettled fitsStart
   open-stop k h =
-      let side = startSide (digit 7 k) in
-      let c = not-or (always true n side formula) (always false n side formula) h in
-      let v = always-no true side (c .0) in
-      let w = always-no false side (c .1) in
+      let ((w, w-lt, w-fits, w-true), (v, v-lt, v-fits, v-false)) = open-both n (startSide (digit 7 k)) formula h in
       record {
-        one = v .0;
-        other = w .0;
-        one-lt = v .1;
-        other-lt = w .1;
-        one-fits = v .2;
-        other-fits = w .2;
-        one-false = T→false (truth formula (v .0)) (v .3);
-        other-true = not-not (truth formula (w .0)) (w .3);
+        one = v;
+        other = w;
+        one-lt = v-lt;
+        other-lt = w-lt;
+        one-fits = v-fits;
+        other-fits = w-fits;
+        one-false = v-false;
+        other-true = w-true;
         alike = λ a b x y. refl;
       }
 

@@ -10,11 +10,12 @@ use Prim.Native.Nat.{ℕ, _^_, _<_}
 use lib.Dec.{T}
 use Rattle.ground.specs.Digits.{digit, bit}
 use Rattle.ground.specs.Table.{truth}
-use Rattle.ground.proofs.Bools.{T→true, T→false, or-out, decide}
+use Rattle.ground.proofs.Bools.{T→true, T→false, decide}
 use Rattle.knowledge_acts.specs.Acts.{setTo, lookAt}
 use Rattle.knowledge_acts.specs.declared.act.Act.the-variants.{Look}
-use Rattle.knowledge.specs.Fits.{always, fitsStart, startSide, learnSettled}
-use Rattle.knowledge.proofs.Fits.{always-at}
+use Rattle.knowledge.specs.Fits.{fitsStart, startSide}
+use Rattle.knowledge.specs.Judgement.{learnSettled}
+use Rattle.knowledge.proofs.JudgementLaws.{settled-alike}
 use Rattle.plan.specs.Plans.{System, Lawful, Plan, stop, set-then, look-then, Permitted, Works}
 use Rattle.plan.specs.Ranks.{Cannot}
 use Rattle.plan.specs.Runs.{change, Event, did, saw, run}
@@ -47,11 +48,7 @@ module _ (n : ℕ) (formula : List ℕ) where
       → T (learnSettled n (digit 7 k) formula) → truth formula v ≡ truth formula w
   unfolding fitsStart learnSettled
   one-value k v w hv hw fv fw t =
-      let side = startSide (digit 7 k) in
-      elim (or-out (always true n side formula) (always false n side formula) t) [
-        | inl s ↦ T→true _ (always-at true n side formula s v hv fv) ∙ sym (T→true _ (always-at true n side formula s w hw fw))
-        | inr s ↦ T→false _ (always-at false n side formula s v hv fv) ∙ sym (T→false _ (always-at false n side formula s w hw fw))
-      ]
+      settled-alike n (startSide (digit 7 k)) formula t v w hv hw fv fw
 
   module _ {S : System} (law : Lawful n S) where
     -- a system whose goal asks that the formula is settled

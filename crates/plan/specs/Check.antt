@@ -8,13 +8,16 @@ use Rattle.knowledge_acts.specs.declared.act.Act.{Act}
 use Rattle.knowledge_acts.specs.declared.act.Act.the-variants.{Set, Look}
 use Rattle.knowledge_acts.specs.declared.act.Named.{Named}
 use Rattle.knowledge_acts.specs.declared.act.Named.the-variants.{One, Nothing}
+use Rattle.refusal.specs.declared.Why.{Why}
 use Rattle.plan.specs.Plans.{System}
+use Rattle.plan.specs.declared.Permit.{Permit}
+use Rattle.plan.specs.declared.Permit.the-variants.{Given, Denied}
 
 pub data Fault : Type 0 where
   -- 17 "byte names no act of this book and team"
   no-act : Fault
-  -- 18 "act not permitted here, or look at a known setting"
-  not-permitted : Fault
+  -- 18 "act not permitted here, or look at a known setting", and its second number's reason
+  not-permitted : Why → Fault
   -- 19 "stop where the goal isn't settled"
   not-settled : Fault
   -- 20 "plan ends too soon", at its length
@@ -39,10 +42,10 @@ outcomes k (Set i q b) = setTo k i b ∷ []
 outcomes k (Look i q) = lookAt k i false ∷ lookAt k i true ∷ []
 
 -- an act: is it of this book and team, and is it permitted here: "17 before 18"
-abbrev pub readAct : Bool → Bool → List ℕ → Reading
-readAct false permitted new = fails no-act
-readAct true false new = fails not-permitted
-readAct true true new = goes-on new
+abbrev pub readAct : Bool → Permit → List ℕ → Reading
+readAct false permit new = fails no-act
+readAct true (Denied why) new = fails (not-permitted why)
+readAct true Given new = goes-on new
 
 abbrev pub readNamed : System → ℕ → Named → Reading
 readNamed S k Nothing = fails no-act

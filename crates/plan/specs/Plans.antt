@@ -9,17 +9,23 @@ use Rattle.ground.specs.Digits.{digit}
 use Rattle.knowledge_acts.specs.Acts.{settingOf, postOf, setTo, lookAt}
 use Rattle.knowledge_acts.specs.declared.act.Act.{Act}
 use Rattle.knowledge_acts.specs.declared.act.Act.the-variants.{Set, Look}
+use Rattle.plan.specs.declared.Permit.{Permit}
+use Rattle.plan.specs.declared.Permit.the-variants.{Given, Denied}
 
--- what a question fixes: the acts of its book and team (any other is 17), those that are permitted at a state (else 18), and the states at
--- which the goal is settled (else 19)
+abbrev pub given : Permit → Bool
+given Given = true
+given (Denied why) = false
+
+-- what a question fixes: the acts of its book and team (any other is 17), those that are permitted at a state (else 18, and why), and the
+-- states at which the goal is settled (else 19)
 pub record System : Type 0 where
   pub offers : Act → Bool
-  pub permits : ℕ → Act → Bool
+  pub permits : ℕ → Act → Permit
   pub goal : ℕ → Bool
 
 -- an act that the team may do at k
 abbrev pub may : System → ℕ → Act → Bool
-may S k a = S .offers a && S .permits k a
+may S k a = S .offers a && given (S .permits k a)
 
 -- a system over n settings and the posts 0 to 7: "look, where .. the digit is 0"
 pub record Lawful (n : ℕ) (S : System) : Type 0 where

@@ -1,6 +1,6 @@
 -- What a byte can come to at a state: a stop, an act that may be done, or one of three faults, each with its reason in paper 01's words. By the
 -- tests that the reading makes.
-use mathlib.Core.Path.{_≡_, refl, subst}
+use mathlib.Core.Path.{_≡_, refl, ap, subst}
 use mathlib.Core.Logic.{inl, inr, _↔_}
 use mathlib.Core.Bool.{Bool, true, false, not}
 use mathlib.Core.List.{[], _∷_}
@@ -13,7 +13,9 @@ use Rattle.knowledge_acts.specs.declared.act.Act.{Act}
 use Rattle.knowledge_acts.specs.declared.act.Act.the-variants.{Set, Look}
 use Rattle.knowledge_acts.specs.declared.act.Named.{Named}
 use Rattle.knowledge_acts.specs.declared.act.Named.the-variants.{One, Nothing}
-use Rattle.plan.specs.Plans.{System, may}
+use Rattle.plan.specs.declared.Permit.{Permit}
+use Rattle.plan.specs.declared.Permit.the-variants.{Given, Denied}
+use Rattle.plan.specs.Plans.{System, given, may}
 use Rattle.plan.specs.Check.{Fault, no-act, not-permitted, not-settled, too-soon, left-over}
 use Rattle.plan.specs.Check.{Reading, goes-on, fails, outcomes, readAct, readNamed, readStop, readByte}
 use Rattle.plan.proofs.Check.{read-unsettled, read-nothing, read-other, read-forbidden}
@@ -22,8 +24,8 @@ use Rattle.plan.proofs.Check.{read-unsettled, read-nothing, read-other, read-fo
 abbrev pub FaultAt : System → ℕ → ℕ → Fault → Type 0
 -- 17 "byte names no act of this book and team"
 FaultAt S k c no-act = (0 < c) × ((a : Act) → actOf c ≡ One a → T (S .offers a) → ⊥)
--- 18 "act not permitted here, or look at a known setting"
-FaultAt S k c not-permitted = (a : Act) × (actOf c ≡ One a) × T (S .offers a) × T (not (S .permits k a))
+-- 18 "act not permitted here, or look at a known setting", and why
+FaultAt S k c (not-permitted why) = (a : Act) × (actOf c ≡ One a) × T (S .offers a) × (S .permits k a ≡ Denied why)
 -- 19 "stop where the goal isn't settled"
 FaultAt S k c not-settled = (c ≡ 0) × T (not (S .goal k))
 FaultAt S k c too-soon = ⊥
@@ -44,11 +46,11 @@ module _ (S : System) (k : ℕ) where
   step-done c (Set i q b) m = sets i q b m
   step-done c (Look i q) m = looks i q m
 
-  step-act : (c : ℕ) (a : Act) (o p : Bool) → 0 < c → actOf c ≡ One a → S .offers a ≡ o → S .permits k a ≡ p → Step S k c (readAct o p (outcomes k a))
+  step-act : (c : ℕ) (a : Act) (o : Bool) (p : Permit) → 0 < c → actOf c ≡ One a → S .offers a ≡ o → S .permits k a ≡ p → Step S k c (readAct o p (outcomes k a))
   step-act c a false p h e f g =
       faults no-act (h, λ b d t. let same : b ≡ a = cc in both (S .offers a) (subst (λ (x : Act). T (S .offers x)) same t) (false→T f))
-  step-act c a true false h e f g = faults not-permitted (a, e, true→T f, false→T g)
-  step-act c a true true h e f g = step-done c a (and-in (S .offers a) (S .permits k a) (true→T f) (true→T g))
+  step-act c a true (Denied why) h e f g = faults (not-permitted why) (a, e, true→T f, g)
+  step-act c a true Given h e f g = step-done c a (and-in (S .offers a) (given (S .permits k a)) (true→T f) (true→T (ap given g)))
 
   step-named : (c : ℕ) (x : Named) → 0 < c → actOf c ≡ x → Step S k c (readNamed S k x)
   step-named c Nothing h e = faults no-act (h, λ a d t. let z : _≡_ {A = ℕ} 0 1 = cc in omega arith)
@@ -76,7 +78,7 @@ module _ (S : System) (k : ℕ) where
 
   fails-by : (c : ℕ) (f : Fault) → FaultAt S k c f → readByte S k c ≡ fails f
   fails-by c no-act w = unnamed c (actOf c) (w .0) refl (w .1)
-  fails-by c not-permitted (a, e, o, p) = read-forbidden S k c a (named-positive c a e) e o p
+  fails-by c (not-permitted why) (a, e, o, p) = read-forbidden S k c a why (named-positive c a e) e o p
   fails-by c not-settled w = rw (w .0) (read-unsettled S k (w .1))
   fails-by c too-soon w = absurd w
   fails-by c left-over w = absurd w

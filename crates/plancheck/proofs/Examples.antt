@@ -17,12 +17,13 @@ use Rattle.knowledge_acts.specs.Seven.{startTold, nowTold, afterSet, firstDigit
 use Rattle.knowledge_acts.specs.declared.act.Act.the-variants.{Set}
 use Rattle.knowledge_acts.specs.Acts.{actOf, offered, setTo}
 use Rattle.knowledge.specs.Number.{sumOf, firstAt}
-use Rattle.knowledge.specs.Fits.{agrees, fits, always, known, learnSettled}
+use Rattle.knowledge.specs.Fits.{agrees, fits, always, nowSide}
+use Rattle.knowledge.specs.Judgement.{judgement, known, learnSettled}
 use Rattle.knowledge.specs.Goal.{Goal, goalOf, learnTable, allSettled, goalSettled}
-use Rattle.plan.specs.Plans.{may}
+use Rattle.plan.specs.Plans.{given, may}
 use Rattle.plan.proofs.Check.{judge-on, judge-fails, read-act, read-unsettled}
 use Rattle.plan.specs.Check.{not-settled, faulty, check}
-use Rattle.question.specs.Permitted.{permitted}
+use Rattle.question.specs.Permitted.{byRule, permitted}
 use Rattle.question.specs.Question.{systemOf, startOf}
 use Rattle.question.specs.Asks.{ValidQuestion}
 use Rattle.question.specs.declared.Question.{Question}
@@ -48,12 +49,12 @@ p9-goal = goalOf not-a is-a
 
 -- "n = 1, look and set rules `1`, make `~a`, learn `a`", "the plan 1, 0": the look rule is not asked for. Its first byte is a set that may be done
 first-set : (book : List ℕ) → rule book 0 0 set-rule ≡ always-true → T (may (systemOf 1 book p9-question p9-goal) 0 (Set 0 0 false))
-unfolding systemOf offered permitted known always fits agrees nowTold truth all digit bit
-first-set book e = subst (λ (t : List ℕ). T (known 1 (digit 7 0) t)) (sym e) tt
+unfolding systemOf offered permitted judgement always fits agrees nowTold truth all digit bit
+first-set book e = subst (λ (t : List ℕ). T (given (byRule (judgement 1 (nowSide (digit 7 0)) t)))) (sym e) tt
 
 -- after which nothing is known of the start, so that the learn formula is not settled
 then-stop : (book : List ℕ) → T (not (systemOf 1 book p9-question p9-goal .goal (setTo 0 0 false)))
-unfolding systemOf goalSettled allSettled learnTable setTo known learnSettled always fits agrees afterSet nowTold startTold truth all digit put bit
+unfolding systemOf goalSettled allSettled learnTable setTo known learnSettled judgement always fits agrees afterSet nowTold startTold truth all digit put bit
 then-stop book = tt
 
 pub p10-judged : (book : List ℕ) → rule book 0 0 set-rule ≡ always-true

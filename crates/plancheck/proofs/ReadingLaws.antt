@@ -1,6 +1,6 @@
 -- What a byte comes to, from what the code asked of the state of a knowledge number: the state's answers are those of the number.
 use mathlib.Core.Path.{_≡_, refl, sym, ap, _∙_}
-use mathlib.Core.Bool.{Bool, true, false, _&&_}
+use mathlib.Core.Bool.{Bool, true, false, cond, _&&_}
 use mathlib.Core.List.{List}
 use Prim.Native.Nat.{ℕ, _^_, _≤_, _<_}
 use native.Mathlib.Omega.{arith}
@@ -8,6 +8,8 @@ use lib.Dec.{leb, ltb, ltb→lt}
 use Rattle.ground.specs.Digits.{digit, bit}
 use Rattle.ground.proofs.Bools.{true→T, and-left}
 use Rattle.refusal.specs.declared.Refusal.the-variants.{NoAct, NotPermitted, NotSettled}
+use Rattle.refusal.specs.declared.Why.{Why}
+use Rattle.refusal.specs.declared.Why.the-variants.{NotKnown}
 use Rattle.knowledge_acts.specs.Acts.{settingOf, postOf, actOf, offered, setTo, lookAt}
 use Rattle.knowledge_acts.specs.declared.act.Act.{Act}
 use Rattle.knowledge_acts.specs.declared.act.Act.the-variants.{Set, Look}
@@ -16,7 +18,9 @@ use Rattle.knowledge_acts.specs.declared.act.Named.the-variants.{One, Nothing}
 use Rattle.knowledge.specs.Number.{digitIn, digitsOf}
 use Rattle.knowledge.specs.Goal.{Goal, goalSettled}
 use Rattle.knowledge.proofs.Number.{digits-are}
-use Rattle.knowledge_judging.proofs.GoalLaws.{unguarded}
+use Rattle.knowledge_judging.proofs.GoalLaws.{within-seven, unguarded}
+use Rattle.plan.specs.declared.Permit.{Permit}
+use Rattle.plan.specs.declared.Permit.the-variants.{Given, Denied}
 use Rattle.plan.specs.Check.{goes-on, outcomes, readAct, readNamed, readByte}
 use Rattle.plan.proofs.Check.{read-named}
 use Rattle.question.specs.Permitted.{permitted}
@@ -34,21 +38,21 @@ pub look-parts : (k : ℕ) {i q x y : ℕ} {a : Act} → a ≡ Look i q → x �
 look-parts k e f g = rw (e, f, g)
 
 -- an act: what is offered, and what is permitted at the state of k
-pub permits-at : (n : ℕ) (book : List ℕ) (k : ℕ) (a : Act) {ds : List ℕ} {r : Bool} → n ≤ 7 → k < 7 ^ 7 → ds ≡ digitsOf k
-    → r ≡ leb n 7 && permitted n book (digitIn ds) a → permitted n book (digit 7 k) a ≡ r
+pub permits-at : (n : ℕ) (book : List ℕ) (k : ℕ) (a : Act) {ds : List ℕ} {r : Permit} → n ≤ 7 → k < 7 ^ 7 → ds ≡ digitsOf k
+    → r ≡ cond (leb n 7) (permitted n book (digitIn ds) a) (Denied NotKnown) → permitted n book (digit 7 k) a ≡ r
 permits-at n book k a few small e f =
     ap (λ (d : ℕ → ℕ). permitted n book d a) (sym (digits-are k small)) ∙ ap (λ (l : List ℕ). permitted n book (digitIn l) a) (sym e)
-    ∙ sym (unguarded n _ few) ∙ sym f
+    ∙ sym (within-seven n _ _ few) ∙ sym f
 
 pub offered-setting : (n team : ℕ) (a : Act) → offered n team a ≡ true → settingOf a < n
 unfolding offered
 offered-setting n team a e = ltb→lt (settingOf a) n (and-left (ltb (settingOf a) n) (bit team (postOf a)) (true→T e))
 
 module _ (at k : ℕ) (a : Act) where
-  pub act-unknown : {o : Bool} (p : Bool) → o ≡ false → Fails (NoAct at) ≡ readingOf at (readAct o p (outcomes k a))
+  pub act-unknown : {o : Bool} (p : Permit) → o ≡ false → Fails (NoAct at) ≡ readingOf at (readAct o p (outcomes k a))
   act-unknown p e = rw e
 
-  pub act-forbidden : {o p : Bool} → o ≡ true → p ≡ false → Fails (NotPermitted at) ≡ readingOf at (readAct o p (outcomes k a))
+  pub act-forbidden : {o : Bool} {p : Permit} {why : Why} → o ≡ true → p ≡ Denied why → Fails (NotPermitted at why) ≡ readingOf at (readAct o p (outcomes k a))
   act-forbidden e f = rw (e, f)
 
   -- an act that may be done has no fault, so its index does not count
@@ -56,7 +60,7 @@ module _ (at k : ℕ) (a : Act) where
   any-place (Set i q b) = refl
   any-place (Look i q) = refl
 
-  pub act-done : {o p : Bool} {r : ByteReading} → o ≡ true → p ≡ true → r ≡ readingOf 0 (goes-on (outcomes k a)) → r ≡ readingOf at (readAct o p (outcomes k a))
+  pub act-done : {o : Bool} {p : Permit} {r : ByteReading} → o ≡ true → p ≡ Given → r ≡ readingOf 0 (goes-on (outcomes k a)) → r ≡ readingOf at (readAct o p (outcomes k a))
   act-done e f g = rw (e, f) (g ∙ any-place a)
 
 -- a byte

@@ -7,7 +7,7 @@ use Rattle.plan.specs.Check.{Fault, no-act, not-permitted, not-settled, too-soo
 -- the refusal of a fault, at the index of its byte
 abbrev pub refusalOf : Fault → ℕ → Refusal
 refusalOf no-act i = NoAct i
-refusalOf not-permitted i = NotPermitted i
+refusalOf (not-permitted why) i = NotPermitted i why
 refusalOf not-settled i = NotSettled i
 refusalOf too-soon i = TooSoon i
 refusalOf left-over i = LeftOver i

@@ -3,6 +3,7 @@ use knowledge::Knowledge;
 use knowledge_acts::Act;
 use knowledge_acts::Named;
 use knowledge_judging::is_settled;
+use plan::Permit;
 use question::Question;
 use question::permits;
 use refusal::Refusal;
@@ -54,10 +55,10 @@ fn read_act(n: u8, book: &[u8], team: u8, k: u32, at: usize, act: Act) -> ByteRe
     if !act.offered(n, team) {
         return ByteReading::Fails(Refusal::NoAct(at));
     }
-    if !permits(Knowledge::from_number(k), n, book, act) {
-        return ByteReading::Fails(Refusal::NotPermitted(at));
+    match permits(Knowledge::from_number(k), n, book, act) {
+        Permit::Denied(why) => ByteReading::Fails(Refusal::NotPermitted(at, why)),
+        Permit::Given => outcomes_of(k, act),
     }
-    outcomes_of(k, act)
 }
 
 // The byte with index `at`: a stop is 0, any other byte names an act or nothing. Up to seven settings,

@@ -1,4 +1,5 @@
--- How long a plan's lines are: they have at most a fixed number of bytes for each of its bytes, by induction on the plan.
+-- How long a refusal's line is, and how long a plan's lines are: they have at most a fixed number of bytes for each of its bytes, by induction on the
+-- plan.
 use mathlib.Core.Path.{_≡_, sym, ap, _∙_}
 use mathlib.Core.List.{List, [], _++_, append-nil}
 use Prim.Native.Nat.{ℕ, suc, _+_, _*_, _^_, _≤_, _<_}
@@ -11,8 +12,13 @@ use Rattle.plan.specs.Plans.{Plan, stop, set-then, look-then, height}
 use Rattle.plan.specs.Bytes.{encode}
 use Rattle.print_room.proofs.Decimals.{decimal-length}
 use Rattle.print_answer.specs.Listed.{actText, numbered, planText, Lettered}
+use Rattle.print_answer.specs.Printed.{refusedAt}
 use Rattle.print_answer.specs.Inner.{Shows, Readable}
 use Rattle.print_answer.proofs.Lined.{numbered-length}
+
+-- numbers of up to 20 digits
+pub refused-at-length : (number place : ℕ) → number < 10 ^ 20 → place < 10 ^ 20 → length (refusedAt number place) ≤ 49
+refused-at-length number place h k = simp length-append (omega (arith, decimal-length 19 number h, decimal-length 19 place k))
 
 -- depths of at most k + 1 digits: a line has those and at most 11 bytes more
 pub plan-length : (k depth : ℕ) (p : Plan) → depth + height p < 10 ^ suc k → length (planText depth p) ≤ (12 + k) * length (encode p)

@@ -9,9 +9,16 @@ use Rattle.plan.specs.Plans.{Plan}
 use Rattle.print_room.specs.Decimal.{decimal}
 use Rattle.print_answer.specs.Listed.{line, planText}
 
--- "`refused NUMBER PLACE`"
+-- "`refused NUMBER PLACE`", before the line ends
+abbrev pub refusedAt : ℕ → ℕ → List ℕ
+refusedAt number place = bytes "refused " ++ decimal number ++ bytes " " ++ decimal place
+
 abbrev pub refusedText : ℕ → ℕ → List ℕ
-refusedText number place = line (bytes "refused " ++ decimal number ++ bytes " " ++ decimal place)
+refusedText number place = line (refusedAt number place)
+
+-- "Refusal 18 carries a second number": it stands last
+abbrev pub secondedText : ℕ → ℕ → ℕ → List ℕ
+secondedText number place second = line (refusedAt number place ++ bytes " " ++ decimal second)
 
 -- "`cannot`"
 abbrev pub cannotText : List ℕ

@@ -8,17 +8,35 @@ ghost use Prim.Native.Nat.{_≤_};
 ghost use lib.ListN.{length};
 ghost use Rattle.plan.specs.Plans.{Plan};
 ghost use Rattle.plan.specs.Bytes.{encode};
+ghost use Rattle.print_room.specs.Wrote.{Wrote};
 ghost use Rattle.print_answer.specs.Listed.{Lettered};
-ghost use Rattle.print_answer.specs.Printed.{refusedText, cannotText, reachText, Prints};
+ghost use Rattle.print_answer.specs.Printed.{refusedAt, refusedText, secondedText, cannotText, reachText, Prints};
+
+// `refused NUMBER PLACE`, and the place after it.
+fn refused_at(number: u64, place: usize, out: &mut [u8]) -> usize
+    ensures { λ r. ⌜ Wrote (now (out .entry)) 0 (refusedAt number place) (now (out .exit)) r ⌝ }
+{
+    let to = print_room::word(b"refused ", out, 0);
+    let to = print_room::number(number, out, to);
+    let to = print_room::put(b' ', out, to);
+    print_room::number(place as u64, out, to)
+}
 
 // The answer `refused NUMBER PLACE`, and its length.
 pub fn refused(number: u64, place: usize, out: &mut [u8]) -> usize
     ensures { λ r. ⌜ Prints (now (out .entry)) (refusedText number place) r (now (out .exit)) ⌝ }
 {
-    let to = print_room::word(b"refused ", out, 0);
-    let to = print_room::number(number, out, to);
+    let to = refused_at(number, place, out);
+    print_room::put(b'\n', out, to)
+}
+
+// The answer `refused NUMBER PLACE SECOND` of a refusal with a second number, and its length.
+pub fn seconded(number: u64, place: usize, second: u8, out: &mut [u8]) -> usize
+    ensures { λ r. ⌜ Prints (now (out .entry)) (secondedText number place second) r (now (out .exit)) ⌝ }
+{
+    let to = refused_at(number, place, out);
     let to = print_room::put(b' ', out, to);
-    let to = print_room::number(place as u64, out, to);
+    let to = print_room::number(second as u64, out, to);
     print_room::put(b'\n', out, to)
 }
 

@@ -7,7 +7,8 @@ ghost use Rattle.program_outcome.specs.Outcomes.{statusDigit, answerOutc
 // Where the outcome is said.
 const OUTCOME_FILENO: i32 = 3;
 
-// Bytes that hold any refusal's line: `refused`, two numbers of up to 20 digits, two spaces and the line's end are 50.
+// Bytes that hold any refusal's line: `refused`, two numbers of up to 20 digits, one of up to 3, three spaces and the line's
+// end are 54.
 const REFUSED_MOST: usize = 64;
 
 // What came of a program.
@@ -105,6 +106,19 @@ pub fn deliver_fault(answer: &[u8], outcome: Outcome, number: u64, place: usize,
         program_files::write_all(OUTCOME_FILENO, &room[..length]);
     }
     program_files::write_all(OUTCOME_FILENO, whose);
+}
+
+// Writes out a refusal by its numbers, and says it; `second` is one more than its second number, and 0 where it has none.
+pub fn refuse_seconded(number: u64, place: usize, second: u8, whose: &[u8], outcome: Outcome) {
+    if second == 0 {
+        refuse(number, place, place, whose, outcome);
+        return;
+    }
+    let mut room = [0u8; REFUSED_MOST];
+    let length = print_answer::seconded(number, place, second - 1, &mut room);
+    if length <= room.len() {
+        deliver_fault(&room[..length], outcome, number, place, whose);
+    }
 }
 
 // Writes out a refusal by its number, at this place of a text, and says it; `own` is the refusal's own place.

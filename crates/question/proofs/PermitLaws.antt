@@ -1,32 +1,68 @@
--- When the rules of a book permit an act: where the judgement of its rule, as that stands in the book, is that it holds.
-use mathlib.Core.Path.{_≡_, sym, _∙_}
-use mathlib.Core.Bool.{Bool, false, _&&_}
+-- What the rules of a book say of an act: it may be done exactly where paper 01 says so, and else the reason is one of three.
+use mathlib.Core.Path.{_≡_, refl, sym, _∙_}
+use mathlib.Core.Bool.{Bool, true, false, _&&_, cond}
 use mathlib.Core.List.{List}
-use Prim.Native.Nat.{ℕ}
-use lib.Dec.{leb}
+use Prim.Native.Nat.{ℕ, _≤_}
+use lib.Dec.{eqb, leb}
 use lib.ListN.{drop}
-use borrow.Author.Tests.{eq-eqb, ne-eqb}
-use Rattle.ground.proofs.Bools.{and-true, and-false}
+use borrow.Author.Tests.{eq-eqb, ne-eqb, le-leb}
+use Rattle.ground.proofs.Bools.{and-false, and-true}
+use Rattle.refusal.specs.declared.Why.the-variants.{KnownSetting, NotKnown}
 use Rattle.book_block.specs.Rule.{rule, rulePlace}
+use Rattle.book_block.specs.declared.rule.Right.{Right}
 use Rattle.book_block.specs.declared.rule.Right.the-variants.{Look as look-rule, Set as set-rule}
+use Rattle.knowledge_acts.specs.declared.act.Act.{Act}
 use Rattle.knowledge_acts.specs.declared.act.Act.the-variants.{Set, Look}
-use Rattle.knowledge.specs.Fits.{known}
-use Rattle.knowledge.proofs.Fits.{guarded}
-use Rattle.knowledge.proofs.Known.{known-take}
-use Rattle.question.specs.Permitted.{permitted}
+use Rattle.knowledge.specs.Fits.{nowSide}
+use Rattle.knowledge.specs.Judgement.{judgement, holds, known}
+use Rattle.knowledge.specs.declared.judgement.Judgement.{Judgement}
+use Rattle.knowledge.specs.declared.judgement.Judgement.the-variants.{TrueAtAll, FalseAtAll, Neither}
+use Rattle.knowledge.proofs.JudgementLaws.{judgement-take}
+use Rattle.plan.specs.Plans.{given}
+use Rattle.plan.specs.declared.Permit.{Permit}
+use Rattle.plan.specs.declared.Permit.the-variants.{Denied}
+use Rattle.question.specs.Permitted.{byRule, byLook, permitted}
 
--- an act's permission is the judgement of its rule where that stands in the book
+given-rule : (j : Judgement) → given (byRule j) ≡ holds j
+given-rule TrueAtAll = refl
+given-rule FalseAtAll = refl
+given-rule Neither = refl
+
+given-look : (b : Bool) (j : Judgement) → given (byLook b j) ≡ holds j && b
+given-look true j = given-rule j ∙ sym (and-true (holds j))
+given-look false j = sym (and-false (holds j))
+
 module _ (n : ℕ) (book : List ℕ) (d : ℕ → ℕ) (i q : ℕ) where
-  pub set-permitted : (b : Bool) → leb n 7 && known n d (drop (rulePlace book i q set-rule) book) ≡ leb n 7 && permitted n book d (Set i q b)
-  unfolding permitted rule
-  set-permitted b = guarded n _ _ (λ h. sym (known-take n d (drop (rulePlace book i q set-rule) book) h))
+  -- "set a setting false or true, where its set rule for that post is known to hold"
+  pub set-given : (b : Bool) → given (permitted n book d (Set i q b)) ≡ known n d (rule book i q set-rule)
+  unfolding permitted known
+  set-given b = given-rule (judgement n (nowSide d) (rule book i q set-rule))
 
-  pub look-permitted : d i ≡ 0 → leb n 7 && known n d (drop (rulePlace book i q look-rule) book) ≡ leb n 7 && permitted n book d (Look i q)
-  unfolding permitted rule
-  look-permitted e =
-      guarded n _ _
-      (λ h. sym (rw (eq-eqb (d i) 0 e) (and-true _ ∙ known-take n d (drop (rulePlace book i q look-rule) book) h)))
+  -- "look, where the look rule is known to hold and the digit is 0"
+  pub look-given : given (permitted n book d (Look i q)) ≡ known n d (rule book i q look-rule) && eqb (d i) 0
+  unfolding permitted known
+  look-given = given-look (eqb (d i) 0) (judgement n (nowSide d) (rule book i q look-rule))
 
-  pub look-refused : (d i ≡ 0 → ⊥) → false ≡ leb n 7 && permitted n book d (Look i q)
+-- the judgement of a rule where it stands in the book
+pub rule-judged : (n : ℕ) (book : List ℕ) (d : ℕ → ℕ) (i q : ℕ) (right : Right) {from : ℕ} {j : Judgement} → n ≤ 7 → from ≡ rulePlace book i q right
+    → j ≡ cond (leb n 7) (judgement n (nowSide d) (drop from book)) Neither → j ≡ judgement n (nowSide d) (rule book i q right)
+unfolding rule
+rule-judged n book d i q right few place e =
+    rw (le-leb n 7 few, place) at e ∙ sym (judgement-take n (nowSide d) (drop (rulePlace book i q right) book) few)
+
+-- what `permits` has found, of up to seven settings
+module _ {n : ℕ} (few : n ≤ 7) (book : List ℕ) (d : ℕ → ℕ) (i q : ℕ) where
+  abbrev says : Act → Permit
+  says a = cond (leb n 7) (permitted n book d a) (Denied NotKnown)
+
+  pub set-says : (b : Bool) {r : Permit} → r ≡ byRule (judgement n (nowSide d) (rule book i q set-rule)) → r ≡ says (Set i q b)
   unfolding permitted
-  look-refused e = sym (rw (ne-eqb (d i) 0 e, and-false (known n d (rule book i q look-rule))) (and-false (leb n 7)))
+  set-says b e = rw (le-leb n 7 few) e
+
+  pub look-says : {r : Permit} → d i ≡ 0 → r ≡ byRule (judgement n (nowSide d) (rule book i q look-rule)) → r ≡ says (Look i q)
+  unfolding permitted
+  look-says z e = rw (le-leb n 7 few, eq-eqb (d i) 0 z) e
+
+  pub look-at-known : (d i ≡ 0 → ⊥) → Denied KnownSetting ≡ says (Look i q)
+  unfolding permitted
+  look-at-known ne = rw (le-leb n 7 few, ne-eqb (d i) 0 ne)

@@ -6,11 +6,13 @@ use mathlib.Core.List.{List}
 use mathlib.Core.Bool.{_&&_}
 use Prim.Native.Nat.{ℕ, _^_, _≤_, _<_}
 use native.Mathlib.Omega.{arith}
-use lib.Dec.{T, ltb, eqb→eq, ltb→lt, lit<}
+use lib.Dec.{T, eqb, ltb, eqb→eq, ltb→lt, lit<}
 use lib.Pow.{pow-mono}
 use Rattle.ground.specs.Digits.{digit, bit}
 use Rattle.ground.proofs.Bools.{and-left, and-right, decide, T→false}
 use Rattle.ground.proofs.Bits.{below-power}
+use Rattle.book_block.specs.Rule.{rule}
+use Rattle.book_block.specs.declared.rule.Right.the-variants.{Look as look-rule}
 use Rattle.knowledge_acts.specs.Seven.{firstDigit}
 use Rattle.knowledge_acts.specs.Acts.{settingOf, postOf, offered}
 use Rattle.knowledge_acts.specs.declared.act.Act.{Act}
@@ -19,12 +21,14 @@ use Rattle.knowledge_acts.proofs.Seven.{first-lt}
 use Rattle.knowledge.specs.Number.{firstAt}
 use Rattle.knowledge.specs.Goal.{Goal}
 use Rattle.knowledge.proofs.Number.{sum-lt, sum-short}
-use Rattle.plan.specs.Plans.{may, Lawful}
+use Rattle.knowledge.specs.Judgement.{known}
+use Rattle.plan.specs.Plans.{given, may, Lawful}
 use Rattle.question.specs.Permitted.{permitted}
 use Rattle.question.specs.Question.{systemOf, startOf}
 use Rattle.question.specs.Rows.{TeamFits, KnownFits}
 use Rattle.question.specs.Asks.{ValidQuestion}
 use Rattle.question.specs.declared.Question.{Question}
+use Rattle.question.proofs.PermitLaws.{look-given}
 use Rattle.question.proofs.QuestionLaws.{low-bits, bits-low}
 
 -- ---- the system
@@ -32,13 +36,14 @@ use Rattle.question.proofs.QuestionLaws.{low-bits, bits-low}
 module _ (n : ℕ) (book : List ℕ) (q : Question) (goal : Goal) (byte : q .team < 256) where
   offer : (k : ℕ) (a : Act) → T (may (systemOf n book q goal) k a) → T (ltb (settingOf a) n && bit (q .team) (postOf a))
   unfolding offered systemOf
-  offer k a m = and-left (offered n (q .team) a) (permitted n book (digit 7 k) a) m
+  offer k a m = and-left (offered n (q .team) a) (given (permitted n book (digit 7 k) a)) m
 
   digit-nought : (k i p : ℕ) → T (may (systemOf n book q goal) k (Look i p)) → digit 7 k i ≡ 0
-  unfolding permitted systemOf
+  unfolding systemOf
   digit-nought k i p m =
-      let h = and-right (offered n (q .team) (Look i p)) (permitted n book (digit 7 k) (Look i p)) m in
-      eqb→eq (digit 7 k i) 0 (search and-right)
+      let h = and-right (offered n (q .team) (Look i p)) (given (permitted n book (digit 7 k) (Look i p))) m in
+      eqb→eq (digit 7 k i) 0
+      (and-right (known n (digit 7 k) (rule book i p look-rule)) (eqb (digit 7 k i) 0) (rw (look-given n book (digit 7 k) i p) at h))
 
   -- whatever the team's byte is
   pub team-lawful : Lawful n (systemOf n book q goal)

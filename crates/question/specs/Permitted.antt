@@ -1,17 +1,34 @@
--- "Acts, by a post of the team": which of them the rules of a book permit, by what the team knows. d i is the digit of setting i
--- (knowledge/specs/Fits).
-use mathlib.Core.Bool.{Bool, _&&_}
+-- "Acts, by a post of the team": which of them the rules of a book permit, by what the team knows, and why not the others. d i is the digit
+-- of setting i (knowledge/specs/Fits).
+use mathlib.Core.Bool.{Bool, true, false}
 use mathlib.Core.List.{List}
 use Prim.Native.Nat.{ℕ}
 use lib.Dec.{eqb}
+use Rattle.refusal.specs.declared.Why.the-variants.{KnownSetting, SurelyFalse, NotKnown}
 use Rattle.book_block.specs.Rule.{rule}
 use Rattle.book_block.specs.declared.rule.Right.the-variants.{Look as look-rule, Set as set-rule}
 use Rattle.knowledge_acts.specs.declared.act.Act.{Act}
 use Rattle.knowledge_acts.specs.declared.act.Act.the-variants.{Set, Look}
-use Rattle.knowledge.specs.Fits.{known}
+use Rattle.knowledge.specs.Fits.{nowSide}
+use Rattle.knowledge.specs.Judgement.{judgement}
+use Rattle.knowledge.specs.declared.judgement.Judgement.{Judgement}
+use Rattle.knowledge.specs.declared.judgement.Judgement.the-variants.{TrueAtAll, FalseAtAll, Neither}
+use Rattle.plan.specs.declared.Permit.{Permit}
+use Rattle.plan.specs.declared.Permit.the-variants.{Given, Denied}
+
+-- by the judgement of the act's rule: "1 surely false, 2 not known"
+abbrev pub byRule : Judgement → Permit
+byRule TrueAtAll = Given
+byRule FalseAtAll = Denied SurelyFalse
+byRule Neither = Denied NotKnown
+
+-- a look: is the digit 0, and then its rule; "0 for a look at a known setting .., judged in that order"
+abbrev pub byLook : Bool → Judgement → Permit
+byLook false j = Denied KnownSetting
+byLook true j = byRule j
 
 -- "set a setting false or true, where its set rule for that post is known to hold; look, where the look rule is known to hold
 -- and the digit is 0"
-unfoldable pub permitted : ℕ → List ℕ → (ℕ → ℕ) → Act → Bool
-permitted n book d (Set i q b) = known n d (rule book i q set-rule)
-permitted n book d (Look i q) = known n d (rule book i q look-rule) && eqb (d i) 0
+unfoldable pub permitted : ℕ → List ℕ → (ℕ → ℕ) → Act → Permit
+permitted n book d (Set i q b) = byRule (judgement n (nowSide d) (rule book i q set-rule))
+permitted n book d (Look i q) = byLook (eqb (d i) 0) (judgement n (nowSide d) (rule book i q look-rule))

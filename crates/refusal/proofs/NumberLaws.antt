@@ -1,14 +1,15 @@
--- A refusal is known by its numbers, and they are small: for those who pack them. The number finds the refusal again in the list of all.
+-- A refusal is known by its numbers, and they are small: for those who pack them. The number and the second number find the refusal again in the list of all.
 use mathlib.Core.Path.{_≡_, refl, sym, ap, _∙_}
 use mathlib.Core.List.{List, [], _∷_}
 use Prim.Native.Nat.{ℕ, _<_}
 use lib.Dec.{T, eqb, ltb, ltb→lt}
-use mathlib.Core.Bool.{cond}
+use mathlib.Core.Bool.{cond, _&&_}
 use Rattle.refusal.specs.declared.Refusal.{Refusal}
 use Rattle.refusal.specs.declared.Refusal.the-variants.{FormulaLength, StrayByte, LetterPast, NotSentence, Settings, BookLength, Check, Head}
 use Rattle.refusal.specs.declared.Refusal.the-variants.{StrayBit, Team, Known, Goal, RankRoom, PlanRoom, Room, PlanLength, NoAct, NotPermitted}
 use Rattle.refusal.specs.declared.Refusal.the-variants.{NotSettled, TooSoon, LeftOver, Malformed, Twice, SheetLength, SheetSettings}
 use Rattle.refusal.specs.declared.Refusal.the-variants.{Shift, NoRecord, NotAllowed, Disagrees}
+use Rattle.refusal.specs.declared.Why.the-variants.{KnownSetting, SurelyFalse, NotKnown}
 use Rattle.refusal.specs.declared.Numbers.{Numbers}
 use Rattle.refusal.specs.Refusals.{numbers, number, second}
 
@@ -32,7 +33,9 @@ every i =
     ∷ Room
     ∷ PlanLength
     ∷ NoAct i
-    ∷ NotPermitted i
+    ∷ NotPermitted i KnownSetting
+    ∷ NotPermitted i SurelyFalse
+    ∷ NotPermitted i NotKnown
     ∷ NotSettled i
     ∷ TooSoon i
     ∷ LeftOver i
@@ -46,14 +49,14 @@ every i =
     ∷ Disagrees i
     ∷ []
 
--- the first of some refusals with this number
-unfoldable pub numbered-so : ℕ → List Refusal → Refusal
-numbered-so x [] = FormulaLength
-numbered-so x (r ∷ rs) = cond (eqb (number r) x) r (numbered-so x rs)
+-- the first of some refusals with this number and second number
+unfoldable pub numbered-so : ℕ → ℕ → List Refusal → Refusal
+numbered-so x y [] = FormulaLength
+numbered-so x y (r ∷ rs) = cond (eqb (number r) x && eqb (second r) y) r (numbered-so x y rs)
 
 -- the refusal with these numbers
 unfoldable pub named : Numbers → Refusal
-named x = numbered-so (x .number) (every (x .place))
+named x = numbered-so (x .number) (x .second) (every (x .place))
 
 -- of each refusal: its numbers name it, its number is not 0, and neither its number nor its second number is past a byte
 each : (r : Refusal) → (named (numbers r) ≡ r) × T (ltb 0 (number r)) × T (ltb (number r) 256) × T (ltb (second r) 256)
@@ -75,7 +78,9 @@ each PlanRoom = (refl, tt, tt, tt)
 each Room = (refl, tt, tt, tt)
 each PlanLength = (refl, tt, tt, tt)
 each (NoAct i) = (refl, tt, tt, tt)
-each (NotPermitted i) = (refl, tt, tt, tt)
+each (NotPermitted i KnownSetting) = (refl, tt, tt, tt)
+each (NotPermitted i SurelyFalse) = (refl, tt, tt, tt)
+each (NotPermitted i NotKnown) = (refl, tt, tt, tt)
 each (NotSettled i) = (refl, tt, tt, tt)
 each (TooSoon i) = (refl, tt, tt, tt)
 each (LeftOver i) = (refl, tt, tt, tt)

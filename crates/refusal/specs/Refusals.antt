@@ -1,16 +1,28 @@
--- The table of numbered refusals, a line a refusal. "A refusal gives a number and a place [..] Place is 0 unless named." When each is given is said
--- by those who give it, as rows (Order).
-use Prim.Native.Nat.{ℕ}
+-- The table of numbered refusals, a line a refusal. "A refusal gives a number and a place [..] Place is 0 unless named." "Refusal 18 carries a second
+-- number." When each is given is said by those who give it, as rows (Order).
+use Prim.Native.Nat.{ℕ, suc}
 use Rattle.refusal.specs.declared.Refusal.{Refusal}
 use Rattle.refusal.specs.declared.Refusal.the-variants.{FormulaLength, StrayByte, LetterPast, NotSentence, Settings, BookLength, Check, Head}
 use Rattle.refusal.specs.declared.Refusal.the-variants.{StrayBit, Team, Known, Goal, RankRoom, PlanRoom, Room, PlanLength, NoAct, NotPermitted}
 use Rattle.refusal.specs.declared.Refusal.the-variants.{NotSettled, TooSoon, LeftOver, Malformed, Twice, SheetLength, SheetSettings}
 use Rattle.refusal.specs.declared.Refusal.the-variants.{Shift, NoRecord, NotAllowed, Disagrees}
+use Rattle.refusal.specs.declared.Why.{Why}
+use Rattle.refusal.specs.declared.Why.the-variants.{KnownSetting, SurelyFalse, NotKnown}
 use Rattle.refusal.specs.declared.Numbers.{Numbers}
+
+-- "0 for a look at a known setting, 1 surely false, 2 not known"
+abbrev pub secondOf : Why → ℕ
+secondOf KnownSetting = 0
+secondOf SurelyFalse = 1
+secondOf NotKnown = 2
 
 -- "a number and a place", and no second number
 abbrev pub numbered : ℕ → ℕ → Numbers
 numbered number place = record { number = number; place = place; second = 0 }
+
+-- with a second number: it stands here as one more than it is
+abbrev pub seconded : ℕ → ℕ → ℕ → Numbers
+seconded number place second = record { number = number; place = place; second = suc second }
 
 -- the columns "no." and "place"
 abbrev pub numbers : Refusal → Numbers
@@ -31,7 +43,7 @@ numbers PlanRoom = numbered 14 0
 numbers Room = numbered 15 0
 numbers PlanLength = numbered 16 0
 numbers (NoAct index) = numbered 17 index
-numbers (NotPermitted index) = numbered 18 index
+numbers (NotPermitted index why) = seconded 18 index (secondOf why)
 numbers (NotSettled index) = numbered 19 index
 numbers (TooSoon length) = numbered 20 length
 numbers (LeftOver first) = numbered 21 first

@@ -2,7 +2,31 @@
 // gives to each. A refusal is made at the place that finds the fault and is handed upward as it is; its
 // numbers stand here alone. The crate refuses nothing itself and writes nothing.
 ghost use mathlib.Core.Path.{_≡_};
-ghost use Rattle.refusal.specs.Refusals.{numbered, numbers};
+ghost use Prim.Native.Nat.{suc};
+ghost use Rattle.refusal.specs.Refusals.{secondOf, numbered, seconded, numbers};
+
+// Why an act is not permitted: the second number of 18, in the order in which they are judged.
+pub enum Why {
+    // 0: a look at a known setting.
+    KnownSetting,
+    // 1: its rule is surely false here.
+    SurelyFalse,
+    // 2: nobody in the team knows whether its rule holds.
+    NotKnown,
+}
+
+impl Why {
+    // One more than its number.
+    fn above(self) -> u8
+        ensures { λ r. ⌜ r ≡ suc (secondOf self) ⌝ }
+    {
+        match self {
+            Why::KnownSetting => 1,
+            Why::SurelyFalse => 2,
+            Why::NotKnown => 3,
+        }
+    }
+}
 
 // In the order of their numbers. Where a case holds a number, that number is the place.
 pub enum Refusal {
@@ -40,8 +64,8 @@ pub enum Refusal {
     PlanLength,
     // 17: byte names no act of this book and team, at this index.
     NoAct(usize),
-    // 18: act not permitted here, or look at a known setting, at this index.
-    NotPermitted(usize),
+    // 18: act not permitted here, or look at a known setting, at this index; and why.
+    NotPermitted(usize, Why),
     // 19: stop where the goal isn't settled, at this index.
     NotSettled(usize),
     // 20: plan ends too soon, after this many bytes.
@@ -66,13 +90,12 @@ pub enum Refusal {
     Disagrees(usize),
 }
 
-// The numbers that a refusal gives: "a refusal gives a number and a place".
+// The numbers that a refusal gives: "a refusal gives a number and a place", and 18 "carries a second number".
 pub struct Numbers {
     pub number: u64,
     // 0 unless the refusal names one
     pub place: usize,
-    // 0 where the refusal has no second number, else one more than it. No refusal has one yet; request
-    // R-3 gives 18 one.
+    // 0 where the refusal has no second number, else one more than it: 18 alone has one
     pub second: u8,
 }
 
@@ -84,6 +107,17 @@ fn numbered(number: u64, place: usize) -> Numbers
         number: number,
         place: place,
         second: 0,
+    }
+}
+
+// The numbers of 18.
+fn not_permitted(at: usize, why: Why) -> Numbers
+    ensures { λ r. ⌜ r ≡ seconded 18 at (secondOf why) ⌝ }
+{
+    Numbers {
+        number: 18,
+        place: at,
+        second: why.above(),
     }
 }
 
@@ -110,7 +144,7 @@ impl Refusal {
             Refusal::Room => numbered(15, 0),
             Refusal::PlanLength => numbered(16, 0),
             Refusal::NoAct(at) => numbered(17, at),
-            Refusal::NotPermitted(at) => numbered(18, at),
+            Refusal::NotPermitted(at, why) => not_permitted(at, why),
             Refusal::NotSettled(at) => numbered(19, at),
             Refusal::TooSoon(at) => numbered(20, at),
             Refusal::LeftOver(at) => numbered(21, at),

@@ -142,7 +142,7 @@ text-numbers s why e = elim (stray-first s why e) [ inl (f, h) ↦ inr (ap numbe
 
 fault-number : (f : Fault) (i : ℕ) → (16 ≤ number (refusalOf f i)) × (number (refusalOf f i) ≤ 21)
 fault-number no-act i = (omega arith, omega arith)
-fault-number not-permitted i = (omega arith, omega arith)
+fault-number (not-permitted why) i = (omega arith, omega arith)
 fault-number not-settled i = (omega arith, omega arith)
 fault-number too-soon i = (omega arith, omega arith)
 fault-number left-over i = (omega arith, omega arith)

@@ -176,11 +176,11 @@ fn by_hand(group: &mut Group) {
     for &(ref bytes, s, t, only_rights) in by_hand {
         group.case(book::check(bytes) == (s, t), || format!("this program's own check of {}", sparse(bytes)));
         let book = |s: u16, t: u16| [&head[..], bytes, &s.to_le_bytes(), &t.to_le_bytes()].concat();
-        let nine = Err(Refusal { number: 9, place: 1 });
+        let nine = Err(Refusal::at(9, 1));
         let read = Ok(Book { n: 1, m: 1, rights: bytes[..TABLES].to_vec() });
         expect_read(group, &book(s, t), AMPLE, if only_rights { read } else { nine });
-        expect_read(group, &book(s ^ 1, t), AMPLE, Err(Refusal { number: 7, place: 1 }));
-        expect_read(group, &book(s, t ^ 0x100), AMPLE, Err(Refusal { number: 7, place: 1 }));
+        expect_read(group, &book(s ^ 1, t), AMPLE, Err(Refusal::at(7, 1)));
+        expect_read(group, &book(s, t ^ 0x100), AMPLE, Err(Refusal::at(7, 1)));
     }
 }
 

@@ -6,6 +6,7 @@ use crate::damage::{deleted, inserted, replaced, swapped};
 use crate::ffi;
 use crate::finder::{self, Found, Solution};
 use crate::finding::{shown_question, spoil};
+use crate::not_permitted;
 use crate::plan::{check, Plan, PLAN_MOST};
 use crate::plans::{any, permitted, working};
 use crate::question::{Asked, Question};
@@ -17,6 +18,8 @@ use crate::room::Room;
 
 /// How many places each fault is tried at, one by one.
 const PLACES: usize = 600;
+/// Places at which random plans of any acts have each reason of an act that is not permitted.
+const ANY_PLACES: u32 = 8;
 
 pub fn test(subject: &mut Subject) {
     subject.group("this program's own check against plans as trees", own_check);
@@ -28,6 +31,8 @@ pub fn test(subject: &mut Subject) {
     subject.group("plans cut short, gone on with, and disarranged", damaged);
     subject.group("every first byte, for every n, some posts and teams", first_bytes);
     subject.group("looks at known settings, digit by digit", known_settings);
+    subject.group("acts not permitted, at every digit and for each reason", not_permitted::every_digit);
+    subject.group("rules of the setting acted on, at its every digit and for each reason", not_permitted::own_digit);
     subject.group("as many looks open as there are settings", open_looks);
     subject.group("rows of sets with a fault at every place", rows);
     subject.group("32,640 bytes and more", longest);
@@ -38,12 +43,16 @@ pub fn test(subject: &mut Subject) {
     }
     subject.must_reach(7, 0..=7);
     subject.must_reach(9, 1..=7);
-    for number in [17, 18, 19, 20] {
+    for number in [17, 19, 20] {
         subject.must_reach(number, 0..=PLACES as u32);
     }
     subject.must_reach(21, 1..=PLACES as u32);
-    for number in [17, 18, 19, 21] {
+    for number in [17, 19, 21] {
         subject.must_reach(number, PLAN_MOST as u32 - 1..=PLAN_MOST as u32 - 1);
+    }
+    for second in 0..=2 {
+        subject.must_reach_second(18, second, 0..=PLACES as u32);
+        subject.must_reach_second(18, second, PLAN_MOST as u32 - 1..=PLAN_MOST as u32 - 1);
     }
     subject.must_reach(20, PLAN_MOST as u32..=PLAN_MOST as u32);
 }
@@ -52,7 +61,7 @@ fn compare(group: &mut Group, question: &Question, plan: &[u8]) {
     expect(group, question, plan, check(question, plan));
 }
 
-fn expect(group: &mut Group, question: &Question, plan: &[u8], expected: Result<(), Refusal>) {
+pub fn expect(group: &mut Group, question: &Question, plan: &[u8], expected: Result<(), Refusal>) {
     let rng = &mut group.rng;
     let mut book = Room::holding(&question.book, &[0, 1, 255], rng);
     let mut make = Room::holding(&question.make, &[0, 1, 255], rng);
@@ -122,34 +131,55 @@ fn by_hand_plans(group: &mut Group) {
         by_hand(3, 2, &["write a 2 ~c", "write b 1 a", "read c 1 1", "read c 2 1", "write c 2 c"], "1 2", "", "b", &[]);
     let p9 = by_hand(1, 1, &["read a 1 1", "write a 1 1"], "1", "", "~a", &["a"]);
     let p12 = by_hand(2, 1, &[], "1", "~a", "1", &["a&b"]);
-    let refused = |number, place| Err(Refusal { number, place });
+    let reasons = by_hand(2, 1, &["read a 1 b", "write a 1 b|~b", "read b 1 a&~a", "write b 1 ~a"], "1", "", "1", &[]);
+    let refused = |number, place| Err(Refusal::at(number, place));
+    let known = |place| Err(Refusal::at(18, place).with_second(0));
+    let surely_false = |place| Err(Refusal::at(18, place).with_second(1));
+    let not_known = |place| Err(Refusal::at(18, place).with_second(2));
     let by_hand: &[(&Question, &[u8], Result<(), Refusal>)] = &[
         (&p6, &[130, 58, 65, 0, 18, 58, 65, 0], Ok(())),
         (&p6, &[130, 58, 65, 0, 18, 58, 65], refused(20, 7)),
         (&p6, &[130, 58, 65, 0, 18, 58, 65, 0, 0], refused(21, 8)),
-        (&p6, &[130, 58, 65, 0, 58, 65, 0], refused(18, 4)),
-        (&p6, &[130, 58, 65, 0, 130, 58, 65, 0], refused(18, 4)),
-        (&p6, &[129, 58, 65, 0, 18, 58, 65, 0], refused(18, 0)),
+        (&p6, &[130, 58, 65, 0, 58, 65, 0], surely_false(4)),
+        (&p6, &[130, 58, 65, 0, 130, 58, 65, 0], known(4)),
+        (&p6, &[130, 58, 65, 0, 129, 58, 65, 0], known(4)),
+        (&p6, &[129, 58, 65, 0, 18, 58, 65, 0], surely_false(0)),
+        (&p6, &[58, 65, 0], not_known(0)),
+        (&p6, &[65, 0], not_known(0)),
+        (&p6, &[18, 58, 65, 0], not_known(0)),
+        (&p6, &[1, 0], surely_false(0)),
         (&p6, &[130, 0, 18, 58, 65, 0], refused(19, 1)),
         (&p6, &[132], refused(17, 0)),
         (&p6, &[137], refused(17, 0)),
         (&p6, &[130, 58, 2, 58, 65, 0, 18, 58, 65, 0], Ok(())),
-        (&p6, &[130, 18, 58, 65, 0, 18, 58, 65, 0], refused(18, 1)),
+        (&p6, &[130, 18, 58, 65, 0, 18, 58, 65, 0], surely_false(1)),
+        (&p6, &[130, 65, 0, 0], not_known(1)),
         (&p6, &[], refused(20, 0)),
         (&p6_open, &[129, 58, 65, 0, 18, 58, 65, 0], Ok(())),
         (&p6_open, &[130, 58, 65, 0, 18, 58, 65, 0], Ok(())),
-        (&p6_open, &[129, 58, 65, 0, 129, 58, 65, 0], refused(18, 4)),
+        (&p6_open, &[129, 58, 65, 0, 129, 58, 65, 0], known(4)),
         (&p9, &[1, 0], refused(19, 1)),
         (&p9, &[113, 0, 1, 0], Ok(())),
         (&p9, &[113, 1, 0, 1, 0], Ok(())),
         (&p9, &[113, 1, 0, 0], refused(19, 3)),
-        (&p9, &[1, 113], refused(18, 1)),
-        (&p9, &[113, 113], refused(18, 1)),
+        (&p9, &[1, 113], known(1)),
+        (&p9, &[113, 113], known(1)),
         (&p9, &[169], refused(17, 0)),
         (&p12, &[0], Ok(())),
         (&p12, &[0, 0], refused(21, 1)),
         (&p12, &[0, 255], refused(21, 1)),
-        (&p12, &[1, 255], refused(18, 0)),
+        (&p12, &[1, 255], surely_false(0)),
+        (&p12, &[113, 255], known(0)),
+        (&p12, &[121, 255], surely_false(0)),
+        (&reasons, &[57, 0], Ok(())),
+        (&reasons, &[113, 0, 0], not_known(0)),
+        (&reasons, &[57, 113, 0, 0], known(1)),
+        (&reasons, &[121, 0, 0], surely_false(0)),
+        (&reasons, &[9, 0], not_known(0)),
+        (&reasons, &[57, 9, 0], surely_false(1)),
+        (&reasons, &[1, 9, 0], Ok(())),
+        (&reasons, &[1, 9, 121, 0, 0], known(2)),
+        (&reasons, &[1, 9, 113, 0, 0], known(2)),
     ];
     for &(question, plan, expected) in by_hand {
         group.case(check(question, plan) == expected, || format!("this program's own check of {}", shown(plan)));
@@ -193,6 +223,9 @@ fn any_plans(group: &mut Group) {
             _ => any(&mut group.rng, &asked, &asked.start, 8),
         };
         compare(group, &question, &plan.bytes());
+    }
+    for second in 0..=2 {
+        group.must_reach_second(18, second, 0..=ANY_PLACES);
     }
 }
 
@@ -305,14 +338,18 @@ fn all_looks(rng: &mut Rng, settings: &[usize]) -> Vec<u8> {
     [vec![look], all_looks(rng, &rest), all_looks(rng, &rest)].concat()
 }
 
-/// One setting that may always be set and looked at, known to be true; the goal is that it is true.
-fn always() -> Question {
-    by_hand(1, 1, &["read a 1 1", "write a 1 1"], "1", "a", "a", &[])
+/// Setting a may always be set and looked at, and is known to be true; the goal is that it is true. The rules of b and c
+/// are surely false or not known, whatever is done to a.
+pub fn always() -> Question {
+    let stated = ["read a 1 1", "write a 1 1", "read b 1 b", "write b 1 0", "read c 1 b&~b", "write c 1 ~b"];
+    by_hand(3, 1, &stated, "1", "a", "a", &[])
 }
 
 const NO: u8 = 1;
 const YES: u8 = 57;
-const LOOK: u8 = 113;
+/// Acts that are not permitted, wherever sets of a lead, and refusal 18's second number: a look at a, sets of b, a look
+/// at c; a look at b, sets of c.
+const NEVER_PERMITTED: [(u8, u32); 7] = [(113, 0), (9, 1), (65, 1), (129, 1), (121, 2), (17, 2), (73, 2)];
 
 /// So many sets to either value, at random.
 fn row(rng: &mut Rng, count: usize) -> Vec<u8> {
@@ -326,10 +363,13 @@ fn faults_at(group: &mut Group, place: usize) {
     let count = if place + 6 < PLAN_MOST { group.rng.below(6) } else { 0 };
     let ending = row(&mut group.rng, count);
     let then = |start: &[u8], byte: u8| [start, &[byte], &ending[..]].concat();
-    let refused = |number| Err(Refusal { number, place: place as u32 });
-    let far = group.rng.one_of(&[2, 9, 58, 114, 168, 169, 255]);
+    let refused = |number| Err(Refusal::at(number, place as u32));
+    let far = group.rng.one_of(&[2, 25, 58, 114, 168, 169, 255]);
     expect(group, &question, &then(&sets, far), refused(17));
-    expect(group, &question, &then(&sets, LOOK), refused(18));
+    for (byte, second) in NEVER_PERMITTED {
+        let not_permitted = Refusal::at(18, place as u32).with_second(second);
+        expect(group, &question, &then(&sets, byte), Err(not_permitted));
+    }
     expect(group, &question, &sets, refused(20));
     match place {
         0 => expect(group, &Question { values: 0, ..question }, &then(&[], 0), refused(19)),
@@ -366,10 +406,10 @@ fn longest(group: &mut Group) {
     {
         let mut plan = row(&mut group.rng, length);
         let all_sets = if length > PLAN_MOST { (16, 0) } else { (20, length as u32) };
-        expect(group, &question, &plan, Err(Refusal { number: all_sets.0, place: all_sets.1 }));
+        expect(group, &question, &plan, Err(Refusal::at(all_sets.0, all_sets.1)));
         plan[length - 2] = YES;
         plan[length - 1] = 0;
-        let expected = if length > PLAN_MOST { Err(Refusal { number: 16, place: 0 }) } else { Ok(()) };
+        let expected = if length > PLAN_MOST { Err(Refusal::at(16, 0)) } else { Ok(()) };
         expect(group, &question, &plan, expected);
         for (place, byte) in [(0, 0), (0, 255), (length / 2, 0), (length / 2, 200), (length - 1, 7), (length - 1, 200)]
         {

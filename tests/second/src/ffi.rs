@@ -1,5 +1,5 @@
 //! The library under test, as safe functions on rooms. What each result means is said in include/parjolenc.h: a
-//! refusal is a word with its number in the upper half (`refusal.rs`).
+//! refusal is a word that is not 0 from bit 32 on (`refusal.rs`).
 
 #[cfg(hosted)]
 #[path = "ffi/hosted.rs"]

@@ -8,7 +8,7 @@ use crate::damage::replaced;
 use crate::fast;
 use crate::ffi;
 use crate::finder::{self, Found, Solution, NEVER};
-use crate::knowledge::{known_to_hold, learnt, Act, Kind, Knowledge, DIGITS};
+use crate::knowledge::{judgement, known_to_hold, learnt, Act, Judgement, Kind, Knowledge, DIGITS};
 use crate::plan::PLAN_MOST;
 use crate::question::{bits, Question};
 use crate::questions::{any_letters, any_question, by_hand, climb, plain_letters, spoilt_climb};
@@ -190,11 +190,17 @@ fn own_knowledge(group: &mut Group) {
                     agrees(*v, i, if start { known.start } else { known.now })
                 })
             };
-            let holds = (0..1 << n).filter(|v| fits(v, false)).all(|v| rule >> v & 1 == 1);
-            let mut values: Vec<u128> = (0..1 << n).filter(|v| fits(v, true)).map(|v| rule >> v & 1).collect();
-            values.dedup();
-            let right =
-                known_to_hold(rule, state.presents()) == holds && learnt(rule, state.starts()) == (values.len() == 1);
+            let values = |start| (0..1 << n).filter(|v| fits(v, start)).map(|v| rule >> v & 1).collect::<BTreeSet<_>>();
+            let told = |values: &BTreeSet<u128>| match (values.contains(&1), values.contains(&0)) {
+                (true, false) => Judgement::TrueAtAll,
+                (false, true) => Judgement::FalseAtAll,
+                _ => Judgement::Neither,
+            };
+            let (present, start) = (values(false), values(true));
+            let right = judgement(rule, state.presents()) == told(&present)
+                && judgement(rule, state.starts()) == told(&start)
+                && known_to_hold(rule, state.presents()) == !present.contains(&0)
+                && learnt(rule, state.starts()) == (start.len() == 1);
             group.case(right, || format!("n {n}, state {number}, rule {rule:x}"));
         }
     }

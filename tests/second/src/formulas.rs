@@ -113,7 +113,7 @@ fn by_hand(group: &mut Group) {
         table[0] = byte;
         Ok(table)
     };
-    let refused = |number, place| Err(Refusal { number, place });
+    let refused = |number, place| Err(Refusal::at(number, place));
     let halves = |low: u8, high: u8| {
         let mut table = [low; 16];
         table[8..].fill(high);

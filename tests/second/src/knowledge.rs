@@ -103,14 +103,32 @@ impl Knowledge {
     }
 }
 
+/// What the fitting valuations say of a table, by request R-3.
+#[derive(Clone, Copy, PartialEq, Eq, PartialOrd, Ord, Debug)]
+pub enum Judgement {
+    TrueAtAll,
+    FalseAtAll,
+    Neither,
+}
+
+/// Some valuation always fits, so no table is true at all and false at all.
+pub fn judgement(table: u128, fitting: u128) -> Judgement {
+    assert_ne!(fitting, 0, "no valuation fits");
+    match (fitting & table, fitting & !table) {
+        (_, 0) => Judgement::TrueAtAll,
+        (0, _) => Judgement::FalseAtAll,
+        _ => Judgement::Neither,
+    }
+}
+
 /// A rule is known to hold if it is true at every fitting present valuation.
 pub fn known_to_hold(rule: u128, presents: u128) -> bool {
-    presents & !rule == 0
+    judgement(rule, presents) == Judgement::TrueAtAll
 }
 
 /// A learn formula is settled if it has one same value at all fitting start valuations.
 pub fn learnt(formula: u128, starts: u128) -> bool {
-    starts & formula == 0 || starts & !formula == 0
+    judgement(formula, starts) != Judgement::Neither
 }
 
 #[derive(Clone, Copy, PartialEq, Eq, Debug)]

@@ -31,7 +31,7 @@ pub fn read(text: Text, bytes: &[u8]) -> Result<Desk, Refusal> {
     for (i, line) in lines.iter().enumerate() {
         let passed_over = text != Text::Sheet && (line.is_empty() || line.starts_with(b"#"));
         if !passed_over {
-            desk.take(line).map_err(|number| Refusal { number, place: i as u32 + 1 })?;
+            desk.take(line).map_err(|number| Refusal::at(number, i as u32 + 1))?;
         }
     }
     let end = if text == Text::Rules { Due::RightOrTeam } else { Due::Ask };

@@ -1,5 +1,5 @@
-//! The second program: paper 01, issue 18's texts and request R-1's shifts written again, independently, and compared
-//! with the proved library on many inputs, valid and damaged, to the last bit of every result and every lent byte.
+//! The second program: paper 01, issue 18's texts and requests written again, independently, and compared with
+//! the proved library on many inputs, valid and damaged, to the last bit of every result and every lent byte.
 //! ../README.md tells how it is run.
 //!
 //! An area of the library is two files: what the paper says (`formula.rs`) and the cases to try (`formulas.rs`). It
@@ -19,6 +19,7 @@ mod formulas;
 mod grow;
 mod knowledge;
 mod lines;
+mod not_permitted;
 mod plan;
 mod plan_text;
 mod plan_texts;

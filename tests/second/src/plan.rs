@@ -1,4 +1,5 @@
-//! Plans, and the check of their bytes, from paper 01's section on them and its refusals 16 to 21 alone.
+//! Plans, and the check of their bytes, from paper 01's section on them and its refusals 16 to 21 alone, with request
+//! R-3's second number of 18.
 //!
 //! The check reads each byte at the state that its branch has come to; states of branches that were left for later wait
 //! in a row. Beside it stands what a plan is, a tree, which the check is compared with.
@@ -24,11 +25,11 @@ pub fn check(question: &Question, plan: &[u8]) -> Result<(), Refusal> {
             }
             continue;
         }
-        match Act::of_byte(byte).filter(|&act| asked.names(act)) {
-            None => return refusal(17, index),
-            Some(act) if !asked.permits(&state, act) => return refusal(18, index),
-            Some(act) => waiting.extend(act.outcomes(&state).into_iter().rev()),
+        let Some(act) = Act::of_byte(byte).filter(|&act| asked.names(act)) else { return refusal(17, index) };
+        if let Some(reason) = asked.not_permitted(&state, state.presents(), act) {
+            return Err(Refusal::at(18, index as u32).with_second(reason.second()));
         }
+        waiting.extend(act.outcomes(&state).into_iter().rev());
     }
     if waiting.is_empty() {
         Ok(())

@@ -6,6 +6,7 @@ use std::path::{Path, PathBuf};
 use std::process::{self, Command, Stdio};
 
 use crate::books::{repaired, written};
+use crate::checking::always;
 use crate::damage::{deleted, inserted, replaced};
 use crate::ffi;
 use crate::knowledge::{Act, Kind};
@@ -42,8 +43,11 @@ pub fn test(subject: &mut Subject) {
     }
     subject.must_reach(7, 0..=1);
     subject.must_reach(9, 1..=1);
-    for number in [17, 18, 19, 20] {
+    for number in [17, 19, 20] {
         subject.must_reach(number, 0..=ROW);
+    }
+    for second in 0..=2 {
+        subject.must_reach_second(18, second, 0..=ROW);
     }
     subject.must_reach(21, 1..=1 + ROW);
     subject.must_reach(22, 1..=10);
@@ -144,13 +148,19 @@ const TO_P6: &[(&str, &str)] = &[
     ("0 stop\n", "refused 19 0\n"),
     ("0 stop", "refused 22 2\n"),
     ("0 look c 2\n", "refused 20 1\n"),
-    ("0 look c 1\n", "refused 18 0\n"),
+    ("0 look c 1\n", "refused 18 0 1\n"),
     ("0 look d 2\n", "refused 17 0\n"),
     ("0 look g 8\n", "refused 17 0\n"),
     ("0 look c 3\n", "refused 17 0\n"),
     ("0 set g 8 1\n", "refused 17 0\n"),
-    ("0 set b 1 1\n", "refused 18 0\n"),
-    ("0 look c 2\n1 look c 2\n", "refused 18 1\n"),
+    ("0 look a 1\n", "refused 18 0 1\n"),
+    ("0 set b 1 1\n", "refused 18 0 2\n"),
+    ("0 set a 2 1\n", "refused 18 0 2\n"),
+    ("0 look c 2\n1 look c 2\n", "refused 18 1 0\n"),
+    ("0 look c 2\n1 look c 1\n", "refused 18 1 0\n"),
+    ("0 look c 2\n1 set c 2 0\n", "refused 18 1 1\n"),
+    ("0 look c 2\n1 set b 1 1\n", "refused 18 1 2\n"),
+    ("0 look c 2\n1 set a 2 1\n2 set b 1 1\n3 stop\n1 set a 2 1\n", "refused 18 4 1\n"),
     ("0 look c 2\n1 set a 2 1\n2 stop\n", "refused 19 2\n"),
     ("0 look c 2\n1 set a 2 1\n2 look d 1\n", "refused 17 2\n"),
     ("0 look c 2\n1 set a 2 1\n2 set c 1 1\n3 x\n", "refused 22 5\n"),
@@ -257,7 +267,7 @@ fn printed_plans(group: &mut Group, files: &Files) {
         compare(group, files, &book, &question, &plan[..short]);
         let lines = plan.iter().filter(|&&byte| byte == b'\n').count();
         let cut = plan[..short].iter().rposition(|&byte| byte == b'\n').map_or(0, |end| end + 1);
-        let too_soon = Refusal { number: 20, place: lines as u32 - 2 };
+        let too_soon = Refusal::at(20, lines as u32 - 2);
         expect(group, files, [&book, &question, &plan[..cut]], Err(too_soon));
     }
 }
@@ -293,24 +303,29 @@ fn every_act(group: &mut Group, files: &Files) {
     }
 }
 
+/// Acts that are not permitted by the book of `always`, wherever sets of a lead, and 18's second number.
+const NEVER_PERMITTED: [(&str, u32); 5] =
+    [("0 look a 1\n", 0), ("0 set b 1 1\n", 1), ("0 look c 1\n", 1), ("0 look b 1\n", 2), ("0 set c 1 0\n", 2)];
+
 /// The last line has the fault; the byte in line i + 2 is byte i.
 fn rows(group: &mut Group, files: &Files) {
-    let (book, _) = open(2, 1);
-    let question = b"team 1\nknown\nmake a\n";
+    let book = always().book;
+    let question = b"team 1\nknown ~a\nmake a\n";
     for place in 0..=ROW {
         let row = ["reach 1\n", &"0 set a 1 0\n".repeat(place as usize)].concat();
         for (last, number) in [("0 set g 8 1\n", 17), ("0 stop\n", 19), ("", 20), ("0 stop ", 22)] {
             let plan = [&row, last].concat();
             let place = if number == 22 { place + 2 } else { place };
-            expect(group, files, [&book, question, plan.as_bytes()], Err(Refusal { number, place }));
+            expect(group, files, [&book, question, plan.as_bytes()], Err(Refusal::at(number, place)));
         }
-        if place > 0 {
-            let plan = [&row, "0 look a 1\n"].concat();
-            expect(group, files, [&book, question, plan.as_bytes()], Err(Refusal { number: 18, place }));
+        for (last, second) in NEVER_PERMITTED {
+            let plan = [&row, last].concat();
+            let expected = Refusal::at(18, place).with_second(second);
+            expect(group, files, [&book, question, plan.as_bytes()], Err(expected));
         }
         let plan = [&row.replace("a 1 0", "a 1 1"), "0 stop\n0 stop\n"].concat();
         let known = b"team 1\nknown a\nmake a\n";
-        expect(group, files, [&book, known, plan.as_bytes()], Err(Refusal { number: 21, place: place + 1 }));
+        expect(group, files, [&book, known, plan.as_bytes()], Err(Refusal::at(21, place + 1)));
     }
 }
 
@@ -321,12 +336,7 @@ fn odd_lines(group: &mut Group, files: &Files) {
         let place = group.rng.between(1, lines.len());
         let mut more = lines.clone();
         more.insert(place, odd.as_bytes().to_vec());
-        expect(
-            group,
-            files,
-            [&book, P6_QUESTION, &joined(&more)],
-            Err(Refusal { number: 22, place: place as u32 + 1 }),
-        );
+        expect(group, files, [&book, P6_QUESTION, &joined(&more)], Err(Refusal::at(22, place as u32 + 1)));
     }
     for place in 0..=lines.len() {
         let odd = group.rng.one_of(NO_BYTE).as_bytes().to_vec();
@@ -379,7 +389,7 @@ fn moved_lines(group: &mut Group, files: &Files) {
 fn lengths(group: &mut Group, files: &Files) {
     let (book, question) = open(7, 8);
     let row = |count: usize, end: &str| ["reach 0\n", &"0 set g 8 1\n".repeat(count), end].concat().into_bytes();
-    let refused = |number, place| Err(Refusal { number, place });
+    let refused = |number, place| Err(Refusal::at(number, place));
     let cases = [
         (row(PLAN_MOST - 1, "0 stop\n"), Ok(())),
         (row(PLAN_MOST, ""), refused(20, PLAN_MOST as u32)),

@@ -1,7 +1,8 @@
-//! A question: a book, a team, what it knows, and a goal; from paper 01's refusals 6 to 12 alone.
+//! A question: a book, a team, what it knows, and a goal; from paper 01's refusals 6 to 12 alone, and from request R-3
+//! why an act is not permitted.
 
 use crate::book;
-use crate::knowledge::{known_to_hold, learnt, Act, Kind, Knowledge, DIGITS};
+use crate::knowledge::{judgement, known_to_hold, learnt, Act, Judgement, Kind, Knowledge, DIGITS};
 use crate::refusal::{refusal, Refusal};
 use crate::tables::all;
 
@@ -25,6 +26,26 @@ pub struct Asked {
     pub start: Knowledge,
     make: u128,
     learn: Vec<u128>,
+}
+
+/// Why an act of the book and team is not permitted.
+#[derive(Clone, Copy, PartialEq, Eq, Debug)]
+pub enum NotPermitted {
+    /// A look at a setting of which a value is known, whatever the look rule says.
+    KnownSetting,
+    SurelyFalse,
+    NotKnown,
+}
+
+impl NotPermitted {
+    /// Refusal 18's second number.
+    pub fn second(self) -> u32 {
+        match self {
+            NotPermitted::KnownSetting => 0,
+            NotPermitted::SurelyFalse => 1,
+            NotPermitted::NotKnown => 2,
+        }
+    }
 }
 
 impl Question {
@@ -67,15 +88,26 @@ impl Asked {
         self.rules[act.setting * 16 + act.post * 2 + usize::from(act.kind != Kind::Look)]
     }
 
-    /// Set where the set rule is known to hold; look where the look rule is, and the digit is 0.
+    /// Of an act of this book and team: set where the set rule is known to hold; look where the look rule is, and the
+    /// digit is 0. `presents` are all fitting present valuations.
+    pub fn not_permitted(&self, knowledge: &Knowledge, presents: u128, act: Act) -> Option<NotPermitted> {
+        if act.kind == Kind::Look && knowledge.of_setting(act.setting) != DIGITS[0] {
+            return Some(NotPermitted::KnownSetting);
+        }
+        match judgement(self.rule(act), presents) {
+            Judgement::TrueAtAll => None,
+            Judgement::FalseAtAll => Some(NotPermitted::SurelyFalse),
+            Judgement::Neither => Some(NotPermitted::NotKnown),
+        }
+    }
+
     pub fn permits(&self, knowledge: &Knowledge, act: Act) -> bool {
         self.permits_where(knowledge, knowledge.presents(), act)
     }
 
     /// The same for one who asks of many acts and has all fitting present valuations at hand.
     pub fn permits_where(&self, knowledge: &Knowledge, presents: u128, act: Act) -> bool {
-        let new = act.kind != Kind::Look || knowledge.of_setting(act.setting) == DIGITS[0];
-        self.names(act) && new && known_to_hold(self.rule(act), presents)
+        self.names(act) && self.not_permitted(knowledge, presents, act).is_none()
     }
 
     /// All acts there are, by their bytes.

@@ -61,13 +61,13 @@ fn whole(count: usize, valuation: u64) -> Replayed {
 
 /// The record with this index is at fault, at this valuation.
 fn fault(number: u32, index: usize, valuation: u64) -> Replayed {
-    let outcome = Err(Refusal { number, place: index as u32 });
+    let outcome = Err(Refusal::at(number, index as u32));
     Replayed { outcome, ..whole(index, valuation) }
 }
 
 /// Nothing was played.
 fn refused(number: u32, place: usize) -> Replayed {
-    Replayed { outcome: Err(Refusal { number, place: place as u32 }), reached: None }
+    Replayed { outcome: Err(Refusal::at(number, place as u32)), reached: None }
 }
 
 fn compare(group: &mut Group, station: &Station, start: u64, shift: &[u8]) {

@@ -12,6 +12,9 @@ use crate::rng::Rng;
 const FAILURES_SHOWN: usize = 3;
 const BYTES_SHOWN: usize = 320;
 
+/// How often each refusal was given, by its number and second number, then by its place.
+type Reached = BTreeMap<(u32, Option<u32>), BTreeMap<u32, usize>>;
+
 pub struct Report {
     seed: u64,
     more: usize,
@@ -31,9 +34,9 @@ impl Report {
         if subject.accepted > 0 {
             println!("        {name}: accepted: {} cases", counted(subject.accepted));
         }
-        for (number, places) in &subject.reached {
-            let cases = counted(places.values().sum());
-            println!("        {name}: refusal {number}: {cases} cases at {} places", counted(places.len()));
+        for (&(number, second), places) in &subject.reached {
+            let (refusal, cases) = (named(number, second), counted(places.values().sum()));
+            println!("        {name}: {refusal}: {cases} cases at {} places", counted(places.len()));
         }
     }
 
@@ -48,7 +51,7 @@ impl Report {
 pub struct Subject<'a> {
     report: &'a Report,
     name: &'static str,
-    reached: BTreeMap<u32, BTreeMap<u32, usize>>,
+    reached: Reached,
     accepted: usize,
 }
 
@@ -57,11 +60,12 @@ impl Subject<'_> {
         let name = format!("{}: {name}", self.name);
         let rng = Rng::named(self.report.seed, &name);
         let more = self.report.more;
-        let mut group = Group { name, rng, more, cases: 0, failures: 0, reached: Vec::new(), accepted: 0 };
+        let mut group = Group { name, rng, more, cases: 0, failures: 0, reached: Reached::new(), accepted: 0 };
         cases(&mut group);
         self.accepted += group.accepted;
-        for refusal in group.reached {
-            *self.reached.entry(refusal.number).or_default().entry(refusal.place).or_default() += 1;
+        for (refusal, places) in group.reached {
+            let so_far = self.reached.entry(refusal).or_default();
+            places.into_iter().for_each(|(place, count)| *so_far.entry(place).or_default() += count);
         }
         let (name, cases) = (group.name, counted(group.cases));
         if group.failures == 0 && group.cases > 0 {
@@ -73,19 +77,25 @@ impl Subject<'_> {
         }
     }
 
-    /// A test of the tests so far: this refusal was given at each of these places.
+    /// A test of the tests so far: this refusal, which has no second number, was given at each of these places.
     pub fn must_reach(&mut self, number: u32, places: RangeInclusive<u32>) {
-        let reached = self.reached.get(&number).cloned().unwrap_or_default();
+        self.reached_at_each(number, None, places);
+    }
+
+    /// The same of a refusal with this second number.
+    pub fn must_reach_second(&mut self, number: u32, second: u32, places: RangeInclusive<u32>) {
+        self.reached_at_each(number, Some(second), places);
+    }
+
+    fn reached_at_each(&mut self, number: u32, second: Option<u32>, places: RangeInclusive<u32>) {
+        let reached = self.reached.get(&(number, second)).cloned().unwrap_or_default();
+        let refusal = named(number, second);
         let name = if places.start() == places.end() {
-            format!("refusal {number} was reached, at {}", places.start())
+            format!("{refusal} was reached, at {}", places.start())
         } else {
-            format!("refusal {number} was reached at each place from {} to {}", places.start(), places.end())
+            format!("{refusal} was reached at each place from {} to {}", places.start(), places.end())
         };
-        self.group(&name, |group| {
-            for place in places {
-                group.case(reached.contains_key(&place), || format!("never at {place}"));
-            }
-        });
+        self.group(&name, |group| group.each_is_among(&reached, places, &refusal));
     }
 }
 
@@ -95,7 +105,7 @@ pub struct Group {
     more: usize,
     cases: usize,
     failures: usize,
-    reached: Vec<Refusal>,
+    reached: Reached,
     accepted: usize,
 }
 
@@ -119,8 +129,29 @@ impl Group {
     pub fn came_to<T>(&mut self, outcome: Result<T, Refusal>) {
         match outcome {
             Ok(_) => self.accepted += 1,
-            Err(refusal) => self.reached.push(refusal),
+            Err(Refusal { number, place, second }) => {
+                *self.reached.entry((number, second)).or_default().entry(place).or_default() += 1;
+            }
         }
+    }
+
+    /// A test of this group's own cases so far: the refusal with this second number was given at each of these places.
+    pub fn must_reach_second(&mut self, number: u32, second: u32, places: RangeInclusive<u32>) {
+        let reached = self.reached.get(&(number, Some(second))).cloned().unwrap_or_default();
+        self.each_is_among(&reached, places, &named(number, Some(second)));
+    }
+
+    fn each_is_among(&mut self, reached: &BTreeMap<u32, usize>, places: RangeInclusive<u32>, refusal: &str) {
+        for place in places {
+            self.case(reached.contains_key(&place), || format!("{refusal} never at {place}"));
+        }
+    }
+}
+
+fn named(number: u32, second: Option<u32>) -> String {
+    match second {
+        None => format!("refusal {number}"),
+        Some(second) => format!("refusal {number} with {second}"),
     }
 }
 

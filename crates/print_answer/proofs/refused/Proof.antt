@@ -1,95 +1,29 @@
--- `refused` meets its contract: its five pieces one after the other; a number of 64 bits has at most 20 digits, so places stay small.
+-- `refused` meets its contract: the line, and its end.
 use borrow.Author.Needs.{needs}
 use native.Mathlib.Omega.{arith}
-use Prim.Native.Nat.{_≤_}
-use lib.ListN.{length}
-use Rattle.print_room.specs.Decimal.{decimal}
-use Rattle.print_room.proofs.Decimals.{decimal-length}
 use Rattle.print_room.proofs.Writing.{wrote-then}
 use Rattle.print_answer.proofs.Fitted.{prints}
+use Rattle.print_answer.proofs.Lengths.{refused-at-length}
 use Rattle.print_answer.proofs.refused.Statement.{statement}
 use Rattle.print_answer.proofs.refused.Tie as tie
 
--- whichever of the two is printed where
-digits : (c : tie.Start) → (length (decimal (c .args .number)) ≤ 20) × (length (decimal (c .args .place)) ≤ 20)
-digits c = (decimal-length 19 (c .args .number) (omega arith), decimal-length 19 (c .args .place) (omega arith))
-
-slice-aggregate-word : tie.Need-slice-aggregate-word
-slice-aggregate-word c = search needs
-
-word-requires : tie.Need-word-requires
-word-requires c κs = search needs
-
-number-requires : tie.Need-number-requires
-number-requires c κs =
-    let after-word : tie.After-word = search in
-    let start : tie.Start = search in
-    let d = digits start in
-    record { below = omega (arith, after-word .word .ensures .next-place, d .0, d .1) }
+refused-at-requires : tie.Need-refused-at-requires
+refused-at-requires c κs = search needs
 
 put-requires : tie.Need-put-requires
 put-requires c κs =
-    let after-number : tie.After-number = search in
-    let after-word : tie.After-word = search in
     let start : tie.Start = search in
-    let d = digits start in
-    record { below = omega (arith, after-word .word .ensures .next-place, after-number .number .ensures .next-place, d .0, d .1) }
-
-number-requires-2 : tie.Need-number-requires-2
-number-requires-2 c κs =
-    let after-put : tie.After-put = search in
-    let after-number : tie.After-number = search in
-    let after-word : tie.After-word = search in
-    let start : tie.Start = search in
-    let d = digits start in
-    record {
-      below = omega (arith, after-word .word .ensures .next-place, after-number .number .ensures .next-place, after-put .put .ensures .next-place, d .0, d .1);
-    }
-
-put-requires-2 : tie.Need-put-requires-2
-put-requires-2 c κs =
-    let after-number2 : tie.After-number2 = search in
-    let after-put : tie.After-put = search in
-    let after-number : tie.After-number = search in
-    let after-word : tie.After-word = search in
-    let start : tie.Start = search in
-    let d = digits start in
-    record {
-      below
-          = omega (
-            arith,
-            after-word .word .ensures .next-place,
-            after-number .number .ensures .next-place,
-            after-put .put .ensures .next-place,
-            after-number2 .number2 .ensures .next-place,
-            d .0,
-            d .1,
-          );
-    }
+    let after-refused-at : tie.After-refused-at = search in
+    record { below = omega (arith, after-refused-at .refused-at .ensures .next-place, refused-at-length (start .args .number) (start .args .place) (omega arith) (omega arith)) }
 
 same-length : tie.Need-same-length
 same-length c = search needs
 
 returns : tie.Need-returns
 returns c =
-    let after-put2 : tie.After-put2 = search in
-    let after-number2 : tie.After-number2 = search in
     let after-put : tie.After-put = search in
-    let after-number : tie.After-number = search in
-    let after-word : tie.After-word = search in
-    prints (wrote-then (wrote-then (wrote-then
-    (wrote-then (after-word .word .ensures) (after-number .number .ensures))
-    (after-put .put .ensures)) (after-number2 .number2 .ensures)) (after-put2 .put2 .ensures))
+    let after-refused-at : tie.After-refused-at = search in
+    prints (wrote-then (after-refused-at .refused-at .ensures) (after-put .put .ensures))
 
 pub refused-spec : {M : Type 1} → statement M
-refused-spec =
-    tie.close
-    (tie.spec
-    slice-aggregate-word
-    word-requires
-    number-requires
-    put-requires
-    number-requires-2
-    put-requires-2
-    same-length
-    returns)
+refused-spec = tie.close (tie.spec refused-at-requires put-requires same-length returns)

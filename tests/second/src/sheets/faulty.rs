@@ -76,7 +76,7 @@ pub fn every_line(group: &mut Group) {
     let expect_at = |group: &mut Group, line: usize, new: Vec<u8>, number: u32| {
         let mut lines = lines.clone();
         lines[line] = new;
-        let refused = Refusal { number, place: line as u32 + 1 };
+        let refused = Refusal::at(number, line as u32 + 1);
         expect(group, &joined(&lines), 20, &format!("{refused}\n"));
     };
     for line in 0..lines.len() {
@@ -93,7 +93,7 @@ pub fn every_line(group: &mut Group) {
             let mut lines = lines[fewer..MAKE_LINE as usize].to_vec();
             lines[0] = b"size 5 8".to_vec();
             *lines.last_mut().unwrap() = format!("make {formula}").into_bytes();
-            let refused = Refusal { number, place: lines.len() as u32 };
+            let refused = Refusal::at(number, lines.len() as u32);
             expect(group, &joined(&lines), 20, &format!("{refused}\n"));
         }
     }

@@ -119,7 +119,7 @@ fn parts_answer(group: &mut Group, rules: &[u8], question: &[u8], room: usize) -
     match (printed.starts_with("refused "), &numbers[..]) {
         (true, &[number, line]) => {
             let before = rules.iter().filter(|&&byte| byte == b'\n').count() as u32;
-            format!("{}\n", Refusal { number, place: before + line })
+            format!("{}\n", Refusal::at(number, before + line))
         }
         _ => printed,
     }

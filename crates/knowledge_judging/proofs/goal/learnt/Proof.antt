@@ -8,7 +8,7 @@ use borrow.Author.Count.{below-more}
 use borrow.Author.Tests.{not-true, not-false}
 use Rattle.ground.proofs.Bools.{true→T}
 use Rattle.knowledge.specs.Number.{digitIn}
-use Rattle.knowledge.specs.Fits.{learnSettled}
+use Rattle.knowledge.specs.Judgement.{learnSettled}
 use Rattle.knowledge.specs.Goal.{learnTable}
 use Rattle.knowledge_judging.proofs.GoalLaws.{learn-at, Learnt, learnt-all, learnt-not}
 use Rattle.knowledge_judging.proofs.goal.learnt.Statement.{statement}
@@ -23,28 +23,31 @@ abbrev μ-loop : tie.MeasureT-loop
 loop-holds : tie.Need-loop-holds Inv-loop μ-loop
 loop-holds c = (c .before .pre, omega arith, λ i l. absurd (omega arith))
 
-mul-learn-settled : tie.Need-mul-learn-settled Inv-loop μ-loop
-mul-learn-settled c = omega arith
+mul-judge : tie.Need-mul-judge Inv-loop μ-loop
+mul-judge c = omega arith
 
-learn-settled-requires : tie.Need-learn-settled-requires Inv-loop μ-loop
-learn-settled-requires c κs = search needs
+judge-requires : tie.Need-judge-requires Inv-loop μ-loop
+judge-requires c κs = search needs
 
-abbrev at-loop-of-after-learn-settled : tie.After-learn-settled Inv-loop μ-loop → tie.At-loop Inv-loop μ-loop
-at-loop-of-after-learn-settled c = search
+settles-requires : tie.Need-settles-requires Inv-loop μ-loop
+settles-requires c κs = search needs
 
-abbrev start-of-after-learn-settled : tie.After-learn-settled Inv-loop μ-loop → tie.Start Inv-loop μ-loop
-start-of-after-learn-settled c = search
+abbrev at-loop-of-after-settles : tie.After-settles Inv-loop μ-loop → tie.At-loop Inv-loop μ-loop
+at-loop-of-after-settles c = search
+
+abbrev start-of-after-settles : tie.After-settles Inv-loop μ-loop → tie.Start Inv-loop μ-loop
+start-of-after-settles c = search
 
 -- what the test of the table with index j tells
-tested : (c : tie.After-learn-settled Inv-loop μ-loop) →
-    let a = start-of-after-learn-settled c .args in
-    c .learn-settled .result ≡ learnSettled (a .n) (digitIn (a .state .digits)) (learnTable (a .learn .now) (at-loop-of-after-learn-settled c .loop .j))
+tested : (c : tie.After-settles Inv-loop μ-loop) →
+    let a = start-of-after-settles c .args in
+    c .settles .result ≡ learnSettled (a .n) (digitIn (a .state .digits)) (learnTable (a .learn .now) (at-loop-of-after-settles c .loop .j))
 tested c =
     let at-loop : tie.At-loop Inv-loop μ-loop = search in
     let start : tie.Start Inv-loop μ-loop = search in
     let a = start .args in
     let r = at-loop .loop in
-    c .learn-settled .ensures ∙ learn-at (a .n) (digitIn (a .state .digits)) (a .learn .now) (r .inv .0) (r .j)
+    learn-at (a .n) (digitIn (a .state .digits)) (a .learn .now) (r .inv .0) (r .j) (c .before .judge .ensures) (c .settles .ensures)
 
 returns : tie.Need-returns Inv-loop μ-loop
 returns c =
@@ -82,8 +85,9 @@ learnt-spec =
     Inv-loop
     μ-loop
     loop-holds
-    mul-learn-settled
-    learn-settled-requires
+    mul-judge
+    judge-requires
+    settles-requires
     returns
     add-j
     loop-less

@@ -23,17 +23,11 @@ from-number-requires c κs = search needs
 permits-requires : tie.Need-permits-requires
 permits-requires c κs = search needs
 
-returns-2 : tie.Need-returns-2
-returns-2 c =
-    let start : tie.Start = search in
-    let asked : tie.After-offered = search in
-    let ours : tie.Else1 = search in
-    let state : tie.After-from-number = search in
-    let judged : tie.After-permits = search in
-    let a = start .args in
-    act-forbidden (a .at) (a .k) (a .act) (sym (asked .offered .ensures) ∙ not-false _ (ours .if1 .left))
-    (permits-at (a .n) (a .book .now) (a .k) (a .act) (start .pre .0) (start .pre .1) (state .from-number .ensures) (judged .permits .ensures)
-    ∙ not-true _ (c .if2 .taken))
+enum-known-why : tie.Need-enum-known-why
+enum-known-why c = search needs
+
+enum-told : tie.Need-enum-told
+enum-told c = search needs
 
 outcomes-of-requires : tie.Need-outcomes-of-requires
 outcomes-of-requires c κs =
@@ -44,6 +38,19 @@ outcomes-of-requires c κs =
     let below = offered-setting (a .n) (a .team) (a .act) (sym (asked .offered .ensures) ∙ not-false _ (ours .if1 .left)) in
     (start .pre .1, omega (arith, start .pre .0, below))
 
+returns-2 : tie.Need-returns-2
+returns-2 c =
+    let start : tie.Start = search in
+    let asked : tie.After-offered = search in
+    let ours : tie.Else1 = search in
+    let state : tie.After-from-number = search in
+    let judged : tie.After-permits = search in
+    let denied : tie.After-why = search in
+    let a = start .args in
+    act-forbidden (a .at) (a .k) (a .act) (sym (asked .offered .ensures) ∙ not-false _ (ours .if1 .left))
+    (permits-at (a .n) (a .book .now) (a .k) (a .act) (start .pre .0) (start .pre .1) (state .from-number .ensures) (judged .permits .ensures)
+    ∙ denied .why .given .1)
+
 returns-3 : tie.Need-returns-3
 returns-3 c =
     let start : tie.Start = search in
@@ -51,11 +58,11 @@ returns-3 c =
     let ours : tie.Else1 = search in
     let state : tie.After-from-number = search in
     let judged : tie.After-permits = search in
-    let permitted : tie.Else2 = search in
+    let permitted : tie.After-enum-told = search in
     let a = start .args in
     act-done (a .at) (a .k) (a .act) (sym (asked .offered .ensures) ∙ not-false _ (ours .if1 .left))
     (permits-at (a .n) (a .book .now) (a .k) (a .act) (start .pre .0) (start .pre .1) (state .from-number .ensures) (judged .permits .ensures)
-    ∙ not-false _ (permitted .if2 .left))
+    ∙ permitted .enum-told .given .1)
     (c .outcomes-of .ensures)
 
 pub read-act-spec : {M : Type 1} → statement M
@@ -66,6 +73,8 @@ read-act-spec =
     returns
     from-number-requires
     permits-requires
-    returns-2
+    enum-known-why
+    enum-told
     outcomes-of-requires
+    returns-2
     returns-3)

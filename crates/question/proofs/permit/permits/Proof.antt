@@ -1,19 +1,20 @@
--- `question::permit::permits` meets its contract: by the kind of act; a rule's table is the part of the book that begins there.
+-- `question::permit::permits` meets its contract: by the kind of act, and of a look first by the digit.
 use borrow.Author.Needs.{needs}
+use borrow.Author.Tests.{lt-leb}
 use mathlib.Core.Path.{sym, _∙_}
 use Rattle.knowledge.specs.Number.{digitIn}
-use Rattle.question.proofs.PermitLaws.{set-permitted, look-permitted, look-refused}
+use Rattle.question.proofs.PermitLaws.{set-says, look-says, look-at-known}
 use Rattle.question.proofs.permit.permits.Statement.{statement}
 use Rattle.question.proofs.permit.permits.Tie as tie
+
+returns : tie.Need-returns
+returns c = rw (lt-leb _ _ (c .if1 .taken))
 
 enum-known-act : tie.Need-enum-known-act
 enum-known-act c = search needs
 
-rule-at-requires : tie.Need-rule-at-requires
-rule-at-requires c κs = search needs
-
-known-to-hold-requires : tie.Need-known-to-hold-requires
-known-to-hold-requires c κs = search needs
+by-rule-requires : tie.Need-by-rule-requires
+by-rule-requires c κs = search needs
 
 enum-known-act-2 : tie.Need-enum-known-act-2
 enum-known-act-2 c = search needs
@@ -21,56 +22,53 @@ enum-known-act-2 c = search needs
 digit-requires : tie.Need-digit-requires
 digit-requires c κs = search needs
 
-returns : tie.Need-returns
-returns c =
-    let after-act2 : tie.After-act2 = search in
-    let start : tie.Start = search in
-    let a = start .args in
-    let told = after-act2 .act2 .given in
-    rw (told .1)
-    (look-refused (a .n) (a .book .now) (digitIn (a .state .digits)) (told .0 .0) (told .0 .1 .0)
-    (λ e. c .if1 .taken (c .before .digit .ensures ∙ e)))
-
-rule-at-requires-2 : tie.Need-rule-at-requires-2
-rule-at-requires-2 c κs = search needs
-
-known-to-hold-requires-2 : tie.Need-known-to-hold-requires-2
-known-to-hold-requires-2 c κs = search needs
-
 returns-2 : tie.Need-returns-2
 returns-2 c =
-    let after-act : tie.After-act = search in
     let start : tie.Start = search in
+    let few : tie.Else1 = search in
+    let look : tie.After-act2 = search in
     let a = start .args in
-    let told = after-act .act .given in
+    let told = look .act2 .given in
     rw (told .1)
-    (rw (c .before .rule-at .ensures) at (c .known-to-hold .ensures)
-    ∙ set-permitted (a .n) (a .book .now) (digitIn (a .state .digits)) (told .0 .0) (told .0 .1 .0) (told .0 .1 .1 .0))
+    (look-at-known (few .if1 .left) (a .book .now) (digitIn (a .state .digits)) (told .0 .0) (told .0 .1 .0)
+    (λ e. c .if2 .taken (c .before .digit .ensures ∙ e)))
+
+by-rule-requires-2 : tie.Need-by-rule-requires-2
+by-rule-requires-2 c κs = search needs
 
 returns-3 : tie.Need-returns-3
 returns-3 c =
-    let else1 : tie.Else1 = search in
-    let after-digit : tie.After-digit = search in
-    let after-act2 : tie.After-act2 = search in
     let start : tie.Start = search in
+    let few : tie.Else1 = search in
+    let set : tie.After-act = search in
     let a = start .args in
-    let told = after-act2 .act2 .given in
+    let told = set .act .given in
     rw (told .1)
-    (rw (c .before .rule-at2 .ensures) at (c .known-to-hold2 .ensures)
-    ∙ look-permitted (a .n) (a .book .now) (digitIn (a .state .digits)) (told .0 .0) (told .0 .1 .0)
-    (sym (after-digit .digit .ensures) ∙ else1 .if1 .left))
+    (set-says (few .if1 .left) (a .book .now) (digitIn (a .state .digits)) (told .0 .0) (told .0 .1 .0) (told .0 .1 .1 .0) (c .by-rule .ensures))
+
+returns-4 : tie.Need-returns-4
+returns-4 c =
+    let start : tie.Start = search in
+    let few : tie.Else1 = search in
+    let look : tie.After-act2 = search in
+    let unknown : tie.Else2 = search in
+    let asked : tie.After-digit = search in
+    let a = start .args in
+    let told = look .act2 .given in
+    rw (told .1)
+    (look-says (few .if1 .left) (a .book .now) (digitIn (a .state .digits)) (told .0 .0) (told .0 .1 .0)
+    (sym (asked .digit .ensures) ∙ unknown .if2 .left) (c .by-rule2 .ensures))
 
 pub permits-spec : {M : Type 1} → statement M
 permits-spec =
     tie.close
     (tie.spec
+    returns
     enum-known-act
-    rule-at-requires
-    known-to-hold-requires
+    by-rule-requires
     enum-known-act-2
     digit-requires
-    returns
-    rule-at-requires-2
-    known-to-hold-requires-2
     returns-2
-    returns-3)
+    by-rule-requires-2
+    returns-3
+    returns-4)

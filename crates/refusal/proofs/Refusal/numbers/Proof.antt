@@ -1,5 +1,5 @@
 -- `numbers` meets its contract: in each arm the refusal is that arm's case, and the helper gives that case's row of the table. In a line below, the call
--- counts the arms; `self` counts those with a place, and `enum-told` those without.
+-- counts the arms but that of 18, which has a helper of its own; `self` counts those with a place, and `enum-told` those without.
 use mathlib.Core.Path.{_≡_, sym, ap, _∙_}
 use Rattle.refusal.specs.declared.Refusal.{Refusal}
 use Rattle.refusal.specs.declared.Numbers.{Numbers}
@@ -60,15 +60,15 @@ numbers-spec =
     (λ c. shown (c .numbered15 .ensures) (c .before .enum-told9 .given .1))
     (λ c. shown (c .numbered16 .ensures) (c .before .enum-told10 .given .1))
     (λ c. shown (c .numbered17 .ensures) (c .before .before .self7 .given .1))
-    (λ c. shown (c .numbered18 .ensures) (c .before .before .self8 .given .1))
-    (λ c. shown (c .numbered19 .ensures) (c .before .before .self9 .given .1))
-    (λ c. shown (c .numbered20 .ensures) (c .before .before .self10 .given .1))
-    (λ c. shown (c .numbered21 .ensures) (c .before .before .self11 .given .1))
-    (λ c. shown (c .numbered22 .ensures) (c .before .before .self12 .given .1))
-    (λ c. shown (c .numbered23 .ensures) (c .before .before .self13 .given .1))
-    (λ c. shown (c .numbered24 .ensures) (c .before .enum-told11 .given .1))
-    (λ c. shown (c .numbered25 .ensures) (c .before .enum-told12 .given .1))
-    (λ c. shown (c .numbered26 .ensures) (c .before .enum-told13 .given .1))
-    (λ c. shown (c .numbered27 .ensures) (c .before .before .self14 .given .1))
-    (λ c. shown (c .numbered28 .ensures) (c .before .before .self15 .given .1))
-    (λ c. shown (c .numbered29 .ensures) (c .before .before .self16 .given .1)))
+    (λ c. shown (c .not-permitted .ensures) (c .before .before .self8 .given .1))
+    (λ c. shown (c .numbered18 .ensures) (c .before .before .self9 .given .1))
+    (λ c. shown (c .numbered19 .ensures) (c .before .before .self10 .given .1))
+    (λ c. shown (c .numbered20 .ensures) (c .before .before .self11 .given .1))
+    (λ c. shown (c .numbered21 .ensures) (c .before .before .self12 .given .1))
+    (λ c. shown (c .numbered22 .ensures) (c .before .before .self13 .given .1))
+    (λ c. shown (c .numbered23 .ensures) (c .before .enum-told11 .given .1))
+    (λ c. shown (c .numbered24 .ensures) (c .before .enum-told12 .given .1))
+    (λ c. shown (c .numbered25 .ensures) (c .before .enum-told13 .given .1))
+    (λ c. shown (c .numbered26 .ensures) (c .before .before .self14 .given .1))
+    (λ c. shown (c .numbered27 .ensures) (c .before .before .self15 .given .1))
+    (λ c. shown (c .numbered28 .ensures) (c .before .before .self16 .given .1)))

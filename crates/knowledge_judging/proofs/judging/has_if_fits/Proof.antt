@@ -1,10 +1,10 @@
--- `knowledge_judging::judge::has_if_fits` meets its contract: by whether the valuation fits, and the value.
+-- `knowledge_judging::judging::has_if_fits` meets its contract: by whether the valuation fits, and the value.
 use borrow.Author.Needs.{needs}
 use mathlib.Core.Path.{sym, _∙_, ap}
 use mathlib.Core.Bool.{not}
 use borrow.Author.Tests.{not-true, not-false}
-use Rattle.knowledge_judging.proofs.judge.has_if_fits.Statement.{statement}
-use Rattle.knowledge_judging.proofs.judge.has_if_fits.Tie as tie
+use Rattle.knowledge_judging.proofs.judging.has_if_fits.Statement.{statement}
+use Rattle.knowledge_judging.proofs.judging.has_if_fits.Tie as tie
 
 fits-requires : tie.Need-fits-requires
 fits-requires c κs = search needs

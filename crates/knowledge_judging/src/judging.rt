@@ -1,18 +1,21 @@
-// What follows from a knowledge state: a rule is judged by its whole table, over every valuation that
-// fits, so that `b|~b` is known where b is not. One function judges, for both sides.
+// The judgement of a table at a side of a knowledge state: by the whole table, over every valuation that
+// fits, so that `b|~b` is known where b is not. One function judges, rules and goals, for both sides.
 use crate::valuation::Side;
 use crate::valuation::Valuation;
 use crate::valuation::fits;
 use ground::valuations;
+use knowledge::Judgement;
 use knowledge::Knowledge;
 ghost use mathlib.Core.Path.{_≡_};
-ghost use mathlib.Core.Bool.{_&&_};
+ghost use mathlib.Core.Bool.{cond};
 ghost use Prim.Native.Nat.{_≤_};
 ghost use lib.Dec.{leb};
 ghost use lib.ListN.{drop};
 ghost use Rattle.ground.specs.Table.{truth};
 ghost use Rattle.knowledge.specs.Number.{digitIn};
-ghost use Rattle.knowledge.specs.Fits.{implies, is, fits, always, known, learnSettled};
+ghost use Rattle.knowledge.specs.Fits.{implies, is, fits, always};
+ghost use Rattle.knowledge.specs.Judgement.{judgement};
+ghost use Rattle.knowledge.specs.declared.judgement.Judgement.the-variants.{Neither};
 ghost use Rattle.knowledge_judging.specs.Sides.{sideOf, bitsOf, toldOf};
 
 // Whether the table that begins at byte `from` has the value at these settings, if they fit.
@@ -51,27 +54,19 @@ fn always(state: Knowledge, n: u8, side: Side, bytes: &[u8], from: usize, value:
     true
 }
 
-// Whether the rule whose table begins at byte `from` is known to hold: true at every present
-// valuation of the n settings that fits. Of more than seven settings nothing is known.
-pub fn known_to_hold(state: Knowledge, n: u8, bytes: &[u8], from: usize) -> bool
-    ensures { λ r. ⌜ r ≡ leb n 7 && known n (digitIn (state .digits)) (drop from (now (bytes .entry))) ⌝ }
-{
-    if n as usize <= Knowledge::MOST {
-        return always(state, n, Side::Now, bytes, from, true);
-    }
-    false
-}
-
-// Whether the learn formula whose table begins at byte `from` has one same value at all start
-// valuations that fit. Of more than seven settings nothing is settled.
-pub fn learn_settled(state: Knowledge, n: u8, bytes: &[u8], from: usize) -> bool
-    ensures { λ r. ⌜ r ≡ leb n 7 && learnSettled n (digitIn (state .digits)) (drop from (now (bytes .entry))) ⌝ }
+// The judgement of the table that begins at byte `from`, at a side of the state. Of more than seven
+// settings it is neither.
+pub fn judge(state: Knowledge, n: u8, side: Side, bytes: &[u8], from: usize) -> Judgement
+    ensures { λ r. ⌜ r ≡ cond (leb n 7) (judgement n (toldOf side (digitIn (state .digits))) (drop from (now (bytes .entry)))) Neither ⌝ }
 {
     if Knowledge::MOST < n as usize {
-        return false;
+        return Judgement::Neither;
     }
-    if always(state, n, Side::Start, bytes, from, true) {
-        return true;
+    if always(state, n, side, bytes, from, true) {
+        return Judgement::TrueAtAll;
     }
-    always(state, n, Side::Start, bytes, from, false)
+    if always(state, n, side, bytes, from, false) {
+        return Judgement::FalseAtAll;
+    }
+    Judgement::Neither
 }

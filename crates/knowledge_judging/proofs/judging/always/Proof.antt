@@ -1,4 +1,4 @@
--- `knowledge_judging::judge::always` meets its contract. The loop's invariant: the table has the value at every fitting valuation
+-- `knowledge_judging::judging::always` meets its contract. The loop's invariant: the table has the value at every fitting valuation
 -- passed. The measure is what is left of the 2 ^ n valuations.
 use borrow.Author.Needs.{needs}
 use mathlib.Core.Path.{_≡_, sym, _∙_}
@@ -14,8 +14,8 @@ use Rattle.knowledge.specs.Fits.{always}
 use Rattle.knowledge_judging.specs.Sides.{toldOf}
 use Rattle.knowledge_judging.proofs.Loop.{none-yet, one-more, fails, passes}
 use Rattle.knowledge_judging.proofs.SideLaws.{has, has-at, size-is, size-most}
-use Rattle.knowledge_judging.proofs.judge.always.Statement.{statement}
-use Rattle.knowledge_judging.proofs.judge.always.Tie as tie
+use Rattle.knowledge_judging.proofs.judging.always.Statement.{statement}
+use Rattle.knowledge_judging.proofs.judging.always.Tie as tie
 
 abbrev Inv-loop : tie.InvT-loop
 Inv-loop state n side bytes from value size v₀ v =
