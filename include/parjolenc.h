@@ -110,7 +110,7 @@ enum {
     // A byte of the plan is above 168, or its setting is at or past n, or its post is not of the team. [its index]
     PJ_REFUSED_NO_ACT = 17,
     // A look is at a setting of which a value is known, or the rule of an act is not known to hold where the act is
-    // due: PJ_SECOND below says which. [its index]
+    // due; the second number says which. [its index]
     PJ_REFUSED_NOT_PERMITTED = 18,
     // The plan stops where the goal is not settled. [the stop's index]
     PJ_REFUSED_NOT_SETTLED = 19,

@@ -1,4 +1,5 @@
-// Each refusal of the header's enum is provoked, and the number and the place that come are those that the header names.
+// Each refusal of the header's enum is provoked, and the number, the place and the second number that come are those that
+// the header names.
 // Both halves of a sentence that has two are tried, and every refusal of a text by each function that takes one. The
 // last test is that none was left out.
 #include "tell.h"
@@ -10,6 +11,13 @@ static int seen[30];
 static void refused(const char *name, pj_u64 result, pj_u64 number, pj_u64 place) {
     test(name, pj_number(result) == number && pj_place(result) == place && pj_second(result) == 0);
     if (number < 30 && pj_number(result) == number) seen[number] = 1;
+}
+
+// 18 with its second number.
+static void denied(const char *name, pj_u64 result, pj_u64 place, pj_u64 second) {
+    test(name, pj_number(result) == PJ_REFUSED_NOT_PERMITTED && pj_place(result) == place && pj_second(result) == second &&
+                   result == (second << 40 | (pj_u64)18 << 32 | place));
+    if (pj_number(result) == PJ_REFUSED_NOT_PERMITTED) seen[18] = 1;
 }
 
 // Whether `out` has the line `refused NUMBER PLACE`, of this length.
@@ -262,9 +270,11 @@ int main(void) {
     wrong[2] = PJ_ACT(PJ_SET_TRUE, 1, 2);
     refused("17: post 3, who is not of the team", checked(wrong, 8), PJ_REFUSED_NO_ACT, 2);
     wrong[2] = PJ_ACT(PJ_SET_TRUE, 1, 1);
-    refused("18: a set that no rule permits", checked(wrong, 8), PJ_REFUSED_NOT_PERMITTED, 2);
+    denied("18: a set that no rule permits", checked(wrong, 8), 2, PJ_SECOND_SURELY_FALSE);
     wrong[2] = PJ_ACT(PJ_LOOK, 2, 1);
-    refused("18: a look at what is known", checked(wrong, 8), PJ_REFUSED_NOT_PERMITTED, 2);
+    denied("18: a look at what is known", checked(wrong, 8), 2, PJ_SECOND_KNOWN_SETTING);
+    static const pj_u8 guess[2] = {PJ_ACT(PJ_SET_TRUE, 0, 1), 0};
+    denied("18: a set whose rule nobody knows to hold", checked(guess, 2), 0, PJ_SECOND_NOT_KNOWN);
     wrong[2] = 0;
     refused("19: a stop before the goal", checked(wrong, 8), PJ_REFUSED_NOT_SETTLED, 2);
     refused("20: seven bytes of eight", checked(steps, 7), PJ_REFUSED_TOO_SOON, 7);

@@ -1,5 +1,5 @@
 -- The page in full strength: each answer of `find` exactly where it is due, for any room; the refusals 6 to 13 exactly; what a yes of the plan check
--- says of the question; what is printed for a sheet, in one statement; and the refusals of a sheet exactly, by the grammar. Those of `find` follow from
+-- says of the question, and where it gives 18, with its second number; what is printed for a sheet, in one statement; and the refusals of a sheet exactly, by the grammar. Those of `find` follow from
 -- the contract's uniqueness: the answer that is due is allowed, so it is the one given.
 use mathlib.Core.Path.{_≡_, refl, sym, ap, _∙_, subst}
 use mathlib.Core.Logic.{_⊎_, inl, inr, _↔_}
@@ -8,7 +8,8 @@ use Prim.Native.Nat.{ℕ, _^_, _≤_, _<_}
 use lib.ListN.{length, drop}
 use Rattle.ground.specs.Search.{Least}
 use Rattle.refusal.specs.declared.Refusal.{Refusal}
-use Rattle.refusal.specs.declared.Refusal.the-variants.{PlanRoom, Malformed, Twice, SheetLength, SheetSettings}
+use Rattle.refusal.specs.declared.Why.{Why}
+use Rattle.refusal.specs.declared.Refusal.the-variants.{PlanRoom, NotPermitted, Malformed, Twice, SheetLength, SheetSettings}
 use Rattle.refusal.specs.Refusals.{number}
 use Rattle.refusal.specs.Order.{First}
 use Rattle.refusal.proofs.OrderLaws.{first-clear}
@@ -30,8 +31,10 @@ use Rattle.finder.specs.declared.answer.Answer.the-variants.{Reach, Cannot, Ref
 use Rattle.finder.proofs.FindLaws.{find-clear}
 use Rattle.finder.proofs.Unique.{answers-unique, find-unique, find-refused}
 use Rattle.plancheck.specs.Checks.{Checks}
-use Rattle.plancheck.specs.declared.answer.CheckAnswer.the-variants.{Yes}
+use Rattle.plancheck.specs.declared.answer.CheckAnswer.{CheckAnswer}
+use Rattle.plancheck.specs.declared.answer.CheckAnswer.the-variants.{Yes, Refused as NotAccepted}
 use Rattle.plancheck.proofs.Theorems.{yes-exact}
+use Rattle.plancheck.proofs.Denied.{DeniedAt, denied-exact}
 use Rattle.print_answer.specs.Printed.{refusedText, cannotText, reachText, Prints}
 use Rattle.sheet_reading.specs.Sheet.{Sheet}
 use Rattle.sheet_reading.specs.Reading.{Meaning, sheetMeaning, refused, stated}
@@ -117,6 +120,12 @@ pub yes-means : (book : List ℕ) (q : Question) (goal : Goal) (plan : List ℕ)
 yes-means book q goal plan said =
     let works = yes-exact (said .valid) plan Yes said .0 refl in
     (said .n, said .m, said .valid, works .0, works .1)
+
+-- ---- 18 "carries a second number": a plan of a valid question gets it exactly where an act is due that this reason denies, in the request's words
+-- (question/proofs/WhyLaws `WhyNot`), and all bytes before it read without a fault
+pub denied : {book : List ℕ} {q : Question} {goal : Goal} {n m : ℕ} → ValidQuestion book q goal n m → (plan : List ℕ) → length plan ≤ 32640
+    → (r : CheckAnswer) → Checks book q goal plan r → (i : ℕ) (why : Why) → (r ≡ NotAccepted (NotPermitted i why)) ↔ DeniedAt n book q goal plan i why
+denied valid plan short r said i why = denied-exact valid plan r said short i why
 
 -- ---- a sheet that is taken asks a question; either a least working plan is printed with its height, or none works and `cannot` is printed
 pub sheet-answered : (s old : List ℕ) (r : ℕ) (new : List ℕ) (sheet : Sheet) → sheetMeaning s ≡ stated sheet → AnswersSheet s old r new

@@ -9,4 +9,5 @@ pub mod AnswerLaws
 pub mod OneAnswer
 pub mod Small
 pub mod Theorems
+pub mod Denied
 pub mod Examples

@@ -15,11 +15,12 @@ use crate::refusal::{told, Refusal};
 use crate::report::{shown, Group, Subject};
 use crate::rng::Rng;
 use crate::room::Room;
+use crate::tables::table;
 
 /// How many places each fault is tried at, one by one.
 const PLACES: usize = 600;
-/// Places at which random plans of any acts have each reason of an act that is not permitted.
-const ANY_PLACES: u32 = 8;
+/// Places at which random plans with any act come to 18 with each second number.
+const ANY_ACT_PLACES: u32 = 20;
 
 pub fn test(subject: &mut Subject) {
     subject.group("this program's own check against plans as trees", own_check);
@@ -27,6 +28,7 @@ pub fn test(subject: &mut Subject) {
     subject.group("written plans", written_plans);
     subject.group("plans that work and are not the written ones", other_plans);
     subject.group("plans of permitted acts, and of any", any_plans);
+    subject.group("any act at every place of random plans", any_act);
     subject.group("every change of one byte of small plans", one_byte);
     subject.group("plans cut short, gone on with, and disarranged", damaged);
     subject.group("every first byte, for every n, some posts and teams", first_bytes);
@@ -181,6 +183,16 @@ fn by_hand_plans(group: &mut Group) {
         (&reasons, &[1, 9, 121, 0, 0], known(2)),
         (&reasons, &[1, 9, 113, 0, 0], known(2)),
     ];
+    let words = [
+        (0, 0x112_0000_0004, "refused 18 4 0"),
+        (1, 0x212_0000_0004, "refused 18 4 1"),
+        (2, 0x312_0000_0004, "refused 18 4 2"),
+    ];
+    for (second, word, printed) in words {
+        let refusal = Refusal::at(18, 4).with_second(second);
+        let right = refusal.word() == word && Refusal::of_word(word) == Some(refusal) && told(word) == printed;
+        group.case(right, || format!("this program's own words for {printed}"));
+    }
     for &(question, plan, expected) in by_hand {
         group.case(check(question, plan) == expected, || format!("this program's own check of {}", shown(plan)));
         expect(group, question, plan, expected);
@@ -224,8 +236,23 @@ fn any_plans(group: &mut Group) {
         };
         compare(group, &question, &plan.bytes());
     }
+}
+
+/// Every stop is settled, so that what is refused is an act.
+fn any_act(group: &mut Group) {
+    for _ in group.times(500) {
+        let n = group.rng.between(1, 7);
+        let question = any_question(&mut group.rng, n);
+        let question = Question { make: table(n, u128::MAX).to_vec(), learn: vec![], ..question };
+        let asked = asked(&question);
+        let plan = permitted(&mut group.rng, &asked, &asked.start, 30, 3).bytes();
+        for place in 0..plan.len().min(30) {
+            let act = group.rng.one_of(&asked.acts());
+            compare(group, &question, &replaced(&plan, place, act.byte()));
+        }
+    }
     for second in 0..=2 {
-        group.must_reach_second(18, second, 0..=ANY_PLACES);
+        group.must_reach_second(18, second, 0..=ANY_ACT_PLACES);
     }
 }
 

@@ -131,7 +131,7 @@ pub fn learnt(formula: u128, starts: u128) -> bool {
     judgement(formula, starts) != Judgement::Neither
 }
 
-#[derive(Clone, Copy, PartialEq, Eq, Debug)]
+#[derive(Clone, Copy, PartialEq, Eq, PartialOrd, Ord, Debug)]
 pub enum Kind {
     Set(bool),
     Look,

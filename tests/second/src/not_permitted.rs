@@ -61,9 +61,9 @@ const WAYS: [&[Way]; 7] = {
     ]
 };
 
-/// What a case came to: the act's kind, the digits of the setting acted on and of the one spoken of, the judgement on the
-/// rule, and refusal 18's second number, or none where the act is permitted.
-type Tried = (usize, usize, usize, Judgement, Option<u32>);
+/// What this program's own check came to: the act's kind, the digits of the setting acted on and of the one spoken of, the
+/// judgement on the rule, and refusal 18's second number, or none where the act is permitted.
+type CameTo = (Kind, usize, usize, Judgement, Option<u32>);
 
 /// In request R-3's words: 0 for a look at a known setting, 1 surely false, 2 not known, judged in that order.
 fn second(kind: Kind, digit: usize, judgement: Judgement) -> Option<u32> {
@@ -77,116 +77,120 @@ fn second(kind: Kind, digit: usize, judgement: Judgement) -> Option<u32> {
 
 /// The rule speaks of another setting than the one acted on.
 pub fn every_digit(group: &mut Group) {
-    let mut tried = BTreeSet::new();
-    let pairs: Vec<(usize, usize)> = (0..7).flat_map(|acted| (0..7).map(move |spoken| (acted, spoken))).collect();
+    let digits: Vec<[usize; 2]> = (0..49).map(|pair| [pair / 7, pair % 7]).collect();
+    let mut came_to = BTreeSet::new();
     for _ in group.times(1) {
-        for &(acted, spoken) in &pairs {
-            for (&of_acted, &of_spoken) in
-                WAYS[acted].iter().flat_map(|way| WAYS[spoken].iter().map(move |of| (way, of)))
-            {
-                let n = group.rng.between(3, SETTINGS_MOST);
-                let settings = mixed(&mut group.rng, n);
-                let places = Places { acted: settings[0], spoken: settings[1], unknown: settings[2] };
-                let ways = [(places.acted, of_acted), (places.spoken, of_spoken)];
-                each_rule(group, n, places, &ways, &mut tried);
+        for [acted_digit, spoken_digit] in &digits {
+            for &to_acted in WAYS[*acted_digit] {
+                for &to_spoken in WAYS[*spoken_digit] {
+                    let n = group.rng.between(3, SETTINGS_MOST);
+                    let [acted, spoken, unknown] = mixed(&mut group.rng, n)[..3] else { unreachable!() };
+                    let ways = vec![(acted, to_acted), (spoken, to_spoken)];
+                    each_rule(group, &Scene { n, acted, spoken, unknown, ways }, &mut came_to);
+                }
             }
         }
     }
-    came_to_all(group, &pairs, &tried);
+    each_was_come_to(group, &digits, &came_to);
 }
 
 /// The rule speaks of the setting acted on itself.
 pub fn own_digit(group: &mut Group) {
-    let mut tried = BTreeSet::new();
+    let digits: Vec<[usize; 2]> = (0..7).map(|digit| [digit, digit]).collect();
+    let mut came_to = BTreeSet::new();
     for _ in group.times(5) {
         for &way in WAYS.iter().copied().flatten() {
             let n = group.rng.between(2, SETTINGS_MOST);
-            let settings = mixed(&mut group.rng, n);
-            let places = Places { acted: settings[0], spoken: settings[0], unknown: settings[1] };
-            each_rule(group, n, places, &[(places.acted, way)], &mut tried);
+            let [acted, unknown] = mixed(&mut group.rng, n)[..2] else { unreachable!() };
+            each_rule(group, &Scene { n, acted, spoken: acted, unknown, ways: vec![(acted, way)] }, &mut came_to);
         }
     }
-    came_to_all(group, &[0, 1, 2, 3, 4, 5, 6].map(|digit| (digit, digit)), &tried);
+    each_was_come_to(group, &digits, &came_to);
 }
 
-/// The settings that matter: the one acted on, the one that its rule speaks of, and the one that stays unknown.
-#[derive(Clone, Copy)]
-struct Places {
+/// All numbers below `count` in a drawn order.
+fn mixed(rng: &mut Rng, count: usize) -> Vec<usize> {
+    let mut numbers: Vec<usize> = (0..count).collect();
+    for i in 0..count {
+        numbers.swap(i, rng.between(i, count - 1));
+    }
+    numbers
+}
+
+/// The settings that matter, and how their digits come about.
+struct Scene {
+    n: usize,
     acted: usize,
     spoken: usize,
     unknown: usize,
+    ways: Vec<(usize, Way)>,
 }
 
-/// All settings in a drawn order.
-fn mixed(rng: &mut Rng, n: usize) -> Vec<usize> {
-    let mut settings: Vec<usize> = (0..n).collect();
-    for i in 0..n {
-        settings.swap(i, rng.between(i, n - 1));
-    }
-    settings
-}
-
-fn each_rule(group: &mut Group, n: usize, places: Places, ways: &[(usize, Way)], tried: &mut BTreeSet<Tried>) {
+fn each_rule(group: &mut Group, scene: &Scene, came_to: &mut BTreeSet<CameTo>) {
     for (text, judgements) in RULES {
-        for (i, kind) in KINDS.into_iter().enumerate() {
-            let posts = mixed(&mut group.rng, 8);
-            let act = Act { kind, setting: places.acted, post: posts[1] };
-            let question = question(&mut group.rng, n, posts[0], act, rule(text, n, places), places, ways);
-            let start = Knowledge::at_start(n, question.known, question.values);
-            let mut lead = Lead { bytes: vec![], state: start, waiting: 0 };
-            for &(setting, (_, steps)) in ways {
-                steps.iter().for_each(|&step| lead.go(setting, posts[0], step));
-            }
-            let (acted, spoken) = (lead.digit(places.acted), lead.digit(places.spoken));
+        for kind in KINDS {
+            let [free, post] = mixed(&mut group.rng, 8)[..2] else { unreachable!() };
+            let act = Act { kind, setting: scene.acted, post };
+            let question = scene.question(&mut group.rng, free, act, scene.rule(text));
+            let lead = scene.lead(&question, free);
+            let (acted, spoken) = (lead.digit(scene.acted), lead.digit(scene.spoken));
             let judgement = judgements[COLUMN[spoken]];
-            let second = second(kind, acted, judgement);
-            let not_permitted = |second| Refusal::at(18, lead.bytes.len() as u32).with_second(second);
-            let expected = second.map_or(Ok(()), |second| Err(not_permitted(second)));
-            let plan = lead.and_stops(act);
-            group.case(check(&question, &plan) == expected, || {
+            let refused = |second| Refusal::at(18, lead.bytes.len() as u32).with_second(second);
+            let expected = second(kind, acted, judgement).map_or(Ok(()), |second| Err(refused(second)));
+            let plan = lead.then(act);
+            let own = check(&question, &plan);
+            group.case(own == expected, || {
                 format!("this program's own check of {text}, {kind:?} at digits {acted} and {spoken}")
             });
             expect(group, &question, &plan, expected);
-            tried.insert((i, acted, spoken, judgement, second));
+            came_to.insert((kind, acted, spoken, judgement, own.err().and_then(|refusal| refusal.second)));
         }
     }
 }
 
-/// The table of a rule in the letters of these settings.
-fn rule(text: &str, n: usize, places: Places) -> Table {
-    let letter = |setting: usize| ((b'a' + setting as u8) as char).to_string();
-    let text = text.replace('s', &letter(places.spoken)).replace('u', &letter(places.unknown));
-    formula::read(n as u64, text.as_bytes()).unwrap_or_else(|refusal| panic!("{text} was {refusal}"))
-}
-
-/// The free post may do anything. The act has the rule, and all other rules are drawn. Any stop is settled.
-fn question(
-    rng: &mut Rng,
-    n: usize,
-    free: usize,
-    act: Act,
-    rule: Table,
-    places: Places,
-    ways: &[(usize, Way)],
-) -> Question {
-    let m = rng.between(free.max(act.post) + 1, 8);
-    let rights = rights(n, m, |setting, post, look| match post {
-        _ if post == free => table(n, u128::MAX),
-        _ if Act { kind: act.kind, setting, post } == act && look == (act.kind == Kind::Look) => rule,
-        _ => any_table(rng, n),
-    });
-    let matters = [places.acted, places.spoken, places.unknown].iter().fold(0, |mask, setting| mask | 1 << setting);
-    let mut known = rng.byte() & (u8::MAX >> (8 - n)) & !matters;
-    let mut values = rng.byte() & known;
-    for &(setting, (start, _)) in ways {
-        known |= u8::from(start.is_some()) << setting;
-        values |= u8::from(start == Some(true)) << setting;
+impl Scene {
+    /// The table of a rule of `RULES`.
+    fn rule(&self, text: &str) -> Table {
+        let letter = |setting: usize| ((b'a' + setting as u8) as char).to_string();
+        let text = text.replace('s', &letter(self.spoken)).replace('u', &letter(self.unknown));
+        formula::read(self.n as u64, text.as_bytes()).unwrap_or_else(|refusal| panic!("{text} was {refusal}"))
     }
-    let make = table(n, u128::MAX).to_vec();
-    Question { book: written(n, m, &rights), team: 1 << free | 1 << act.post, known, values, make, learn: vec![] }
+
+    /// The act has the rule. The free post may do anything, all other rules and what is known of all other settings are
+    /// drawn, and every stop is settled.
+    fn question(&self, rng: &mut Rng, free: usize, act: Act, rule: Table) -> Question {
+        let n = self.n;
+        let m = rng.between(free.max(act.post) + 1, 8);
+        let rights = rights(n, m, |setting, post, look| {
+            let has_rule = (setting, post, look) == (act.setting, act.post, act.kind == Kind::Look);
+            match post {
+                _ if has_rule => rule,
+                _ if post == free => table(n, u128::MAX),
+                _ => any_table(rng, n),
+            }
+        });
+        let others = !(1 << self.acted | 1 << self.spoken | 1 << self.unknown) & (u8::MAX >> (8 - n));
+        let mut known = rng.byte() & others;
+        let mut values = rng.byte() & known;
+        for &(setting, (start, _)) in &self.ways {
+            known |= u8::from(start.is_some()) << setting;
+            values |= u8::from(start == Some(true)) << setting;
+        }
+        let (book, make) = (written(n, m, &rights), table(n, u128::MAX).to_vec());
+        Question { book, team: 1 << free | 1 << act.post, known, values, make, learn: vec![] }
+    }
+
+    fn lead(&self, question: &Question, free: usize) -> Lead {
+        let start = Knowledge::at_start(self.n, question.known, question.values);
+        let mut lead = Lead { bytes: vec![], state: start, waiting: 0 };
+        for &(setting, (_, steps)) in &self.ways {
+            steps.iter().for_each(|&step| lead.go(setting, free, step));
+        }
+        lead
+    }
 }
 
-/// The bytes that lead to an act, the knowledge there, and how many branches wait for a plan.
+/// The bytes that lead to an act, the knowledge there, and how many branches still wait for their plan.
 struct Lead {
     bytes: Vec<u8>,
     state: Knowledge,
@@ -205,7 +209,7 @@ impl Lead {
         match step {
             Step::Set(_) => {}
             Step::Seen(false) => self.waiting += 1,
-            Step::Seen(true) => self.bytes.push(0), // the false outcome's plan comes first
+            Step::Seen(true) => self.bytes.push(0), // the false outcome's plan comes first, and stops
         }
     }
 
@@ -214,23 +218,24 @@ impl Lead {
     }
 
     /// The act, and a stop on each branch that is left.
-    fn and_stops(&self, act: Act) -> Vec<u8> {
-        let outcomes = if act.kind == Kind::Look { 2 } else { 1 };
-        [&self.bytes[..], &[act.byte()], &vec![0; outcomes + self.waiting]].concat()
+    fn then(&self, act: Act) -> Vec<u8> {
+        let stops = act.outcomes(&self.state).len() + self.waiting;
+        [&self.bytes[..], &[act.byte()], &vec![0; stops]].concat()
     }
 }
 
-/// Each kind of act came to each judgement at each of these pairs of digits, with the second number that it has there.
-fn came_to_all(group: &mut Group, pairs: &[(usize, usize)], tried: &BTreeSet<Tried>) {
-    let judgements = [TrueAtAll, FalseAtAll, Neither];
-    for &(acted, spoken) in pairs {
-        for (i, kind) in KINDS.into_iter().enumerate() {
-            for judgement in judgements {
-                let case = (i, acted, spoken, judgement, second(kind, acted, judgement));
-                group.case(tried.contains(&case), || format!("never {kind:?}, {case:?}"));
+/// At each of these digits each kind of act came to each judgement, with the second number that it has there. Nothing
+/// else was come to: no set had 0.
+fn each_was_come_to(group: &mut Group, digits: &[[usize; 2]], came_to: &BTreeSet<CameTo>) {
+    let mut count = 0;
+    for &[acted, spoken] in digits {
+        for kind in KINDS {
+            for judgement in [TrueAtAll, FalseAtAll, Neither] {
+                let case = (kind, acted, spoken, judgement, second(kind, acted, judgement));
+                group.case(came_to.contains(&case), || format!("never {case:?}"));
+                count += 1;
             }
         }
     }
-    let count = pairs.len() * KINDS.len() * judgements.len();
-    group.case(tried.len() == count, || format!("{} kinds of cases, and not {count}", tried.len()));
+    group.case(came_to.len() == count, || format!("{} combinations, and not {count}", came_to.len()));
 }
