@@ -22,7 +22,8 @@ denied() {
     case $2 in
     0) printf '%s' "'$1' looks at a setting that is already known there" ;;
     1) printf '%s' "'$1': the rule of '$(rule_of "$1")' is surely false there" ;;
-    *) printf '%s' "'$1': nobody in the team knows there whether the rule of '$(rule_of "$1")' holds" ;;
+    2) printf '%s' "'$1': nobody in the team knows there whether the rule of '$(rule_of "$1")' holds" ;;
+    *) printf '%s' "'$1' is not permitted there" ;;
     esac
 }
 

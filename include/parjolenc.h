@@ -50,7 +50,8 @@ typedef unsigned long long pj_u64;
 
 // A refusal has its place in bits 0 to 31, its number in bits 32 to 39, and in bits 40 to 47 one more than its second
 // number, or 0 where it has none: 18 alone has one. A success is below 2^32: `pj_number` is 0 for a success, and no
-// refusal has the number 0. `pj_second` gives bits 40 to 47 as they stand; PJ_SECOND names what they can be.
+// refusal has the number 0. `pj_second` gives bits 40 to 47 as they stand, so that a refusal's second number is
+// `pj_second(result) - 1`; PJ_SECOND_.. name what they can be.
 static inline pj_u64 pj_number(pj_u64 result) { return (result >> 32) & 0xff; }
 static inline pj_u64 pj_second(pj_u64 result) { return (result >> 40) & 0xff; }
 static inline pj_u64 pj_place(pj_u64 result) { return result & 0xffffffff; }

@@ -4,13 +4,14 @@
 use mathlib.Core.Path.{_≡_, refl, sym, ap, _∙_, subst}
 use mathlib.Core.Logic.{_⊎_, inl, inr, _↔_}
 use mathlib.Core.List.{List, _++_}
-use Prim.Native.Nat.{ℕ, _^_, _≤_, _<_}
+use Prim.Native.Nat.{ℕ, _+_, _^_, _≤_, _<_}
 use lib.ListN.{length, drop}
 use Rattle.ground.specs.Search.{Least}
 use Rattle.refusal.specs.declared.Refusal.{Refusal}
 use Rattle.refusal.specs.declared.Why.{Why}
+use Rattle.refusal.specs.declared.Why.the-variants.{KnownSetting, SurelyFalse, NotKnown}
 use Rattle.refusal.specs.declared.Refusal.the-variants.{PlanRoom, NotPermitted, Malformed, Twice, SheetLength, SheetSettings}
-use Rattle.refusal.specs.Refusals.{number}
+use Rattle.refusal.specs.Refusals.{number, numbers}
 use Rattle.refusal.specs.Order.{First}
 use Rattle.refusal.proofs.OrderLaws.{first-clear}
 use Rattle.book_sound.proofs.Theorems.{sound-one}
@@ -126,6 +127,12 @@ yes-means book q goal plan said =
 pub denied : {book : List ℕ} {q : Question} {goal : Goal} {n m : ℕ} → ValidQuestion book q goal n m → (plan : List ℕ) → length plan ≤ 32640
     → (r : CheckAnswer) → Checks book q goal plan r → (i : ℕ) (why : Why) → (r ≡ NotAccepted (NotPermitted i why)) ↔ DeniedAt n book q goal plan i why
 denied valid plan short r said i why = denied-exact valid plan r said short i why
+
+-- "0 for a look at a known setting, 1 surely false, 2 not known": number, place, and one more than that
+pub denied-numbers : (i : ℕ) → (numbers (NotPermitted i KnownSetting) ≡ record { number = 18; place = i; second = 1 + 0 })
+    × (numbers (NotPermitted i SurelyFalse) ≡ record { number = 18; place = i; second = 1 + 1 })
+    × (numbers (NotPermitted i NotKnown) ≡ record { number = 18; place = i; second = 1 + 2 })
+denied-numbers i = (refl, refl, refl)
 
 -- ---- a sheet that is taken asks a question; either a least working plan is printed with its height, or none works and `cannot` is printed
 pub sheet-answered : (s old : List ℕ) (r : ℕ) (new : List ℕ) (sheet : Sheet) → sheetMeaning s ≡ stated sheet → AnswersSheet s old r new

@@ -71,7 +71,7 @@ apart-at {result} r at e small =
     record {
       some = number-some r;
       number-is = ap (λ (x : ℕ). x % 256) up ∙ digits-mod (second r) (number-small r);
-      second-is = ap (λ (x : ℕ). x / 256) up ∙ digits-div (second r) (number-small r);
+      second-is = ap (λ (x : ℕ). x / 256 % 256) up ∙ ap (λ (x : ℕ). x % 256) (digits-div (second r) (number-small r)) ∙ mod-eq-of-lt (second-small r);
       place-is = ap lower is ∙ digits-mod (second r * 256 + number r) small;
     }
 

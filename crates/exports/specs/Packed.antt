@@ -12,7 +12,7 @@ packed r = second r * 2 ^ 40 + number r * 2 ^ 32 + place r % 2 ^ 32
 unfoldable pub packedAt : Refusal → ℕ → ℕ
 packedAt r line = second r * 2 ^ 40 + number r * 2 ^ 32 + line % 2 ^ 32
 
--- the lower half of a result, and of its upper half the low byte and what is above it
+-- the lower half of a result, and of its upper half the lowest byte, bits 32 to 39, and the next, bits 40 to 47
 abbrev pub lower : ℕ → ℕ
 lower result = result % 2 ^ 32
 
@@ -23,4 +23,4 @@ abbrev pub numberIn : ℕ → ℕ
 numberIn result = upper result % 256
 
 abbrev pub secondIn : ℕ → ℕ
-secondIn result = upper result / 256
+secondIn result = upper result / 256 % 256

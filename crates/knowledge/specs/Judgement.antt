@@ -1,6 +1,5 @@
 -- "The judgement on a rule should say one of three things: true at all fitting valuations, false at all, or neither. The act test and the learn goals
--- should rest on the same answer." Of what fits a side at least one valuation does, so that the three exclude one another
--- (proofs/JudgementLaws).
+-- should rest on the same answer." At least one valuation fits any side, so the three exclude one another (proofs/JudgementLaws).
 use mathlib.Core.Bool.{Bool, true, false}
 use mathlib.Core.List.{List}
 use Prim.Native.Nat.{ℕ}

@@ -2,7 +2,7 @@
 ghost use mathlib.Core.Path.{_≡_};
 ghost use Rattle.knowledge.specs.Judgement.{holds, settles};
 
-// Of the truths of a table at all valuations that fit.
+// True at all valuations that fit, false at all, or neither.
 pub enum Judgement {
     TrueAtAll,
     FalseAtAll,

@@ -1,4 +1,4 @@
--- The judgement on a plan's bytes: "the first fault in reading order, 17 before 18". Reading goes on from a list of pending states:
+-- The verdict on a plan's bytes: "the first fault in reading order, 17 before 18". Reading goes on from a list of pending states:
 -- the next byte is for the first of them; the true outcome of a look waits behind the false one.
 use mathlib.Core.Bool.{Bool, true, false}
 use mathlib.Core.List.{List, [], _∷_, _++_}
@@ -16,7 +16,7 @@ use Rattle.plan.specs.declared.Permit.the-variants.{Given, Denied}
 pub data Fault : Type 0 where
   -- 17 "byte names no act of this book and team"
   no-act : Fault
-  -- 18 "act not permitted here, or look at a known setting", and its second number's reason
+  -- 18 "act not permitted here, or look at a known setting", and why
   not-permitted : Why → Fault
   -- 19 "stop where the goal isn't settled"
   not-settled : Fault
@@ -61,7 +61,7 @@ abbrev pub readByte : System → ℕ → ℕ → Reading
 readByte S k zero = readStop (S .goal k)
 readByte S k (suc c) = readNamed S k (actOf (suc c))
 
--- the judgement on the bytes from index at on, where these states are pending
+-- the verdict on the bytes from index at on, where these states are pending
 abbrev pub judge : System → List ℕ → ℕ → List ℕ → Verdict
 judge S [] at [] = accepted
 judge S [] at (c ∷ cs) = faulty left-over at

@@ -1,4 +1,4 @@
--- What a reader must believe of printed answers: a plan's lines (`Listed`), the three answers as text, and what a lent room holds (`Printed`). `Inner` is
+-- What a reader must believe of printed answers: a plan's lines (`Listed`), the answers as text, and what a lent room holds (`Printed`). `Inner` is
 -- for the private functions.
 pub mod Listed
 pub mod Inner

@@ -1,8 +1,8 @@
--- "It prints `refused NUMBER PLACE` .., or `cannot`, or `reach H` and a line per plan byte". What a plan's lines are stands in
+-- "It prints `refused NUMBER PLACE` .., or `cannot`, or `reach H` and a line per plan byte"; and a refusal with its second number. What a plan's lines are stands in
 -- print_answer/specs/Listed.
 use mathlib.Core.Path.{_≡_}
 use mathlib.Core.List.{List, _++_}
-use Prim.Native.Nat.{ℕ}
+use Prim.Native.Nat.{ℕ, zero, suc}
 use lib.ListN.{length, take, drop}
 use Rattle.ground.specs.Text.{bytes}
 use Rattle.plan.specs.Plans.{Plan}
@@ -16,9 +16,10 @@ refusedAt number place = bytes "refused " ++ decimal number ++ bytes " " ++ deci
 abbrev pub refusedText : ℕ → ℕ → List ℕ
 refusedText number place = line (refusedAt number place)
 
--- "Refusal 18 carries a second number": it stands last
+-- "Refusal 18 carries a second number": where there is one, it stands last. It is given as one more than it is, and as 0 where there is none
 abbrev pub secondedText : ℕ → ℕ → ℕ → List ℕ
-secondedText number place second = line (refusedAt number place ++ bytes " " ++ decimal second)
+secondedText number place zero = refusedText number place
+secondedText number place (suc second) = line (refusedAt number place ++ bytes " " ++ decimal second)
 
 -- "`cannot`"
 abbrev pub cannotText : List ℕ

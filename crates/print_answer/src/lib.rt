@@ -1,5 +1,5 @@
-// How an answer of the sheet program is written out: one of its three forms, line by line, into a room
-// that the caller lends. It refuses nothing: a room shorter than the answer holds as much of it as fits,
+// How an answer is written out: one of the three forms of the sheet program, or a refusal with its second
+// number, line by line, into a room that the caller lends. It refuses nothing: a room shorter than the answer holds as much of it as fits,
 // and the length given is the whole answer's. Nothing past the answer is touched.
 mod listing;
 
@@ -12,7 +12,7 @@ ghost use Rattle.print_room.specs.Wrote.{Wrote};
 ghost use Rattle.print_answer.specs.Listed.{Lettered};
 ghost use Rattle.print_answer.specs.Printed.{refusedAt, refusedText, secondedText, cannotText, reachText, Prints};
 
-// `refused NUMBER PLACE`, and the place after it.
+// `refused NUMBER PLACE` without the line's end, and its length.
 fn refused_at(number: u64, place: usize, out: &mut [u8]) -> usize
     ensures { λ r. ⌜ Wrote (now (out .entry)) 0 (refusedAt number place) (now (out .exit)) r ⌝ }
 {
@@ -30,13 +30,17 @@ pub fn refused(number: u64, place: usize, out: &mut [u8]) -> usize
     print_room::put(b'\n', out, to)
 }
 
-// The answer `refused NUMBER PLACE SECOND` of a refusal with a second number, and its length.
-pub fn seconded(number: u64, place: usize, second: u8, out: &mut [u8]) -> usize
-    ensures { λ r. ⌜ Prints (now (out .entry)) (secondedText number place second) r (now (out .exit)) ⌝ }
+// The answer `refused NUMBER PLACE SECOND`, and its length: `above` is one more than the second number, or 0
+// where there is none, and then none is printed.
+pub fn seconded(number: u64, place: usize, above: u8, out: &mut [u8]) -> usize
+    ensures { λ r. ⌜ Prints (now (out .entry)) (secondedText number place above) r (now (out .exit)) ⌝ }
 {
+    if above == 0 {
+        return refused(number, place, out);
+    }
     let to = refused_at(number, place, out);
     let to = print_room::put(b' ', out, to);
-    let to = print_room::number(second as u64, out, to);
+    let to = print_room::number(above as u64 - 1, out, to);
     print_room::put(b'\n', out, to)
 }
 

@@ -1,5 +1,6 @@
 // The program of `check BOOK QUESTION PLAN`, whose words name three files. What is said of the plan goes to standard
-// output, `yes` or `refused NUMBER PLACE`, of 18 with its second number behind them; what came of it goes to descriptor 3, of a refusal with whose it is.
+// output: `yes`, or `refused NUMBER PLACE`, of 18 with its second number behind it. What came of it goes to descriptor 3, of a
+// refusal with whose it is.
 // Where a file cannot be read nothing is answered, and that is said on standard error.
 use book_block::BLOCK;
 use ground::SETTINGS_MOST;

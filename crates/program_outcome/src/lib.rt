@@ -108,14 +108,10 @@ pub fn deliver_fault(answer: &[u8], outcome: Outcome, number: u64, place: usize,
     program_files::write_all(OUTCOME_FILENO, whose);
 }
 
-// Writes out a refusal by its numbers, and says it; `second` is one more than its second number, and 0 where it has none.
+// Writes out a refusal by its numbers, and says it; `second` is one more than its second number, or 0 where it has none.
 pub fn refuse_seconded(number: u64, place: usize, second: u8, whose: &[u8], outcome: Outcome) {
-    if second == 0 {
-        refuse(number, place, place, whose, outcome);
-        return;
-    }
     let mut room = [0u8; REFUSED_MOST];
-    let length = print_answer::seconded(number, place, second - 1, &mut room);
+    let length = print_answer::seconded(number, place, second, &mut room);
     if length <= room.len() {
         deliver_fault(&room[..length], outcome, number, place, whose);
     }

@@ -1,5 +1,5 @@
 -- What the rules of a book say of an act: it may be done exactly where paper 01 says so, and else the reason is one of three.
-use mathlib.Core.Path.{_≡_, refl, sym, _∙_}
+use mathlib.Core.Path.{_≡_, refl, sym, ap, _∙_}
 use mathlib.Core.Bool.{Bool, true, false, _&&_, cond}
 use mathlib.Core.List.{List}
 use Prim.Native.Nat.{ℕ, _≤_}
@@ -28,9 +28,9 @@ given-rule TrueAtAll = refl
 given-rule FalseAtAll = refl
 given-rule Neither = refl
 
-given-look : (b : Bool) (j : Judgement) → given (byLook b j) ≡ holds j && b
-given-look true j = given-rule j ∙ sym (and-true (holds j))
-given-look false j = sym (and-false (holds j))
+given-look : (b : Bool) (said : Permit) → given (byLook b said) ≡ given said && b
+given-look true said = sym (and-true (given said))
+given-look false said = sym (and-false (given said))
 
 module _ (n : ℕ) (book : List ℕ) (d : ℕ → ℕ) (i q : ℕ) where
   -- "set a setting false or true, where its set rule for that post is known to hold"
@@ -41,7 +41,9 @@ module _ (n : ℕ) (book : List ℕ) (d : ℕ → ℕ) (i q : ℕ) where
   -- "look, where the look rule is known to hold and the digit is 0"
   pub look-given : given (permitted n book d (Look i q)) ≡ known n d (rule book i q look-rule) && eqb (d i) 0
   unfolding permitted known
-  look-given = given-look (eqb (d i) 0) (judgement n (nowSide d) (rule book i q look-rule))
+  look-given =
+      given-look (eqb (d i) 0) (byRule (judgement n (nowSide d) (rule book i q look-rule)))
+      ∙ ap (λ (b : Bool). b && eqb (d i) 0) (given-rule (judgement n (nowSide d) (rule book i q look-rule)))
 
 -- the judgement of a rule where it stands in the book
 pub rule-judged : (n : ℕ) (book : List ℕ) (d : ℕ → ℕ) (i q : ℕ) (right : Right) {from : ℕ} {j : Judgement} → n ≤ 7 → from ≡ rulePlace book i q right

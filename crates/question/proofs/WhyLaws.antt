@@ -104,7 +104,7 @@ module _ (n : ℕ) (book : List ℕ) (d : ℕ → ℕ) where
   unfolding permitted
   look-known i q ne = rw (ne-eqb (d i) 0 ne)
 
-  -- a reason that is not this one
+  -- any other reason shows that the digit is 0
   known-alone : (i q : ℕ) (why : Why) → permitted n book d (Look i q) ≡ Denied why → (why ≡ KnownSetting → ⊥) → d i ≡ 0
   known-alone i q why e ne = elim (ℕ-discrete (d i) 0) [
     | yes z ↦ z

@@ -22,13 +22,13 @@ byRule TrueAtAll = Given
 byRule FalseAtAll = Denied SurelyFalse
 byRule Neither = Denied NotKnown
 
--- a look: is the digit 0, and then its rule; "0 for a look at a known setting .., judged in that order"
-abbrev pub byLook : Bool → Judgement → Permit
-byLook false j = Denied KnownSetting
-byLook true j = byRule j
+-- a look: is the digit 0, and then what its rule says; "0 for a look at a known setting .., judged in that order"
+abbrev pub byLook : Bool → Permit → Permit
+byLook false said = Denied KnownSetting
+byLook true said = said
 
 -- "set a setting false or true, where its set rule for that post is known to hold; look, where the look rule is known to hold
 -- and the digit is 0"
 unfoldable pub permitted : ℕ → List ℕ → (ℕ → ℕ) → Act → Permit
 permitted n book d (Set i q b) = byRule (judgement n (nowSide d) (rule book i q set-rule))
-permitted n book d (Look i q) = byLook (eqb (d i) 0) (judgement n (nowSide d) (rule book i q look-rule))
+permitted n book d (Look i q) = byLook (eqb (d i) 0) (byRule (judgement n (nowSide d) (rule book i q look-rule)))

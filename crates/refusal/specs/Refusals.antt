@@ -24,7 +24,7 @@ numbered number place = record { number = number; place = place; second = 0 }
 abbrev pub seconded : ℕ → ℕ → ℕ → Numbers
 seconded number place second = record { number = number; place = place; second = suc second }
 
--- the columns "no." and "place"
+-- the columns "no." and "place", and the second number of 18
 abbrev pub numbers : Refusal → Numbers
 numbers FormulaLength = numbered 1 0
 numbers (StrayByte index) = numbered 2 index

@@ -5,15 +5,6 @@ use borrow.Author.Needs.{needs}
 use Rattle.program_outcome.proofs.refuse_seconded.Statement.{statement}
 use Rattle.program_outcome.proofs.refuse_seconded.Tie as tie
 
-refuse-requires : tie.Need-refuse-requires
-refuse-requires c κs = search needs
-
-returns : tie.Need-returns
-returns c = search needs
-
-sub-seconded : tie.Need-sub-seconded
-sub-seconded c = search needs
-
 slice-aggregate-seconded : tie.Need-slice-aggregate-seconded
 slice-aggregate-seconded c = search needs
 
@@ -29,23 +20,20 @@ slice-aggregate-deliver-fault c = sym (length-take-le _ _ (search needs))
 deliver-fault-requires : tie.Need-deliver-fault-requires
 deliver-fault-requires c κs = search needs
 
+returns : tie.Need-returns
+returns c = search needs
+
 returns-2 : tie.Need-returns-2
 returns-2 c = search needs
-
-returns-3 : tie.Need-returns-3
-returns-3 c = search needs
 
 pub refuse-seconded-spec : {M : Type 1} → statement M
 refuse-seconded-spec =
     tie.close
     (tie.spec
-    refuse-requires
-    returns
-    sub-seconded
     slice-aggregate-seconded
     seconded-requires
     array-share-prefix-room
     slice-aggregate-deliver-fault
     deliver-fault-requires
-    returns-2
-    returns-3)
+    returns
+    returns-2)
