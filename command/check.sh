@@ -17,12 +17,31 @@ rule_of() {
     printf '%s' "$kind $setting $post"
 }
 
+# closed RIGHT: whether the book's table of a right, as `rule_of` names it, is 16 zeros. A setting's block stands after the head and
+# the settings before it; a post has 32 bytes of it, 16 to look and 16 to set.
+closed() {
+    local kind setting post before at
+    read -r kind setting post <<<"$1"
+    before=abcdefg
+    before=${before%%"$setting"*}
+    at=$((512 * (1 + ${#before}) + 32 * (post - 1)))
+    [ "$kind" = read ] || at=$((at + 16))
+    [ "$(tail -c "+$((at + 1))" <"$book" | head -c 16 | LC_ALL=C tr -d '\0' | wc -c)" -eq 0 ]
+}
+
+# false_rule RIGHT: how a rule that is surely false is false.
+false_rule() {
+    if closed "$1"; then printf '%s' "'$1' is closed in this book, at all settings"; else printf '%s' "the rule of '$1' is surely false there"; fi
+}
+
 # denied TEXT SECOND: why the act in a plan's line is not permitted, by the second number of 18.
 denied() {
+    local right
+    right=$(rule_of "$1")
     case $2 in
-    0) printf '%s' "'$1' looks at a setting that is already known there" ;;
-    1) printf '%s' "'$1': the rule of '$(rule_of "$1")' is surely false there" ;;
-    2) printf '%s' "'$1': nobody in the team knows there whether the rule of '$(rule_of "$1")' holds" ;;
+    0) printf '%s' "'$1': the setting is already known there, and a plan does not look at it again" ;;
+    1) printf '%s' "'$1': $(false_rule "$right")" ;;
+    2) printf '%s' "'$1': nobody in the team knows there whether the rule of '$right' holds" ;;
     *) printf '%s' "'$1' is not permitted there" ;;
     esac
 }

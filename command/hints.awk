@@ -129,7 +129,7 @@ function malformed(   text, at, what) {
     at = index(text, "\t")
     if (at > 0) hint("a tab in column " at ", where words are split by one space")
     if (unended && line == lines) hint("the last line has no byte 10 at its end")
-    if (kind == "sheet" && text ~ /^#/) hint("a sheet has no comments; rules and question files may have lines that begin with #")
+    if ((kind == "sheet" || kind == "plan") && text ~ /^#/) hint("a " kind " has no comments; rules, questions and shifts may have lines that begin with #")
     if (tolower(word(text)) ~ (kind == "shift" ? "^(look|set)$" : "^(size|read|write|team|known|make|ask|reach)$") && word(text) != tolower(word(text))) hint("capitals: the word is '" tolower(word(text)) "'")
     if (text ~ /^ /) hint("a space before the first word")
     at = front(text) == 0 ? match(text, /  /) : 0

@@ -20,7 +20,7 @@ say() {
 # readable FILE: a file that can be read, and no folder; else what is wrong is said.
 readable() {
     if [ "$1" = - ]; then
-        say "-: only 'answer' takes standard input; give a file"
+        say "-: only 'answer' takes standard input so; give a file, or /dev/stdin"
     elif [ ! -e "$1" ]; then
         say "$1: there is no such file, or its folder may not be entered"
     elif [ -d "$1" ]; then

@@ -72,9 +72,21 @@ printf 'reach 0\n' >"$room/empty.plan"
 expect 'a plan of nothing' 1 'refused 20 0' 'the plan ends too soon' check "$night" books/night/both.question "$room/empty.plan"
 { cat books/night/both.expected; echo '0 stop'; } >"$room/long.plan"
 expect 'a plan with a line too many' 1 'refused 21 8' 'line 10: the plan was whole before this line' check "$night" books/night/both.question "$room/long.plan"
-expect 'why 18: already known' 1 'refused 18 1 0' "line 3: '1 look a 2' looks at a setting that is already known there" check "$night" books/night/both.question books/night/both-again.plan
+expect 'why 18: already known' 1 'refused 18 1 0' "line 3: '1 look a 2': the setting is already known there" check "$night" books/night/both.question books/night/both-again.plan
 expect 'why 18: surely false' 1 'refused 18 4 1' "line 6: '1 set b 2 1': the rule of 'write b 2' is surely false there" check "$night" books/night/both.question books/night/both-barred.plan
 expect 'why 18: not known' 1 'refused 18 0 2' "line 2: '0 set b 2 1': nobody in the team knows there whether the rule of 'write b 2' holds" check "$night" books/night/both.question books/night/both-guess.plan
+printf 'reach 1\n0 set a 1 1\n1 stop\n' >"$room/closed.plan"
+expect 'why 18: a right that nobody stated' 1 'refused 18 0 1' "line 2: '0 set a 1 1': 'write a 1' is closed in this book, at all settings" check "$night" books/night/both.question "$room/closed.plan"
+printf 'reach 1\n0 look a 1\n1 stop\n' >"$room/look.plan"
+expect 'why 18: a look that is closed' 1 'refused 18 0 1' "'read a 1' is closed in this book" check "$night" books/night/both.question "$room/look.plan"
+# the table of `a`, of two settings, is byte 10 and zeros
+printf 'size 2 1\nwrite b 1 a\n' >"$room/ten.rules"
+expect 'a book with a table of byte 10' 0 '' '' book "$room/ten.rules" "$room/ten.book"
+printf 'team 1\nknown ~a\nmake b\n' >"$room/ten.question"
+printf 'reach 1\n0 set b 1 1\n1 stop\n' >"$room/ten.plan"
+expect 'why 18: a rule that is false there and not everywhere' 1 'refused 18 0 1' "the rule of 'write b 1' is surely false there" check "$room/ten.book" "$room/ten.question" "$room/ten.plan"
+printf '# mine\nreach 0\n0 stop\n' >"$room/comment.plan"
+expect 'a comment in a plan' 2 'refused 22 1' 'a plan has no comments' check "$night" books/night/both.question "$room/comment.plan"
 printf 'reach 1\n0 set d 3 1\n1 stop\n' >"$room/outside.plan"
 expect 'a plan by a post outside the team' 1 'refused 17 0' 'names no act of this book and team' check "$night" books/night/both.question "$room/outside.plan"
 expect 'two words for three' 3 '' 'usage: ./parjolenc check BOOK QUESTION PLAN' check "$night" books/night/both.question
