@@ -185,9 +185,9 @@ enum {
 
 // Stack that a call takes at most, whatever its arguments, rounded up to 4,096 bytes. It is measured and not proved:
 // tests/host/stack.c paints a stack, calls the function where it goes deepest, and finds the lowest byte that changed.
-// On x86-64, with the library that kit 5b made on 2026-11-16, in the order below: 102,752 bytes (255 brackets: 400 each
-// and 752), 232, 200, 113,096 (a plan of height 254: 208 for each act and 60,264), 552, 138,688 and 118,384 (a look rule
-// of 255 brackets), 146,024 (a plan of height 254), and 184. The frames in the object code add up to the same on the
+// On x86-64, with the library that kit 5b made on 2026-11-16, in the order below: 102,768 bytes (255 brackets: 400 each
+// and 768), 248, 232, 113,176 (a plan of height 254: 208 for each act and 60,344), 664, 138,752 and 118,464 (a look rule
+// of 255 brackets), 146,072 (a plan of height 254), and 184. The frames in the object code add up to the same on the
 // deepest path. memcpy and memset are counted, but the first call of one in a
 // process takes more where the dynamic linker binds it then: 3,152 bytes were seen, for which there is room, since
 // nothing that calls itself calls them.

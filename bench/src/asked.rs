@@ -38,7 +38,8 @@ fn letter(i: usize) -> u128 {
     (0..128).filter(|v| v >> i & 1 == 1).fold(0, |bits, v| bits | 1 << v)
 }
 
-fn all_true(settings: std::ops::Range<usize>) -> u128 {
+/// Where all these settings are true.
+pub fn all_true(settings: std::ops::Range<usize>) -> u128 {
     settings.fold(u128::MAX, |bits, i| bits & letter(i))
 }
 

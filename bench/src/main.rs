@@ -1,14 +1,18 @@
 //! The proved finder beside tests/second's plain one of the same design, in one run: seven settings, eight posts,
 //! teams of every size, nothing known. Answers, ranks and plans have to be the same. Before each call, outside the time taken,
 //! the rank table and the plan room are filled with 170, so both are in memory and neither holds a rank. Then the proved
-//! replay beside a plain one, on shifts of a million records.
+//! replay beside a plain one, on shifts of a million records, and the proved plan check beside a plain one, on plans of
+//! 32,640 bytes.
 
 mod asked;
 #[path = "../../tests/second/src/book.rs"]
 #[allow(dead_code)]
 mod book;
+mod checked;
 #[path = "../../tests/second/src/fast.rs"]
 mod fast;
+#[path = "../../tests/second/src/fast_check.rs"]
+mod fast_check;
 #[path = "../../tests/second/src/fast_replay.rs"]
 mod fast_replay;
 #[cfg(linked)]
@@ -24,6 +28,7 @@ mod rng;
 use std::time::{Duration, Instant};
 
 use asked::Asked;
+use checked::Checked;
 use recorded::{Recorded, RECORDS};
 use rng::Rng;
 
@@ -37,6 +42,10 @@ const CLOSED: [u32; 3] = [15, 50, 85];
 const TURNS: usize = 7;
 /// A shift is run in a few milliseconds.
 const SHIFT_TURNS: usize = 41;
+/// A plan is checked in a few milliseconds.
+const CHECK_TURNS: usize = 15;
+
+type Check = fn(&Checked) -> u64;
 
 type Replay = fn(&[u8], u64, &[u8], &mut [u64; 2]) -> u64;
 
@@ -156,11 +165,34 @@ fn shift_line(name: &str, times: &[Duration]) {
     }
 }
 
+fn plain_check(checked: &Checked) -> u64 {
+    let Checked { book, team, known, values, make, plan } = checked;
+    fast_check::check(book, *team, *known, *values, make, &[], plan)
+}
+
+/// The least of some turns for each check, the checks taking turns. Each says yes.
+fn least_of_plan(checks: &[Check], checked: &Checked) -> Vec<Duration> {
+    let mut times = vec![Duration::MAX; checks.len()];
+    for _ in 0..CHECK_TURNS {
+        for (time, check) in times.iter_mut().zip(checks) {
+            let begun = Instant::now();
+            let word = check(checked);
+            *time = begun.elapsed().min(*time);
+            assert!(word == 0, "a plan that works was refused");
+        }
+    }
+    times
+}
+
 fn main() {
     #[cfg(linked)]
     let (finders, replays): (&[Finder], &[Replay]) = (&[plain, proved::find], &[fast_replay::replay, proved::replay]);
     #[cfg(not(linked))]
     let (finders, replays): (&[Finder], &[Replay]) = (&[plain], &[fast_replay::replay]);
+    #[cfg(linked)]
+    let checks: &[Check] = &[plain_check, proved::check];
+    #[cfg(not(linked))]
+    let checks: &[Check] = &[plain_check];
     if finders.len() == 1 {
         println!("the proved library is for x86-64 and this is another processor: the plain finder alone");
     }
@@ -192,4 +224,9 @@ fn main() {
     let mut rng = Rng::named(1, "shifts");
     shift_line("every rule open", &least_of_shift(replays, &recorded::open(&mut rng)));
     shift_line("rules that ask for several settings", &least_of_shift(replays, &recorded::of_several(&mut rng)));
+    println!("plans of {} bytes, one setting set again and again, the least of {CHECK_TURNS} turns", checked::BYTES);
+    for known in checked::counts() {
+        line(&format!("{known} known, every rule open"), 1, &least_of_plan(checks, &checked::open(known)));
+        line(&format!("{known} known, rules that ask for them"), 1, &least_of_plan(checks, &checked::of_known(known)));
+    }
 }

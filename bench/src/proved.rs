@@ -1,7 +1,8 @@
-//! The proved finder, the proved answer to a question text and the proved replay, through the C interface. Nothing
-//! checks these declarations against the library's source.
+//! The proved finder, the proved answer to a question text, the proved replay and the proved plan check, through the C
+//! interface. Nothing checks these declarations against the library's source.
 
 use crate::asked::Asked;
+use crate::checked::Checked;
 
 extern "C" {
     fn pj_find(
@@ -36,6 +37,19 @@ extern "C" {
         shift: *const u8,
         shift_len: u64,
         reached: *mut u64,
+    ) -> u64;
+    fn pj_plan_check(
+        book: *const u8,
+        book_len: u64,
+        team: u8,
+        known: u8,
+        values: u8,
+        make: *const u8,
+        make_len: u64,
+        learn: *const u8,
+        learn_len: u64,
+        plan: *const u8,
+        plan_len: u64,
     ) -> u64;
 }
 
@@ -79,5 +93,25 @@ pub fn ask(book: &[u8], question: &[u8], ranks: &mut [u8], out: &mut [u8]) -> u6
 pub fn replay(book: &[u8], start: u64, shift: &[u8], reached: &mut [u64; 2]) -> u64 {
     unsafe {
         pj_replay(book.as_ptr(), book.len() as u64, start, shift.as_ptr(), shift.len() as u64, reached.as_mut_ptr())
+    }
+}
+
+pub fn check(checked: &Checked) -> u64 {
+    let Checked { book, team, known, values, make, plan } = checked;
+    let learn: [u8; 0] = [];
+    unsafe {
+        pj_plan_check(
+            book.as_ptr(),
+            book.len() as u64,
+            *team,
+            *known,
+            *values,
+            make.as_ptr(),
+            make.len() as u64,
+            learn.as_ptr(),
+            0,
+            plan.as_ptr(),
+            plan.len() as u64,
+        )
     }
 }

@@ -35,6 +35,14 @@ and-left true b h = tt
 pub and-right : (a b : Bool) → T (a && b) → T b
 and-right true b h = h
 
+pub or-true : (a : Bool) → a || true ≡ true
+or-true true = refl
+or-true false = refl
+
+pub or-false : (a : Bool) → a || false ≡ a
+or-false true = refl
+or-false false = refl
+
 pub or-left : (a b : Bool) → T a → T (a || b)
 or-left true b h = tt
 

@@ -1,21 +1,18 @@
 -- The desk after a line that states a right holds what the rules then state: one slot changes, and the rest stays.
 use mathlib.Core.Path.{_≡_, refl, sym, ap, _∙_, subst}
-use mathlib.Core.Logic.{_⊎_, inl, inr}
+use mathlib.Core.Logic.{inl, inr}
 use mathlib.Core.Bool.{Bool, true, false, not, _&&_, _||_, cond}
 use mathlib.Core.List.{List, [], _∷_, _++_}
-use Prim.Native.Nat.{ℕ, suc, _+_, _*_, _≤_, _<_}
+use Prim.Native.Nat.{ℕ, _+_, _*_, _≤_, _<_}
 use native.Mathlib.Omega.{arith}
-use native.Mathlib.Nat.{zero-add}
 use lib.Dec.{T, eqb, ltb, eqb→eq, lt→ltb}
 use lib.ListN.{length, getD, set, length-set}
-use lib.Seq.{sets, length-sets, getD-set-same, getD-set-other, take-all}
-use Rattle.ground.proofs.Bools.{lt-or-ge, and-in, and-left, and-right, decide, both, T→true, T→false, eq→eqb}
+use lib.Seq.{sets, length-sets, getD-set-same, getD-set-other}
+use Rattle.ground.proofs.Bools.{and-in, and-left, and-right, decide, both, T→true, T→false, eq→eqb, or-true, or-false}
 use Rattle.formula.specs.Read.{Accepts}
-use Rattle.book_block.specs.Rule.{tablePlace}
 use Rattle.book_block.specs.declared.rule.Right.{Right}
 use Rattle.book_block.specs.declared.rule.Right.the-variants.{Look, Set}
-use Rattle.ground.proofs.Lists.{getD-sets, part-same}
-use Rattle.sheet_words.proofs.NameLaws.{or-false, or-assoc}
+use Rattle.sheet_words.proofs.NameLaws.{or-assoc}
 use Rattle.sheet_rules.specs.Rules.{Size, Rule, Rules, withRule, sameRight, concerns, isStated, unstated, ruleText}
 use Rattle.sheet_rules.specs.Desk.{slotOf, tableIn, markOf, Filled, inSize, RulesOnDesk, OnDesk}
 use Rattle.sheet_rules.specs.Turns.{rulesLaid, ruledDesk}
@@ -33,10 +30,6 @@ text-other : (rs : List Rule) (r : Rule) (right : Right) (i q : ℕ) → concern
 unfolding ruleText
 text-other [] r right i q e = ap (λ (b : Bool). cond b (r .text) (unstated right)) e
 text-other (s ∷ rs) r right i q e = ap (λ (t : List ℕ). cond (concerns s right i q) (s .text) t) (text-other rs r right i q e)
-
-or-true : (a : Bool) → (a || true) ≡ true
-or-true true = refl
-or-true false = refl
 
 or-none : (a b : Bool) → (a || b) ≡ false → (a ≡ false) × (b ≡ false)
 or-none true b e = let z : _≡_ {A = ℕ} 0 1 = cc in absurd (omega arith)

@@ -1,23 +1,21 @@
 -- The words after `team` and `known`, one by one: a word with `~` in front is the word behind it, and each name sets its bit.
 use mathlib.Core.Path.{_≡_, refl, sym, ap, ap₂, _∙_, subst}
 use mathlib.Core.Logic.{inl, inr}
-use mathlib.Core.Bool.{Bool, true, false, not, _&&_, _||_, cond, Bool·beq}
+use mathlib.Core.Bool.{Bool, true, false, not, _&&_, _||_, cond}
 use mathlib.Core.List.{List, [], _∷_}
 use Prim.Native.Nat.{ℕ, suc, _+_, _-_, _*_, _%_, _^_, _≤_, _<_}
 use native.Mathlib.Omega.{arith}
-use native.Mathlib.Nat.{one-mul, le-refl}
+use native.Mathlib.Nat.{one-mul}
 use lib.Dec.{T, eqb, lit<}
 use lib.Bits.{bitOr}
-use lib.Pow.{pow-lt, shl-exact}
+use lib.Pow.{shl-exact}
 use lib.ListN.{length, getD, drop, length-drop}
 use lib.Seq.{getD-drop}
 use borrow.Author.Tests.{ne-eqb, eq-eqb, le-leb, lt-leb}
-use Rattle.ground.specs.Digits.{bit, digit}
-use Rattle.ground.specs.Search.{all}
-use Rattle.ground.proofs.Bools.{and-right, lt-or-ge, beq→eq}
-use Rattle.ground.proofs.Search.{all-at}
+use Rattle.ground.specs.Digits.{bit}
+use Rattle.ground.proofs.Bools.{and-right, lt-or-ge, or-false}
 use Rattle.ground.proofs.Bits.{bit-or, bit-of-zero}
-use Rattle.ground.proofs.HighBits.{high-bit}
+use Rattle.ground.proofs.HighBits.{power-bit}
 use Rattle.sheet_words.specs.Words.{member, split, space, isFalse, bare, among, isName, allNames, indexOf, indexes, twice, trueIndexes}
 use Rattle.sheet_words.specs.Marks.{Marking, Marked, Names, areNames}
 use Rattle.sheet_words.specs.declared.names.Marks.{Marks}
@@ -34,10 +32,6 @@ pub bare-true : (w : List ℕ) → isFalse w ≡ false → bare w ≡ w
 unfolding bare
 bare-true w e = ap (λ (b : Bool). cond b (drop 1 w) w) e
 
-pub or-false : (a : Bool) → (a || false) ≡ a
-or-false true = refl
-or-false false = refl
-
 pub length-bare : (w : List ℕ) → isFalse w ≡ true → length (bare w) ≡ length w - 1
 length-bare w e = ap length (bare-false w e) ∙ length-drop 1 w
 
@@ -46,19 +40,8 @@ sign-false w e = ap (λ (t : List ℕ). getD t 0 0) (bare-false w e) ∙ getD-dr
 
 -- ---- a bit more
 
--- the eight bytes with one bit, by a test of each bit
-one-bit-test : ℕ → Bool
-one-bit-test i = all 8 (λ j. Bool·beq (bit (2 ^ i) j) (eqb i j))
-
-one-bit : (i j : ℕ) → i < 8 → bit (2 ^ i) j ≡ eqb i j
-unfolding all bit digit one-bit-test
-one-bit i j h = elim (lt-or-ge j 8) [
-  | inl k ↦ beq→eq (bit (2 ^ i) j) (eqb i j) (all-at 8 (λ j. Bool·beq (bit (2 ^ i) j) (eqb i j)) (all-at 8 one-bit-test tt i h) j k)
-  | inr k ↦ high-bit (2 ^ i) j j (pow-lt {i = i} {j = j} (omega arith)) (le-refl j) ∙ sym (ne-eqb i j (λ e. omega arith))
-]
-
 pub with-bit : (byte i j : ℕ) → i < 8 → bit (bitOr byte ((1 * 2 ^ i) % 256)) j ≡ (bit byte j || eqb i j)
-with-bit byte i j h = bit-or byte ((1 * 2 ^ i) % 256) j ∙ ap (λ (x : Bool). bit byte j || x) (ap (λ (x : ℕ). bit x j) (shl-exact 1 i 8 (lit< tt) (omega arith) ∙ one-mul (2 ^ i)) ∙ one-bit i j h)
+with-bit byte i j h = bit-or byte ((1 * 2 ^ i) % 256) j ∙ ap (λ (x : Bool). bit byte j || x) (ap (λ (x : ℕ). bit x j) (shl-exact 1 i 8 (lit< tt) (omega arith) ∙ one-mul (2 ^ i)) ∙ power-bit i j)
 
 -- ---- a word as a name
 

@@ -3,6 +3,7 @@
 use crate::book::BLOCK;
 use crate::books::repaired;
 use crate::damage::{deleted, inserted, replaced, swapped};
+use crate::fast_check;
 use crate::ffi;
 use crate::finder::{self, Found, Solution};
 use crate::finding::{shown_question, spoil};
@@ -24,6 +25,7 @@ const ANY_ACT_PLACES: u32 = 20;
 
 pub fn test(subject: &mut Subject) {
     subject.group("this program's own check against plans as trees", own_check);
+    subject.group("a plain check of the proved one's design, for bench/", plain_check);
     subject.group("marked example P10 and others written by hand", by_hand_plans);
     subject.group("written plans", written_plans);
     subject.group("plans that work and are not the written ones", other_plans);
@@ -124,6 +126,65 @@ fn own_check(group: &mut Group) {
             check(&question, &plan.bytes()).is_ok() && plan.height() == rank && check(&question, &written).is_ok();
         group.case(right, || format!("{} {}", shown(&plan.bytes()), shown_question(&question)));
     }
+}
+
+/// It is compared with this program's own check; the library is not asked.
+fn plain_check(group: &mut Group) {
+    for _ in group.times(3_000) {
+        let n = group.rng.between(1, 7);
+        let question = any_question(&mut group.rng, n);
+        let asked = asked(&question);
+        let settled = Question { make: table(n, u128::MAX).to_vec(), learn: vec![], ..question.clone() };
+        let plan = match group.rng.below(2) {
+            0 => permitted(&mut group.rng, &asked, &asked.start, 12, 4),
+            _ => any(&mut group.rng, &asked, &asked.start, 8),
+        };
+        let plan = plan.bytes();
+        let place = group.rng.below(plan.len());
+        let named: Vec<u8> = asked.acts().into_iter().map(|act| act.byte()).chain([0]).collect();
+        let (act, far) = (group.rng.one_of(&named), group.rng.byte());
+        for question in [&question, &settled] {
+            compare_plain(group, question, &plan);
+            compare_plain(group, question, &replaced(&plan, place, act));
+            compare_plain(group, question, &replaced(&plan, place, far));
+            compare_plain(group, question, &plan[..place]);
+            compare_plain(group, question, &[&plan[..], &[far]].concat());
+        }
+        let mut spoilt = question;
+        spoil(&mut group.rng, n, &mut spoilt);
+        compare_plain(group, &spoilt, &plan);
+    }
+    for _ in group.times(60) {
+        let (question, ranks, written) = reached(&mut group.rng, &[1, 2, 3, 4], 1);
+        let asked = asked(&question);
+        let detours = group.rng.below(5);
+        let other = working(&mut group.rng, &asked, &ranks, &asked.start, detours).bytes();
+        compare_plain(group, &question, &written);
+        compare_plain(group, &question, &other);
+    }
+    for n in 1..=7 {
+        let plan = all_looks(&mut group.rng, &(0..n).collect::<Vec<_>>());
+        compare_plain(group, &looks_alone(n), &plan);
+        compare_plain(group, &looks_alone(n), &plan[..plan.len() - 1]);
+    }
+    for length in [PLAN_MOST - 1, PLAN_MOST, PLAN_MOST + 1] {
+        let mut plan = row(&mut group.rng, length);
+        compare_plain(group, &always(), &plan);
+        plan[length - 2] = YES;
+        plan[length - 1] = 0;
+        compare_plain(group, &always(), &plan);
+        compare_plain(group, &Question { team: 0, ..always() }, &plan);
+        compare_plain(group, &Question { book: vec![0; BLOCK], ..always() }, &plan);
+    }
+}
+
+fn compare_plain(group: &mut Group, question: &Question, plan: &[u8]) {
+    let Question { book, team, known, values, make, learn } = question;
+    let word = fast_check::check(book, *team, *known, *values, make, learn, plan);
+    let expected = check(question, plan).err().map_or(0, Refusal::word);
+    group.case(word == expected, || {
+        format!("plan {} {}: {}, not {}", shown(plan), shown_question(question), told(word), told(expected))
+    });
 }
 
 fn by_hand_plans(group: &mut Group) {
@@ -334,12 +395,17 @@ fn known_settings(group: &mut Group) {
     }
 }
 
+/// Every look is open and no set is; whether all settings were true and whether all were false is to be learnt.
+fn looks_alone(n: usize) -> Question {
+    let stated: Vec<String> = (0..n).map(|i| format!("read {} 1 1", (b'a' + i as u8) as char)).collect();
+    let stated: Vec<&str> = stated.iter().map(String::as_str).collect();
+    let all: Vec<String> = (0..n).map(|i| ((b'a' + i as u8) as char).to_string()).collect();
+    by_hand(n, 1, &stated, "1", "", "1", &[&all.join("&"), &all.join("|")])
+}
+
 fn open_looks(group: &mut Group) {
     for n in 1..=7 {
-        let stated: Vec<String> = (0..n).map(|i| format!("read {} 1 1", (b'a' + i as u8) as char)).collect();
-        let stated: Vec<&str> = stated.iter().map(String::as_str).collect();
-        let all: Vec<String> = (0..n).map(|i| ((b'a' + i as u8) as char).to_string()).collect();
-        let question = by_hand(n, 1, &stated, "1", "", "1", &[&all.join("&"), &all.join("|")]);
+        let question = looks_alone(n);
         for _ in group.times(4) {
             let plan = all_looks(&mut group.rng, &(0..n).collect::<Vec<_>>());
             expect(group, &question, &plan, Ok(()));

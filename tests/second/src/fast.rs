@@ -1,5 +1,5 @@
 //! A quick plain finder, to measure the proved one by: the same design, in ordinary Rust. It stands by itself, so that
-//! bench/ can take this one file; `fast_replay.rs` leans on it. The cases here only compare it with `finder.rs`.
+//! bench/ can take this one file; `fast_replay.rs` and `fast_check.rs` lean on it. The cases here only compare it with `finder.rs`.
 //!
 //! What is permitted depends on the present side alone (unknown, false or true for each setting), so each rule is
 //! judged once for each of the 3^n sides. States where the goal is settled get rank 0; then each round pushes from
@@ -92,7 +92,7 @@ fn past(n: usize) -> u128 {
 }
 
 /// Refusals 6 to 12, or n.
-fn sound(book: &[u8], team: u8, known: u8, values: u8, make: &[u8], learn: &[u8]) -> Result<usize, u64> {
+pub fn sound(book: &[u8], team: u8, known: u8, values: u8, make: &[u8], learn: &[u8]) -> Result<usize, u64> {
     let (n, m) = sound_book(book)?;
     let past = past(n);
     if team == 0 || u32::from(team) >> m != 0 {

@@ -1,5 +1,6 @@
 //! A plain replay, to measure the proved one by: the same design, in ordinary Rust. bench/ takes this file and
-//! `fast.rs`, whose look at the book it shares. The cases here only compare it with `replay.rs`.
+//! `fast.rs`, whose look at the book it shares; `fast_check.rs` has its acts from here. The cases here only compare it
+//! with `replay.rs`.
 //!
 //! One pass over the shift, and one running record. Each record's byte is taken apart where it is met, and its rule is
 //! looked up in the book's own bytes.
@@ -7,20 +8,20 @@
 use crate::fast::{refused, sound_book, BLOCK};
 
 #[derive(Clone, Copy)]
-enum Kind {
+pub enum Kind {
     Set(bool),
     Look,
 }
 
 #[derive(Clone, Copy)]
-struct Act {
-    kind: Kind,
-    setting: u8,
-    post: u8,
+pub struct Act {
+    pub kind: Kind,
+    pub setting: u8,
+    pub post: u8,
 }
 
 impl Act {
-    fn of_byte(byte: u8) -> Option<Act> {
+    pub fn of_byte(byte: u8) -> Option<Act> {
         let place = byte.checked_sub(1)?;
         let kind = match place / 56 {
             0 => Kind::Set(false),

@@ -10,6 +10,7 @@ mod books;
 mod checking;
 mod damage;
 mod fast;
+mod fast_check;
 mod fast_replay;
 mod ffi;
 mod finder;

@@ -3,7 +3,7 @@ use mathlib.Core.Path.{sym, ap, _∙_}
 use mathlib.Core.Bool.{Bool, _&&_, _||_}
 use lib.Dec.{eqb}
 use Rattle.ground.specs.Digits.{bit}
-use Rattle.sheet_words.proofs.NameLaws.{or-false}
+use Rattle.ground.proofs.Bools.{or-false}
 use borrow.Author.Needs.{needs}
 use Rattle.sheet_words.proofs.names.with_value.Statement.{statement}
 use Rattle.sheet_words.proofs.names.with_value.Tie as tie

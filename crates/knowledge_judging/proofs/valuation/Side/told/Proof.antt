@@ -1,9 +1,9 @@
--- `knowledge_judging::valuation::Valuation::told` meets its contract: in each arm the side is the one that the digit is asked for.
+-- `knowledge_judging::valuation::Side::told` meets its contract: in each arm by what its own column of the digits tells.
 use borrow.Author.Needs.{needs}
 use mathlib.Core.Path.{ap, _∙_}
 use Rattle.knowledge_acts.specs.Seven.{startTold, nowTold}
-use Rattle.knowledge_judging.proofs.valuation.Valuation.told.Statement.{statement}
-use Rattle.knowledge_judging.proofs.valuation.Valuation.told.Tie as tie
+use Rattle.knowledge_judging.proofs.valuation.Side.told.Statement.{statement}
+use Rattle.knowledge_judging.proofs.valuation.Side.told.Tie as tie
 
 enum-told : tie.Need-enum-told
 enum-told c = search needs
@@ -25,13 +25,13 @@ now-side-requires c κs = search needs
 
 returns : tie.Need-returns
 returns c =
-    let after-enum-told : tie.After-enum-told = search in
-    rw (after-enum-told .enum-told .given .1) (c .start-side .ensures ∙ ap startTold (c .before .digit .ensures))
+    let arm : tie.After-enum-told = search in
+    rw (arm .enum-told .given .1) (c .start-side .ensures ∙ ap startTold (c .before .digit .ensures))
 
 returns-2 : tie.Need-returns-2
 returns-2 c =
-    let after-enum-told2 : tie.After-enum-told2 = search in
-    rw (after-enum-told2 .enum-told2 .given .1) (c .now-side .ensures ∙ ap nowTold (c .before .digit2 .ensures))
+    let arm : tie.After-enum-told2 = search in
+    rw (arm .enum-told2 .given .1) (c .now-side .ensures ∙ ap nowTold (c .before .digit2 .ensures))
 
 pub told-spec : {M : Type 1} → statement M
 told-spec =
