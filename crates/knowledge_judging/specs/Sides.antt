@@ -1,5 +1,5 @@
--- "A start valuation never stands in for a present one." A valuation is of the values at the start or of those now, and is held to what the digits
--- tell of that side.
+-- "A start valuation never stands in for a present one." A judgement is of the values at the start or of those now, by what the digits tell of that
+-- side; the valuations that are walked have its type.
 use Prim.Native.Nat.{ℕ}
 use Rattle.knowledge.specs.Fits.{startSide, nowSide}
 use Rattle.knowledge_judging.specs.declared.valuation.Side.{Side}

@@ -1,5 +1,5 @@
-// A side of a knowledge state, the start's or the present one: what the state tells of it, and valuations of it. Start and
-// present valuations have types of their own, so that neither stands in for the other.
+// A side of a knowledge state, the start's or the present one: what the state tells of it, by which a table
+// is judged, and valuations of it. Start and present valuations have types of their own.
 use ground::Present;
 use ground::Start;
 use knowledge::Knowledge;

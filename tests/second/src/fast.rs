@@ -1,5 +1,6 @@
 //! A quick plain finder, to measure the proved one by: the same design, in ordinary Rust. It stands by itself, so that
-//! bench/ can take this one file; `fast_replay.rs` and `fast_check.rs` lean on it. The cases here only compare it with `finder.rs`.
+//! bench/ can take this one file; `fast_replay.rs` and `fast_check.rs` lean on it. The cases here only compare it with
+//! `finder.rs`.
 //!
 //! What is permitted depends on the present side alone (unknown, false or true for each setting), so each rule is
 //! judged once for each of the 3^n sides. States where the goal is settled get rank 0; then each round pushes from

@@ -99,9 +99,9 @@ impl Knowledge {
                 Some(value) => values |= u8::from(value) << i,
             }
         }
-        if always(table, true, unknown, n, values) {
+        if always(table, true, unknown, values) {
             Judgement::TrueAtAll
-        } else if always(table, false, unknown, n, values) {
+        } else if always(table, false, unknown, values) {
             Judgement::FalseAtAll
         } else {
             Judgement::Neither
@@ -109,7 +109,8 @@ impl Knowledge {
     }
 }
 
-fn always(table: &[u8], value: bool, unknown: u8, _n: u8, values: u8) -> bool {
+/// Whether the table has the value at these values, whichever of the unknown settings are true.
+fn always(table: &[u8], value: bool, unknown: u8, values: u8) -> bool {
     let mut v = values;
     loop {
         if (table[usize::from(v / 8)] >> (v % 8) & 1 == 1) != value {
@@ -122,7 +123,7 @@ fn always(table: &[u8], value: bool, unknown: u8, _n: u8, values: u8) -> bool {
     }
 }
 
-/// What a byte comes to that is not at fault.
+/// What a byte without a fault does.
 enum Reading {
     Stops,
     Goes(u32),

@@ -39,7 +39,11 @@ returns-3 c =
     let told : tie.After-masks-of = search in
     let true-at-all : tie.After-walk = search in
     let not-all : tie.Else2 = search in
-    rw (le-leb _ _ (few .if1 .left), sym (true-at-all .walk .ensures ∙ walks-all (few .if1 .left) (told .masks-of .ensures) _ _) ∙ not-all .if2 .left, sym (c .before .walk2 .ensures ∙ walks-all (few .if1 .left) (told .masks-of .ensures) _ _) ∙ c .if3 .taken)
+    rw (
+      le-leb _ _ (few .if1 .left),
+      sym (true-at-all .walk .ensures ∙ walks-all (few .if1 .left) (told .masks-of .ensures) _ _) ∙ not-all .if2 .left,
+      sym (c .before .walk2 .ensures ∙ walks-all (few .if1 .left) (told .masks-of .ensures) _ _) ∙ c .if3 .taken,
+    )
 
 returns-4 : tie.Need-returns-4
 unfolding judgement
@@ -48,7 +52,11 @@ returns-4 c =
     let told : tie.After-masks-of = search in
     let true-at-all : tie.After-walk = search in
     let not-all : tie.Else2 = search in
-    rw (le-leb _ _ (few .if1 .left), sym (true-at-all .walk .ensures ∙ walks-all (few .if1 .left) (told .masks-of .ensures) _ _) ∙ not-all .if2 .left, sym (c .before .walk2 .ensures ∙ walks-all (few .if1 .left) (told .masks-of .ensures) _ _) ∙ c .if3 .left)
+    rw (
+      le-leb _ _ (few .if1 .left),
+      sym (true-at-all .walk .ensures ∙ walks-all (few .if1 .left) (told .masks-of .ensures) _ _) ∙ not-all .if2 .left,
+      sym (c .before .walk2 .ensures ∙ walks-all (few .if1 .left) (told .masks-of .ensures) _ _) ∙ c .if3 .left,
+    )
 
 pub judge-spec : {M : Type 1} → statement M
 judge-spec =
