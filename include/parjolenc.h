@@ -1,4 +1,4 @@
-// The C interface of Parjolenc, version 2.1, for x86-64 Linux: what a host has to know stands in this file.
+// The C interface of Parjolenc, version 2.2, for x86-64 Linux: what a host has to know stands in this file.
 //
 // `rt staticlib exports` writes the library. A program is compiled with it by the ordinary line, in C99 or C++11:
 //
@@ -39,9 +39,9 @@ extern "C" {
 // The version of this interface, and not of what is behind it. The first number grows where a program that was
 // written for the header before it would not compile or would mean something else, the second where something is added.
 #define PJ_VERSION_FIRST 2
-#define PJ_VERSION_SECOND 1
+#define PJ_VERSION_SECOND 2
 #define PJ_VERSION (100 * PJ_VERSION_FIRST + PJ_VERSION_SECOND)
-#define PJ_VERSION_TEXT "2.1"
+#define PJ_VERSION_TEXT "2.2"
 
 typedef unsigned char pj_u8;
 typedef unsigned long long pj_u64;
@@ -68,7 +68,7 @@ static inline pj_u64 pj_length(pj_u64 result) { return result & 0xffff; }
 
 // The numbers of the refusals, and when each is given: the words of docs/CONTRACTS.md, "Every refusal", which names the
 // definitions. Of several the first is given, in this order: pj_formula_read 5, 1, the lowest place of 2 or 3, 4;
-// pj_book_read 6, 7, 8, 9, 15; pj_book_write 5, 8, 6, 9, 15; pj_find 6 to 14; pj_plan_check 6 to 12, 16, then the
+// pj_book_read 6, 7, 8, 9, 15; pj_book_write 5, 8, 6, 9, 15; pj_find 6 to 14; pj_find_plain 6 to 12; pj_plan_check 6 to 12, 16, then the
 // first of 17 to 21 as the plan is read; pj_rules 24, line by line 22, 23 and the formula's 1 to 4, then 15.
 // pj_sheet and pj_ask print theirs: pj_sheet 24, line by line 22, 23 and 1 to 4, and 25 directly after line 1; pj_ask
 // the book's 6 to 9, 24, line by line 22, 23 and 1 to 4, then 13. pj_replay gives the book's 6 to 9, 26, then record by
@@ -305,6 +305,13 @@ pj_u64 pj_book_write(pj_u64 n, pj_u64 m, const pj_u8 *rights, pj_u64 rights_leng
 pj_u64 pj_find(const pj_u8 *book, pj_u64 book_length, pj_u8 team, pj_u8 known, pj_u8 values, const pj_u8 *make,
                pj_u64 make_length, const pj_u8 *learn, pj_u64 learn_length, pj_u8 *ranks, pj_u64 ranks_length,
                pj_u8 *plan, pj_u64 plan_length);
+
+// The same question, answered a second way, forwards from what the team knows and without a rank table: reach: the
+// least height + 1; cannot: 0; or one of refusals 6 to 12. It is proved to give the same answer and the same height as
+// pj_find. Nothing is lent for writing. Its memory is on the stack, a byte for each of 7^7 knowledge numbers, whatever
+// the book's n: see PJ_STACK_FIND_PLAIN.
+pj_u64 pj_find_plain(const pj_u8 *book, pj_u64 book_length, pj_u8 team, pj_u8 known, pj_u8 values, const pj_u8 *make,
+                     pj_u64 make_length, const pj_u8 *learn, pj_u64 learn_length);
 
 // Whether the bytes are those of a plan that works. 0 for yes, or a refusal. Nothing is written.
 pj_u64 pj_plan_check(const pj_u8 *book, pj_u64 book_length, pj_u8 team, pj_u8 known, pj_u8 values, const pj_u8 *make,

@@ -1,7 +1,9 @@
 -- The three demands, on one page; the same in full strength (Exactly); that the finder and the plan check agree; that a sheet is answered as its rules
--- and its question are (Texts); and what the replay of a recorded shift says (Shifts).
+-- and its question are (Texts); what the replay of a recorded shift says (Shifts); and that
+-- the second finder says what the first says (Plain).
 pub mod Demands
 pub mod Agree
 pub mod Exactly
 pub mod Texts
 pub mod Shifts
+pub mod Plain

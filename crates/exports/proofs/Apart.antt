@@ -29,6 +29,9 @@ use Rattle.question.specs.declared.Question.{Question}
 use Rattle.finder.specs.Finds.{Finds}
 use Rattle.finder.specs.declared.answer.Answer.{Answer}
 use Rattle.finder.specs.declared.answer.Answer.the-variants.{Reach, Cannot, Refused}
+use Rattle.finder_plain.specs.Finds.{FindsPlain}
+use Rattle.finder_plain.specs.declared.finding.PlainAnswer.the-variants.{Reach as PlainReach, Cannot as PlainCannot, Refused as NotAsked}
+use Rattle.finder_plain.proofs.Unique.{plain-height-small, plain-place-small}
 use Rattle.finder.proofs.Small.{place-small, reach-most}
 use Rattle.plancheck.specs.Checks.{Checks}
 use Rattle.plancheck.specs.declared.answer.CheckAnswer.{CheckAnswer}
@@ -44,11 +47,11 @@ use Rattle.station.specs.Replay.{replayRows, Replays}
 use Rattle.exports.specs.Replay.{ShiftReplayed}
 use Rattle.exports.specs.Texts.{RulesMade}
 use Rattle.exports.specs.Packed.{packed, packedAt, upper, lower, numberIn, secondIn}
-use Rattle.exports.specs.Returned.{formulaReturned, readReturned, writeReturned, findReturned, checkReturned, rulesReturned}
+use Rattle.exports.specs.Returned.{formulaReturned, readReturned, writeReturned, findReturned, plainReturned, checkReturned, rulesReturned}
 use Rattle.exports.specs.Returned.{replayReturned, reachedAs, reachedAfter}
 use Rattle.exports.specs.Formula.{FormulaRead}
 use Rattle.exports.specs.Book.{BookRead, BookWritten}
-use Rattle.exports.specs.Find.{PlanFound}
+use Rattle.exports.specs.Find.{PlanFound, PlainlyFound}
 use Rattle.exports.specs.Check.{PlanChecked}
 
 -- a result that tells this refusal, at this place
@@ -125,6 +128,18 @@ find-apart {book} {q} {goal} {ranks} {plan} {ranks′} {plan′} {r} c = (
   λ e. c .result-is ∙ ap findReturned e,
   λ w e. let finds = subst (λ (a : Answer). Finds book q goal ranks plan a ranks′ plan′) e (c .finds) in
       apart w (c .result-is ∙ ap findReturned e) (omega (arith, place-small book q goal ranks plan ranks′ plan′ w finds)),
+)
+
+pub find-plain-apart : {book : List ℕ} {q : Question} {goal : Goal} {r : ℕ} (c : PlainlyFound book q goal r)
+    → ((h : ℕ) → c .answer ≡ PlainReach h → (upper r ≡ 0) × (r ≡ h + 1))
+    × (c .answer ≡ PlainCannot → r ≡ 0) × ((w : Refusal) → c .answer ≡ NotAsked w → Tells-refusal r w)
+find-plain-apart {book} {q} {goal} {r} c = (
+  λ h e. let finds = subst (FindsPlain book q goal) e (c .finds) in
+      let is : r ≡ h + 1 = c .result-is ∙ ap plainReturned e in
+      (ap upper is ∙ div-eq-of-lt (omega (arith, plain-height-small book q goal h finds)), is),
+  λ e. c .result-is ∙ ap plainReturned e,
+  λ w e. let finds = subst (FindsPlain book q goal) e (c .finds) in
+      apart w (c .result-is ∙ ap plainReturned e) (omega (arith, plain-place-small book q goal w finds)),
 )
 
 pub plan-check-apart : {book : List ℕ} {q : Question} {goal : Goal} {plan : List ℕ} {r : ℕ} (c : PlanChecked book q goal plan r)

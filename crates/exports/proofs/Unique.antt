@@ -10,9 +10,10 @@ use Rattle.book.proofs.Theorems.{reads-one, writes-one}
 use Rattle.knowledge.specs.Goal.{Goal}
 use Rattle.question.specs.declared.Question.{Question}
 use Rattle.finder.proofs.Unique.{find-unique}
+use Rattle.finder_plain.proofs.Unique.{plain-unique}
 use Rattle.plancheck.proofs.OneAnswer.{checks-one}
-use Rattle.exports.specs.Returned.{formulaReturned, readReturned, writeReturned, findReturned, checkReturned, rulesReturned, replayReturned, reachedAfter}
-use Rattle.exports.specs.Find.{PlanFound}
+use Rattle.exports.specs.Returned.{formulaReturned, readReturned, writeReturned, findReturned, plainReturned, checkReturned, rulesReturned, replayReturned, reachedAfter}
+use Rattle.exports.specs.Find.{PlanFound, PlainlyFound}
 use Rattle.exports.specs.Check.{PlanChecked}
 use Rattle.exports.specs.Formula.{onReturn, FormulaRead}
 use Rattle.sheet_rules.specs.Meaning.{rulesMeaning}
@@ -45,6 +46,10 @@ pub find-one : {book : List ℕ} {q : Question} {goal : Goal} {ranks plan : List
 find-one {book} {q} {goal} {ranks} {plan} {x = x} {y = y} {u = u} {v = v} a b =
     let e = find-unique book q goal ranks plan (a .answer) (b .answer) x y u v (a .finds) (b .finds) in
     (a .result-is ∙ ap findReturned (e .0) ∙ sym (b .result-is), e .1, e .2)
+
+pub find-plain-one : {book : List ℕ} {q : Question} {goal : Goal} {r s : ℕ} → PlainlyFound book q goal r → PlainlyFound book q goal s → r ≡ s
+find-plain-one {book} {q} {goal} a b =
+    a .result-is ∙ ap plainReturned (plain-unique book q goal (a .answer) (b .answer) (a .finds) (b .finds)) ∙ sym (b .result-is)
 
 pub plan-check-one : {book : List ℕ} {q : Question} {goal : Goal} {plan : List ℕ} {r s : ℕ} → PlanChecked book q goal plan r → PlanChecked book q goal plan s → r ≡ s
 plan-check-one {book} {q} {goal} {plan} a b =

@@ -1,4 +1,4 @@
--- `pj_find`: what the finder answers, as one number; the lent rooms are left as it leaves them.
+-- `pj_find` and `pj_find_plain`: what a finder answers, as one number; the lent rooms of the first are left as it leaves them.
 use mathlib.Core.Path.{_≡_}
 use mathlib.Core.List.{List}
 use Prim.Native.Nat.{ℕ}
@@ -6,7 +6,9 @@ use Rattle.knowledge.specs.Goal.{Goal}
 use Rattle.finder.specs.Finds.{Finds}
 use Rattle.finder.specs.declared.answer.Answer.{Answer}
 use Rattle.question.specs.declared.Question.{Question}
-use Rattle.exports.specs.Returned.{findReturned}
+use Rattle.finder_plain.specs.Finds.{FindsPlain}
+use Rattle.finder_plain.specs.declared.finding.PlainAnswer.{PlainAnswer}
+use Rattle.exports.specs.Returned.{findReturned, plainReturned}
 
 -- the team has bit q for the post with index q; known bit i for setting i, and values bit i where it is known to be true
 abbrev pub asked : ℕ → ℕ → ℕ → Question
@@ -17,3 +19,9 @@ pub record PlanFound (book : List ℕ) (q : Question) (goal : Goal) (ranks plan 
   pub answer : Answer
   pub finds : Finds book q goal ranks plan answer ranks′ plan′
   pub result-is : result ≡ findReturned answer
+
+-- the plain finder is lent no room
+pub record PlainlyFound (book : List ℕ) (q : Question) (goal : Goal) (result : ℕ) : Type 0 where
+  pub answer : PlainAnswer
+  pub finds : FindsPlain book q goal answer
+  pub result-is : result ≡ plainReturned answer

@@ -9,6 +9,8 @@ use Rattle.book.specs.declared.writing.WriteAnswer.{WriteAnswer}
 use Rattle.book.specs.declared.writing.WriteAnswer.the-variants.{Written, Refused as NotWritten}
 use Rattle.finder.specs.declared.answer.Answer.{Answer}
 use Rattle.finder.specs.declared.answer.Answer.the-variants.{Reach, Cannot, Refused}
+use Rattle.finder_plain.specs.declared.finding.PlainAnswer.{PlainAnswer}
+use Rattle.finder_plain.specs.declared.finding.PlainAnswer.the-variants.{Reach as PlainReach, Cannot as PlainCannot, Refused as NotAsked}
 use Rattle.plancheck.specs.declared.answer.CheckAnswer.{CheckAnswer}
 use Rattle.plancheck.specs.declared.answer.CheckAnswer.the-variants.{Yes, Refused as NotAccepted}
 use Rattle.sheet_book.specs.declared.MakeAnswer.{MakeAnswer}
@@ -38,6 +40,12 @@ abbrev pub findReturned : Answer → ℕ
 findReturned (Reach height size) = height * 2 ^ 16 + size % 2 ^ 16
 findReturned Cannot = 0
 findReturned (Refused r) = packed r
+
+-- `pj_find_plain`: reach: the height and one; cannot: 0; or the refusal as one number
+abbrev pub plainReturned : PlainAnswer → ℕ
+plainReturned (PlainReach height) = height + 1
+plainReturned PlainCannot = 0
+plainReturned (NotAsked r) = packed r
 
 -- `pj_plan_check`: yes: 0, or the refusal as one number
 abbrev pub checkReturned : CheckAnswer → ℕ

@@ -5,7 +5,7 @@ mod packing;
 
 ghost use Rattle.knowledge.specs.Goal.{goalOf};
 ghost use Rattle.exports.specs.Formula.{FormulaRead};
-ghost use Rattle.exports.specs.Find.{asked, PlanFound};
+ghost use Rattle.exports.specs.Find.{asked, PlanFound, PlainlyFound};
 ghost use Rattle.exports.specs.Check.{PlanChecked};
 ghost use Rattle.exports.specs.Book.{BookRead, BookWritten};
 ghost use Rattle.exports.specs.Texts.{RulesMade};
@@ -15,6 +15,7 @@ ghost use Rattle.sheet_ask.specs.Asks.{AsksBook};
 use book::WriteAnswer;
 use book_sound::ReadAnswer;
 use finder::Answer as Found;
+use finder_plain::PlainAnswer;
 use formula::Answer;
 use packing::packed;
 use packing::packed_at;
@@ -90,6 +91,31 @@ pub extern "C" fn pj_find(
         Found::Reach { height, length } => (height as u64) * 65536 + (length as u64) % 65536,
         Found::Cannot => 0,
         Found::Refused(why) => packed(why),
+    }
+}
+
+// "Reach" with the least height, found without a rank table: the height and one; "cannot": 0; or a refusal. Nothing is
+// written.
+#[no_mangle]
+pub extern "C" fn pj_find_plain(
+    book: &[u8],
+    team: u8,
+    known: u8,
+    values: u8,
+    make: &[u8],
+    learn: &[u8],
+) -> u64
+    ensures { λ r. ⌜ PlainlyFound (now (book .entry)) (asked team known values) (goalOf (now (make .entry)) (now (learn .entry))) r ⌝ }
+{
+    let question = Question {
+        team,
+        known,
+        values,
+    };
+    match finder_plain::find(book, question, make, learn) {
+        PlainAnswer::Reach(height) => height as u64 + 1,
+        PlainAnswer::Cannot => 0,
+        PlainAnswer::Refused(why) => packed(why),
     }
 }
 

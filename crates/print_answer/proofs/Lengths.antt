@@ -12,13 +12,17 @@ use Rattle.plan.specs.Plans.{Plan, stop, set-then, look-then, height}
 use Rattle.plan.specs.Bytes.{encode}
 use Rattle.print_room.proofs.Decimals.{decimal-length}
 use Rattle.print_answer.specs.Listed.{actText, numbered, planText, Lettered}
-use Rattle.print_answer.specs.Printed.{refusedAt}
+use Rattle.print_answer.specs.Printed.{refusedAt, heightText}
 use Rattle.print_answer.specs.Inner.{Shows, Readable}
 use Rattle.print_answer.proofs.Lined.{numbered-length}
 
 -- numbers of up to 20 digits
 pub refused-at-length : (number place : ℕ) → number < 10 ^ 20 → place < 10 ^ 20 → length (refusedAt number place) ≤ 49
 refused-at-length number place h k = simp length-append (omega (arith, decimal-length 19 number h, decimal-length 19 place k))
+
+-- heights of up to three digits
+pub height-text-length : (height : ℕ) → height < 10 ^ 3 → length (heightText height) ≤ 10
+height-text-length height h = simp length-append (omega (arith, decimal-length 2 height h))
 
 -- depths of at most k + 1 digits: a line has those and at most 11 bytes more
 pub plan-length : (k depth : ℕ) (p : Plan) → depth + height p < 10 ^ suc k → length (planText depth p) ≤ (12 + k) * length (encode p)

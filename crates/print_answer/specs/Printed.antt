@@ -25,9 +25,13 @@ secondedText number place (suc second) = line (refusedAt number place ++ bytes "
 abbrev pub cannotText : List ℕ
 cannotText = line (bytes "cannot")
 
+-- "`reach H`", alone
+abbrev pub heightText : ℕ → List ℕ
+heightText height = line (bytes "reach " ++ decimal height)
+
 -- "`reach H` and a line per plan byte"
 abbrev pub reachText : ℕ → Plan → List ℕ
-reachText height p = line (bytes "reach " ++ decimal height) ++ planText 0 p
+reachText height p = heightText height ++ planText 0 p
 
 -- what a lent room that held old holds when as much of the text is written into it as fits: the rest is kept
 abbrev pub fitted : List ℕ → List ℕ → List ℕ

@@ -24,13 +24,13 @@ use Rattle.sheet_ask.proofs.AskedQuestion.{asked-valid, desk-asks}
 module _ {book : List ℕ} {n m : ℕ} (sound : Sound book n m) (text : List ℕ) (told : QuestionTold) (d : AskedDesk)
     (reads : ReadsQuestion (within 7 n) (questionMeaning 0 true (within 7 n) (within 8 m) text) told d) where
   -- the book's size is in its bounds
-  own : ReadsQuestion n (questionMeaning 0 true n m text) told d
+  pub own : ReadsQuestion n (questionMeaning 0 true n m text) told d
   own =
       subst₂ (λ (x y : ℕ). ReadsQuestion x (questionMeaning 0 true x y text) told d)
       (within-same 7 n (sound .settings .most) (sound .settings .least)) (within-same 8 m (sound .posts .most) (sound .posts .least)) reads
 
   module _ (e : told ≡ Stated) where
-    whole : (a : Asked) × (questionMeaning 0 true n m text ≡ asked a) × AskedOnDesk n a d
+    pub whole : (a : Asked) × (questionMeaning 0 true n m text ≡ asked a) × AskedOnDesk n a d
     whole = by-meaning (questionMeaning 0 true n m text) refl (subst (λ (t : QuestionTold). ReadsQuestion n (questionMeaning 0 true n m text) t d) e own)
       where
         by-meaning : (o : QuestionMeaning) → questionMeaning 0 true n m text ≡ o → ReadsQuestion n o Stated d

@@ -43,6 +43,11 @@ pub fn find(
     route::find(book, masks, make, learn, ranks, plan)
 }
 
+/// Answers a question without a rank table, and writes nothing. "Reach" is the height and one; "cannot" is 0.
+pub fn find_plain(book: &mut Room, masks: [u8; 3], make: &mut Room, learn: &mut Room) -> u64 {
+    route::find_plain(book, masks, make, learn)
+}
+
 /// Checks a plan's bytes. Yes is 0.
 pub fn plan_check(book: &mut Room, masks: [u8; 3], make: &mut Room, learn: &mut Room, plan: &mut Room) -> u64 {
     route::plan_check(book, masks, make, learn, plan)

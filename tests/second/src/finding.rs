@@ -87,6 +87,7 @@ fn expect(
     let (mut ranks_left, mut plan_left) = (ranks.lent_before().to_vec(), plan.lent_before().to_vec());
     let masks = [question.team, question.known, question.values];
     let word = ffi::find(&mut book, masks, &mut make, &mut learn, &mut ranks, &mut plan);
+    let plain = ffi::find_plain(&mut book, masks, &mut make, &mut learn);
 
     let expected = match solution {
         Ok(solution) => solution.in_rooms(rank_room, plan_room),
@@ -104,9 +105,17 @@ fn expect(
         Ok(Found::Cannot) => 0,
         Err(refusal) => refusal.word(),
     };
+    let plain_word = match solution {
+        Ok(Solution { found: Found::Reach { height, .. }, .. }) => u64::from(*height) + 1,
+        Ok(Solution { found: Found::Cannot, .. }) => 0,
+        Err(refusal) => refusal.word(),
+    };
     let only_read = book.untouched() && make.untouched() && learn.untouched();
     let bounded = solution.as_ref().map_or(true, |solution| within_bounds(solution));
     let right = bounded && word == expected_word && ranks.holds(&ranks_left) && plan.holds(&plan_left) && only_read;
+    group.case(plain == plain_word, || {
+        format!("{}\n        by the plain finder\n        expected {plain_word:#x}\n        got      {plain:#x}", shown_question(question))
+    });
     group.case(right, || {
         let mut more = String::new();
         if let Some(k) = (0..rank_room).find(|&k| ranks.lent()[k] != ranks_left[k]) {

@@ -69,7 +69,7 @@ const AREAS: &[Area] = &[
     Area { name: "formulas", functions: &["pj_formula_read"], test: formulas::test },
     Area { name: "reading books", functions: &["pj_book_read"], test: books::reading },
     Area { name: "writing books", functions: &["pj_book_write"], test: books::writing },
-    Area { name: "finding", functions: &["pj_find"], test: finding::test },
+    Area { name: "finding", functions: &["pj_find", "pj_find_plain"], test: finding::test },
     Area { name: "checking plans", functions: &["pj_plan_check"], test: checking::test },
     Area { name: "secrets", functions: &["pj_find"], test: secrets::test },
     Area { name: "sheets", functions: &["pj_sheet"], test: sheets::test },

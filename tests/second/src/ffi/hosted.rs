@@ -16,6 +16,7 @@ const SHEET: u64 = 6;
 const RULES: u64 = 7;
 const ASK: u64 = 8;
 const REPLAY: u64 = 9;
+const FIND_PLAIN: u64 = 10;
 
 pub fn formula_read(n: u64, text: &mut Room, table: &mut Room) -> u64 {
     call(FORMULA_READ, &[n], &mut [text, table])
@@ -38,6 +39,10 @@ pub fn find(
     plan: &mut Room,
 ) -> u64 {
     call(FIND, &masks.map(u64::from), &mut [book, make, learn, ranks, plan])
+}
+
+pub fn find_plain(book: &mut Room, masks: [u8; 3], make: &mut Room, learn: &mut Room) -> u64 {
+    call(FIND_PLAIN, &masks.map(u64::from), &mut [book, make, learn])
 }
 
 pub fn plan_check(book: &mut Room, masks: [u8; 3], make: &mut Room, learn: &mut Room, plan: &mut Room) -> u64 {

@@ -22,6 +22,17 @@ extern "C" {
         plan: *mut u8,
         plan_len: u64,
     ) -> u64;
+    fn pj_find_plain(
+        book: *const u8,
+        book_len: u64,
+        team: u8,
+        known: u8,
+        values: u8,
+        make: *const u8,
+        make_len: u64,
+        learn: *const u8,
+        learn_len: u64,
+    ) -> u64;
     fn pj_plan_check(
         book: *const u8,
         book_len: u64,
@@ -102,6 +113,12 @@ pub fn find(
             start(plan),
             size(plan),
         )
+    }
+}
+
+pub fn find_plain(book: &mut Room, [team, known, values]: [u8; 3], make: &mut Room, learn: &mut Room) -> u64 {
+    unsafe {
+        pj_find_plain(start(book), size(book), team, known, values, start(make), size(make), start(learn), size(learn))
     }
 }
 
