@@ -12,11 +12,7 @@ asked() {
     readable "$1" || { status=3; return; }
     taken "$1" 65536
     run program_ask "$book" "$file"
-    case $(whose) in
-    book) book_hint "$book" "$named" ;;
-    question) question_hint "$book" "$file" "$1" ;;
-    *) empty_hint "$file" "$1" -v n="$(od -An -tu1 -N1 <"$book" | tr -d ' ')" -v able="$(able "$book" 1)" -v setters="$(able "$book" 17)" ;;
-    esac
+    asked_hint "$book" "$named" "$file" "$1"
 }
 
 if [ $# -eq 1 ]; then

@@ -1,53 +1,62 @@
-# both SHEET, both BOOK QUESTION: the answer of both finders, in one line and without a plan. The two are programs by themselves; that
-# they never differ is proved, and here it is seen.
+# both SHEET, both BOOK QUESTION: the answer of both finders, in one line and without a plan. The two are programs by
+# themselves; that they never differ is proved, and here it is seen. A sheet that is refused is put to the first alone.
 [ $# -eq 1 ] || [ $# -eq 2 ] || trouble 'usage: ./parjolenc both SHEET, or ./parjolenc both BOOK QUESTION'
 kept
 
-# compared: the first finder's answer is in the side folder; the plain finder's goes beside it, and both are said, or that they differ.
-# `book` and `question` are files.
+# beside NAME PROGRAM WORDS..: runs a program, and keeps what it prints in the side folder under that name.
+beside() {
+    local into=$side/$1
+    shift
+    : 2>/dev/null >"$into" || trouble 'no room for a temporary file'
+    run "$@" >"$into"
+    [ "$status" -ne 3 ] || exit 3
+}
+
+# printed LINE: a line on standard output.
+printed() {
+    printf '%s\n' "$1" 2>/dev/null || trouble 'standard output cannot be written'
+}
+
+# compared BOOK QUESTION: the plain finder's answer is put beside the first finder's, and both are said, or that they differ.
 compared() {
-    local first=$status
-    run program_plain "$book" "$question" >"$side/plain"
-    if [ "$status" -ne "$first" ] || [ "$(head -n 1 "$side/answer")" != "$(cat "$side/plain")" ]; then
-        trouble "the two finders differ, which is proved not to be: '$(head -n 1 "$side/answer")' and '$(cat "$side/plain")'"
-    fi
-    printf 'both: %s\n' "$(cat "$side/plain")" 2>/dev/null || trouble 'standard output cannot be written'
+    local before=$status first plain
+    beside plain program_plain "$1" "$2"
+    first=$(head -n 1 "$side/answer")
+    plain=$(cat "$side/plain")
+    [ "$status" -eq "$before" ] && [ "$plain" = "$first" ] ||
+        trouble "the two finders differ, which is proved not to be: '$first' and '$plain'"
+    if [ "$status" -eq 2 ]; then printed "$plain"; else printed "both: $plain"; fi
 }
 
 if [ $# -eq 1 ]; then
-    # a sheet is answered as it is; one that is not refused is then cut before its line `team`
+    name=$1
+    [ "$1" != - ] || name='standard input'
     [ "$1" = - ] || readable "$1" || exit 3
     taken "$1" 32768
-    run parjolenc <"$file" >"$side/answer"
-    if [ "$status" -gt 1 ]; then
-        cat "$side/answer"
-        hint sheet "$file" "$1"
-        exit "$status"
+    sheet=$file
+    beside answer parjolenc <"$sheet"
+    if [ "$status" -eq 2 ]; then
+        printed "$(cat "$side/answer")"
+        hint sheet "$sheet" "$name"
+        exit 2
     fi
-    answered=$status
-    sed '/^team /,$d' <"$file" >"$side/rules"
-    sed -n '/^team /,$p' <"$file" >"$side/question"
-    book=$side/book
-    question=$side/question
-    run program_book "$side/rules" "$book"
-    [ "$status" -eq 0 ] || trouble "the rules of $1 make no book"
-    status=$answered
+    first=$status
+    # a sheet that is not refused is rules up to its line `team`, and a question from there on
+    sed '/^team /,$d' <"$sheet" >"$side/rules" && sed -n '/^team /,$p' <"$sheet" >"$side/question" ||
+        trouble 'no room for a temporary file'
+    run program_book "$side/rules" "$side/book"
+    [ "$status" -eq 0 ] || trouble "the rules of $name make no book"
+    status=$first
+    compared "$side/book" "$side/question"
+    empty_hint "$sheet" "$name"
 else
     readable "$1" || exit 3
     readable "$2" || exit 3
     taken "$1" 4096
     book=$file
     taken "$2" 65536
-    question=$file
-    run program_ask "$book" "$question" >"$side/answer"
-    if [ "$status" -gt 1 ]; then
-        cat "$side/answer"
-        case $(whose) in
-        book) book_hint "$book" "$1" ;;
-        question) question_hint "$book" "$question" "$2" ;;
-        esac
-        exit "$status"
-    fi
+    beside answer program_ask "$book" "$file"
+    compared "$book" "$file"
+    asked_hint "$book" "$1" "$file" "$2"
 fi
-compared
 exit "$status"

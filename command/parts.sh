@@ -20,7 +20,7 @@ say() {
 # readable FILE: a file that can be read, and no folder; else what is wrong is said.
 readable() {
     if [ "$1" = - ]; then
-        say "-: only 'answer' takes standard input so; give a file, or /dev/stdin"
+        say "-: only 'answer' and 'both SHEET' take standard input so; give a file, or /dev/stdin"
     elif [ ! -e "$1" ]; then
         say "$1: there is no such file, or its folder may not be entered"
     elif [ -d "$1" ]; then
@@ -147,6 +147,16 @@ empty_hint() {
     local file=$1 name=$2
     shift 2
     [ "$status" -gt 1 ] || awk -v name="$name" "$@" -f "$home/command/empty.awk" <"$file" >&2 2>/dev/null
+}
+
+# asked_hint BOOK NAME QUESTION NAME: after what a program said of a question that is put to a book, what is wrong with the one of them
+# that is at fault, or that nothing is asked.
+asked_hint() {
+    case $(whose) in
+    book) book_hint "$1" "$2" ;;
+    question) question_hint "$1" "$3" "$4" ;;
+    *) empty_hint "$3" "$4" -v n="$(od -An -tu1 -N1 <"$1" | tr -d ' ')" -v able="$(able "$1" 1)" -v setters="$(able "$1" 17)" ;;
+    esac
 }
 
 # able BOOK FROM: the digits of the posts that have a right that can hold. A setting's block has 16 rows of 32 bytes, and the first

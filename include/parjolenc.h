@@ -66,13 +66,15 @@ static inline pj_u64 pj_posts(pj_u64 result) { return result & 0xff; }
 static inline pj_u64 pj_height(pj_u64 result) { return result >> 16; }
 static inline pj_u64 pj_length(pj_u64 result) { return result & 0xffff; }
 
+// A success of pj_find_plain: 0 is "cannot", and any other the height and one. pj_height is not for it.
+
 // The numbers of the refusals, and when each is given: the words of docs/CONTRACTS.md, "Every refusal", which names the
 // definitions. Of several the first is given, in this order: pj_formula_read 5, 1, the lowest place of 2 or 3, 4;
-// pj_book_read 6, 7, 8, 9, 15; pj_book_write 5, 8, 6, 9, 15; pj_find 6 to 14; pj_find_plain 6 to 12; pj_plan_check 6 to 12, 16, then the
-// first of 17 to 21 as the plan is read; pj_rules 24, line by line 22, 23 and the formula's 1 to 4, then 15.
-// pj_sheet and pj_ask print theirs: pj_sheet 24, line by line 22, 23 and 1 to 4, and 25 directly after line 1; pj_ask
-// the book's 6 to 9, 24, line by line 22, 23 and 1 to 4, then 13. pj_replay gives the book's 6 to 9, 26, then record by
-// record 27, 28, 29.
+// pj_book_read 6, 7, 8, 9, 15; pj_book_write 5, 8, 6, 9, 15; pj_find 6 to 14; pj_find_plain 6 to 12; pj_plan_check 6 to
+// 12, 16, then the first of 17 to 21 as the plan is read; pj_rules 24, line by line 22, 23 and the formula's 1 to 4,
+// then 15. pj_sheet and pj_ask print theirs: pj_sheet 24, line by line 22, 23 and 1 to 4, and 25 directly after line 1;
+// pj_ask the book's 6 to 9, 24, line by line 22, 23 and 1 to 4, then 13. pj_replay gives the book's 6 to 9, 26, then
+// record by record 27, 28, 29.
 // The place is 0 where none is named in brackets. Of a text the place of 1 to 4 is the line.
 enum {
     // The formula has no byte or more than 255.
@@ -171,9 +173,9 @@ enum {
 };
 
 // The room that each function needs for n settings, 1 to 7. With rooms of these lengths 13, 14 and 15 are never given.
-// pj_formula_read writes a table, pj_replay two words, and pj_plan_check nothing; `out` of pj_sheet and of pj_ask may
-// have any length, and PJ_ANSWER_MOST and PJ_ASK_MOST fit all that they print. Where n is not known yet, the most of
-// each will do.
+// pj_formula_read writes a table, pj_replay two words, pj_find_plain and pj_plan_check nothing; `out` of pj_sheet and of
+// pj_ask may have any length, and PJ_ANSWER_MOST and PJ_ASK_MOST fit all that they print. Where n is not known yet, the
+// most of each will do.
 //   `rights` of pj_book_read, 256 × n, and `book` of pj_book_write and pj_rules, 512 × (1 + n): no less will do
 //   `plan` of pj_find, 2^n × (2^(n+1) - 1): no plan is longer, and room for the plan that is found will do
 //   `ranks` of pj_find and pj_ask, 7^n: no less will do
@@ -186,16 +188,17 @@ enum {
 // Stack that a call takes at most, whatever its arguments, rounded up to 4,096 bytes. It is measured and not proved:
 // tests/host/stack.c paints a stack, calls the function where it goes deepest, and finds the lowest byte that changed.
 // On x86-64, with the library that kit 5b made on 2026-11-16, in the order below: 102,768 bytes (255 brackets: 400 each
-// and 768), 248, 232, 113,176 (a plan of height 254: 208 for each act and 60,344), 664, 138,752 and 118,464 (a look rule
-// of 255 brackets), 146,072 (a plan of height 254), and 184. The frames in the object code add up to the same on the
-// deepest path. memcpy and memset are counted, but the first call of one in a
-// process takes more where the dynamic linker binds it then: 3,152 bytes were seen, for which there is room, since
-// nothing that calls itself calls them.
+// and 768), 248, 232, 113,176 (a plan of height 254: 208 for each act and 60,344), 897,664 (the same plan: 288 for each
+// height and 824,512, of which 823,543 are what it remembers), 632, 138,752 and 118,464 (a look rule of 255 brackets),
+// 146,072 (a plan of height 254), and 184. The frames in the object code add up to the same on the deepest path. memcpy
+// and memset are counted, but the first call of one in a process takes more where the dynamic linker binds it then:
+// 3,152 bytes were seen, for which there is room, since nothing that calls itself calls them.
 enum {
     PJ_STACK_FORMULA_READ = 106496,
     PJ_STACK_BOOK_READ = 4096,
     PJ_STACK_BOOK_WRITE = 4096,
     PJ_STACK_FIND = 114688,
+    PJ_STACK_FIND_PLAIN = 901120,
     PJ_STACK_PLAN_CHECK = 4096,
     PJ_STACK_SHEET = 139264,
     PJ_STACK_RULES = 118784,

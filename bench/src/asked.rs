@@ -1,4 +1,4 @@
-//! The questions that are timed: seven settings, eight posts.
+//! The questions that are timed: seven settings where no other number is given, eight posts.
 
 use crate::book;
 use crate::rng::Rng;
@@ -43,10 +43,10 @@ pub fn all_true(settings: std::ops::Range<usize>) -> u128 {
     settings.fold(u128::MAX, |bits, i| bits & letter(i))
 }
 
-/// Where some settings, each of them drawn with this chance, have drawn values.
-pub fn conjunction(rng: &mut Rng, percent: u32) -> u128 {
+/// Where some of n settings, each of them drawn with this chance, have drawn values.
+pub fn conjunction(rng: &mut Rng, n: usize, percent: u32) -> u128 {
     let mut bits = u128::MAX;
-    for i in 0..N {
+    for i in 0..n {
         if rng.chance(percent) {
             bits &= if rng.chance(50) { letter(i) } else { !letter(i) };
         }
@@ -54,38 +54,49 @@ pub fn conjunction(rng: &mut Rng, percent: u32) -> u128 {
     bits
 }
 
+/// The valuations of n settings.
+fn valuations(n: usize) -> u128 {
+    u128::MAX >> (128 - (1 << n))
+}
+
 /// A book of these rules, for a setting and a post, to look or else to set.
-pub fn book_of(mut rule: impl FnMut(usize, usize, bool) -> u128) -> Vec<u8> {
-    let mut rights = Vec::with_capacity(N * 256);
-    for setting in 0..N {
+pub fn book_of(n: usize, mut rule: impl FnMut(usize, usize, bool) -> u128) -> Vec<u8> {
+    let mut rights = Vec::with_capacity(n * 256);
+    for setting in 0..n {
         for post in 0..M {
             for look in [true, false] {
-                rights.extend(rule(setting, post, look).to_le_bytes());
+                rights.extend((rule(setting, post, look) & valuations(n)).to_le_bytes());
             }
         }
     }
-    book::write(N as u64, M as u64, &rights, usize::MAX).unwrap_or_else(|_| panic!("rights of a sound book"))
+    book::write(n as u64, M as u64, &rights, usize::MAX).unwrap_or_else(|_| panic!("rights of a sound book"))
 }
 
 /// A team of the first posts; this percentage of the rules is closed, the others ask for the values of many settings,
 /// and some looks are open; the goal is a few values.
-pub fn random(rng: &mut Rng, posts: usize, closed: u32) -> Asked {
-    let book = book_of(|_, _, look| match rng.below(10) {
+pub fn random(rng: &mut Rng, n: usize, posts: usize, closed: u32) -> Asked {
+    let book = book_of(n, |_, _, look| match rng.below(10) {
         _ if rng.chance(closed) => 0,
         0..=2 if look => u128::MAX,
-        _ => conjunction(rng, 60),
+        _ => conjunction(rng, n, 60),
     });
-    Asked { book, team: u8::MAX >> (M - posts), make: conjunction(rng, 50).to_le_bytes() }
+    Asked { book, team: u8::MAX >> (M - posts), make: (conjunction(rng, n, 50) & valuations(n)).to_le_bytes() }
 }
 
-/// The book of the greatest rank, 254: setting j may be looked at where all settings before it are true; it may be set
+/// Every rule is open, and the goal can't be made.
+#[cfg(linked)]
+pub fn open_in_vain(n: usize) -> Asked {
+    Asked { book: book_of(n, |_, _, _| u128::MAX), team: u8::MAX, make: [0; 16] }
+}
+
+/// The book of the greatest rank, 2^(n+1) − 2: setting j may be looked at where all settings before it are true; it may be set
 /// where the settings before j − 1 are true, j − 1 is false, and not all from j on are true. Post j has the rules of j.
-pub fn hard() -> Asked {
-    let book = book_of(|j, post, look| match (post == j, look, j) {
+pub fn hard(n: usize) -> Asked {
+    let book = book_of(n, |j, post, look| match (post == j, look, j) {
         (false, _, _) => 0,
         (true, true, _) => all_true(0..j),
-        (true, false, 0) => !all_true(0..N),
-        (true, false, _) => all_true(0..j - 1) & !letter(j - 1) & !all_true(j..N),
+        (true, false, 0) => !all_true(0..n),
+        (true, false, _) => all_true(0..j - 1) & !letter(j - 1) & !all_true(j..n),
     });
-    Asked { book, team: u8::MAX, make: all_true(0..N).to_le_bytes() }
+    Asked { book, team: u8::MAX, make: (all_true(0..n) & valuations(n)).to_le_bytes() }
 }

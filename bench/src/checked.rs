@@ -23,12 +23,12 @@ pub struct Checked {
 
 /// Every rule is open.
 pub fn open(known: usize) -> Checked {
-    checked(known, book_of(|_, _, _| u128::MAX))
+    checked(known, book_of(N, |_, _, _| u128::MAX))
 }
 
 /// Every rule asks for the values of all known settings but the one that is set: each is true.
 pub fn of_known(known: usize) -> Checked {
-    checked(known, book_of(|_, _, _| all_true(SETTING + 1..known)))
+    checked(known, book_of(N, |_, _, _| all_true(SETTING + 1..known)))
 }
 
 fn checked(known: usize, book: Vec<u8>) -> Checked {

@@ -2,7 +2,7 @@
 //! teams of every size, nothing known. Answers, ranks and plans have to be the same. Before each call, outside the time taken,
 //! the rank table and the plan room are filled with 170, so both are in memory and neither holds a rank. Then the proved
 //! replay beside a plain one, on shifts of a million records, and the proved plan check beside a plain one, on plans of
-//! 32,640 bytes.
+//! 32,640 bytes. Last the second finder, by the number of settings and by height.
 
 mod asked;
 #[path = "../../tests/second/src/book.rs"]
@@ -15,6 +15,8 @@ mod fast;
 mod fast_check;
 #[path = "../../tests/second/src/fast_replay.rs"]
 mod fast_replay;
+#[cfg(linked)]
+mod heights;
 #[cfg(linked)]
 mod proved;
 mod recorded;
@@ -200,7 +202,8 @@ fn main() {
     let mut rng = Rng::named(1, "bench");
     let mut random = vec![Duration::ZERO; finders.len()];
     for closed in CLOSED {
-        let questions: Vec<Asked> = (1..=asked::M).map(|posts| asked::random(&mut rng, posts, closed)).collect();
+        let questions: Vec<Asked> =
+            (1..=asked::M).map(|posts| asked::random(&mut rng, asked::N, posts, closed)).collect();
         let sums = total(finders, &questions);
         line(&format!("{} random books, {closed} % of the rules closed, teams of 1 to 8", asked::M), asked::M, &sums);
         for (all, sum) in random.iter_mut().zip(sums) {
@@ -208,11 +211,12 @@ fn main() {
         }
     }
     line("all random books", CLOSED.len() * asked::M, &random);
-    line("the book of rank 254", 1, &total(finders, &[asked::hard()]));
+    line("the book of rank 254", 1, &total(finders, &[asked::hard(asked::N)]));
     #[cfg(linked)]
     {
-        let mut questions: Vec<Asked> = (1..=asked::M).map(|posts| asked::random(&mut rng, posts, CLOSED[1])).collect();
-        questions.push(asked::hard());
+        let mut questions: Vec<Asked> =
+            (1..=asked::M).map(|posts| asked::random(&mut rng, asked::N, posts, CLOSED[1])).collect();
+        questions.push(asked::hard(asked::N));
         let [find, ask] = asked_as_text(&questions);
         println!(
             "{} questions as text: pj_ask to pj_find, ratio {:.3}",
@@ -229,4 +233,6 @@ fn main() {
         line(&format!("{known} known, every rule open"), 1, &least_of_plan(checks, &checked::open(known)));
         line(&format!("{known} known, rules that ask for them"), 1, &least_of_plan(checks, &checked::of_known(known)));
     }
+    #[cfg(linked)]
+    heights::table();
 }

@@ -1,4 +1,4 @@
-//! The proved finder, the proved answer to a question text, the proved replay and the proved plan check, through the C
+//! The two proved finders, the proved answer to a question text, the proved replay and the proved plan check, through the C
 //! interface. Nothing checks these declarations against the library's source.
 
 use crate::asked::Asked;
@@ -19,6 +19,17 @@ extern "C" {
         ranks_len: u64,
         plan: *mut u8,
         plan_len: u64,
+    ) -> u64;
+    fn pj_find_plain(
+        book: *const u8,
+        book_len: u64,
+        team: u8,
+        known: u8,
+        values: u8,
+        make: *const u8,
+        make_len: u64,
+        learn: *const u8,
+        learn_len: u64,
     ) -> u64;
     fn pj_ask(
         book: *const u8,
@@ -73,6 +84,13 @@ pub fn find(asked: &Asked, ranks: &mut [u8], plan: &mut [u8]) -> u64 {
             plan.len() as u64,
         )
     }
+}
+
+/// The least height and one, or 0.
+pub fn find_plain(asked: &Asked) -> u64 {
+    let Asked { book, team, make } = asked;
+    let (make_len, learn): (u64, [u8; 0]) = (make.len() as u64, []);
+    unsafe { pj_find_plain(book.as_ptr(), book.len() as u64, *team, 0, 0, make.as_ptr(), make_len, learn.as_ptr(), 0) }
 }
 
 pub fn ask(book: &[u8], question: &[u8], ranks: &mut [u8], out: &mut [u8]) -> u64 {

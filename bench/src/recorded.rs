@@ -14,15 +14,15 @@ pub struct Recorded {
 
 /// Every rule is open.
 pub fn open(rng: &mut Rng) -> Recorded {
-    recorded(rng, book_of(|_, _, _| u128::MAX))
+    recorded(rng, book_of(N, |_, _, _| u128::MAX))
 }
 
 /// Each rule asks for the values of several settings, or is closed; some looks are open.
 pub fn of_several(rng: &mut Rng) -> Recorded {
-    let book = book_of(|_, _, look| match rng.below(10) {
+    let book = book_of(N, |_, _, look| match rng.below(10) {
         0 if look => u128::MAX,
         0 => 0,
-        _ => conjunction(rng, 50),
+        _ => conjunction(rng, N, 50),
     });
     recorded(rng, book)
 }

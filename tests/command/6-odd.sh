@@ -12,7 +12,7 @@ expect 'a book for a question' 2 'refused 22 1' 'this is a book' ask "$room/nigh
 expect 'a question for a book' 2 'refused 6 0' 'this is a question' ask books/night/both.question "$room/night.book"
 expect 'a plan for a question' 2 'refused 22 1' 'the order is BOOK QUESTION PLAN' check "$room/night.book" books/night/both.expected books/night/both.question
 expect 'cannot for a plan' 2 'refused 22 1' "'cannot' has no plan" check "$room/night.book" books/night/both.question books/night/setter.expected
-expect 'standard input where a file is due' 3 '' "only 'answer' takes standard input" ask "$room/night.book" -
+expect 'standard input where a file is due' 3 '' "only 'answer' and 'both SHEET' take standard input" ask "$room/night.book" -
 printf 'team 1,2\n' >"$room/comma.question"
 expect 'a comma between posts' 2 'refused 22 1' "'1,2' is no post" ask "$room/night.book" "$room/comma.question"
 printf 'read a 1 1\n' >"$room/nosize.rules"

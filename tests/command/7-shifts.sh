@@ -65,7 +65,7 @@ expect 'a shift to print that is not there' 3 '' 'nofile: there is no such file'
 expect 'a folder for a shift' 3 '' 'this is a folder' replay "$night" 'a ~b ~c ~d' "$room"
 expect 'a folder to print' 3 '' 'this is a folder' shift-text "$room"
 for words in "replay $night a -" "shift - $room/x.shift" 'shift-text -'; do
-    expect "standard input for ${words%% *}" 3 '' "only 'answer' takes standard input" $words
+    expect "standard input for ${words%% *}" 3 '' "only 'answer' and 'both SHEET' take standard input" $words
 done
 input=$cards
 expect 'a shift from a device' 0 "$(cat books/night/eight-hundred.expected)" '' replay "$night" 'a ~b ~c ~d' /dev/stdin

@@ -22,3 +22,29 @@ printf 'team 9\nknown\nmake a\n' >"$room/nine.question"
 expect 'both of a question that is refused' 2 'refused 22 1' 'nine.question, line 1' both "$room/night.book" "$room/nine.question"
 head -c 511 "$room/night.book" >"$room/short.book"
 expect 'both of a book that is none' 2 'refused 6 0' 'this is no book' both "$room/short.book" books/night/both.question
+input=sheets/night.sheet
+expect 'both of standard input' 0 'both: reach 4' '' both -
+expect 'both of a device' 0 'both: reach 4' '' both /dev/stdin
+input=/dev/null
+expect 'both of a book from standard input' 3 '' "only 'answer' and 'both SHEET' take standard input" both - books/night/both.question
+./parjolenc both sheets/night.sheet >/dev/full 2>"$room/said"
+holds 'both to a full device: the status' test $? -eq 3
+holds 'both to a full device: it is said' grep -q 'standard output cannot be written' "$room/said"
+
+# a program in the place of the plain finder that says something else is complained of; one that is in trouble is not
+# odd NAME STATUS SAID PRINTED TOLD: the stand-in prints PRINTED and says TOLD on descriptor 3
+odd() {
+    printf '#!/bin/sh\nprintf "%s"\necho %s >&3\n' "$4" "$5" >"$room/odd/target/bin/program_plain"
+    "$room/odd/parjolenc" both "$room/night.book" books/night/both.question >"$room/printed" 2>"$room/said"
+    holds "$1: the status" test $? -eq "$2"
+    holds "$1: it is said" test "$(cat "$room/said")" = "$3"
+    holds "$1: nothing is printed" test ! -s "$room/printed"
+}
+case $(uname -m) in
+x86_64)
+    mkdir -p "$room/odd/target" && cp -r parjolenc command "$room/odd/" && cp -r target/bin "$room/odd/target/"
+    odd 'another height' 3 "parjolenc: the two finders differ, which is proved not to be: 'reach 4' and 'reach 9'" 'reach 9\\n' 0
+    odd 'another status' 3 "parjolenc: the two finders differ, which is proved not to be: 'reach 4' and 'cannot'" 'cannot\\n' 1
+    odd 'a plain finder in trouble' 3 '' '' 3
+    ;;
+esac

@@ -88,11 +88,15 @@ static pj_u64 written(pj_u64 n, pj_u64 m, pj_u64 rights_length, pj_u64 room_leng
     return pj_book_write(n, m, rights, rights_length, room, room_length);
 }
 
+// What both finders refuse a question with, or all ones where they differ; 13 and 14 are of rooms, and the second has none.
 static pj_u64 asked(pj_u8 team, pj_u8 known, pj_u8 values, pj_u64 make_length, pj_u64 learn_length, pj_u64 ranks_length,
                     pj_u64 plan_length) {
     static const pj_u8 learn[5 * PJ_TABLE] = {0};
-    return pj_find(book, sizeof book, team, known, values, make, make_length, learn, learn_length, ranks, ranks_length,
-                   plan, plan_length);
+    pj_u64 found = pj_find(book, sizeof book, team, known, values, make, make_length, learn, learn_length, ranks,
+                           ranks_length, plan, plan_length);
+    if (pj_number(found) == PJ_REFUSED_RANK_ROOM || pj_number(found) == PJ_REFUSED_PLAN_ROOM) return found;
+    pj_u64 plain = pj_find_plain(book, sizeof book, team, known, values, make, make_length, learn, learn_length);
+    return found == plain ? found : ~(pj_u64)0;
 }
 
 static pj_u64 checked(const pj_u8 *bytes, pj_u64 length) {

@@ -138,6 +138,9 @@ static int null_for_empty(void) {
     if (pj_height(pj_find(book, b, 1, 0, 0, make, 16, 0, 0, ranks, r, plan, 6)) != 2) return 0;
     if (pj_number(pj_find(book, b, 1, 0, 0, make, 16, 0, 0, 0, 0, plan, 6)) != PJ_REFUSED_RANK_ROOM) return 0;
     if (pj_number(pj_find(book, b, 1, 0, 0, make, 16, 0, 0, ranks, r, 0, 0)) != PJ_REFUSED_PLAN_ROOM) return 0;
+    if (pj_number(pj_find_plain(0, 0, 1, 0, 0, make, 16, 0, 0)) != PJ_REFUSED_BOOK_LENGTH) return 0;
+    if (pj_number(pj_find_plain(book, b, 1, 0, 0, 0, 0, 0, 0)) != PJ_REFUSED_GOAL) return 0;
+    if (pj_find_plain(book, b, 1, 0, 0, make, 16, 0, 0) != 2 + 1) return 0;
     if (pj_number(pj_plan_check(0, 0, 1, 0, 0, make, 16, 0, 0, plan, 1)) != PJ_REFUSED_BOOK_LENGTH) return 0;
     if (pj_number(pj_plan_check(book, b, 1, 0, 0, 0, 0, 0, 0, plan, 1)) != PJ_REFUSED_GOAL) return 0;
     if (pj_number(pj_plan_check(book, b, 1, 0, 0, make, 16, 0, 0, 0, 0)) != PJ_REFUSED_TOO_SOON) return 0;

@@ -1,6 +1,7 @@
 -- The three demands, each said of what the public functions' contracts allow. The functions have no `requires`: they take every input there is,
 -- and the gate proves that each returns and meets its contract. The contracts are `ReadsFormula` (of `formula::read`), `ReadsBook` and
--- `WritesBook` (of `book::read` and `write`), `Finds` (of `finder::find`), `Checks` (of `plancheck::check`), `Replays` (of `station::replay`) and `AnswersSheet` (of `sheet::answer`).
+-- `WritesBook` (of `book::read` and `write`), `Finds` (of `finder::find`), `FindsPlain` (of `finder_plain::find`), `Checks` (of `plancheck::check`),
+-- `Replays` (of `station::replay`) and `AnswersSheet` (of `sheet::answer`).
 use denote.Ref.{now}
 use mathlib.Core.Path.{_≡_, subst}
 use mathlib.Core.Logic.{_⊎_, _↔_}
@@ -30,6 +31,7 @@ use Rattle.plan.specs.Bytes.{encode}
 use Rattle.plan.specs.Secret.{Twins}
 use Rattle.knowledge.specs.Goal.{Goal, goalOf, learnCount, learnTable}
 use Rattle.question.specs.Question.{systemOf, startOf, NoMaking}
+use Rattle.question.specs.Rows.{questionRows}
 use Rattle.question.specs.Asks.{ValidQuestion}
 use Rattle.question.specs.declared.Question.{Question}
 use Rattle.finder.specs.Finds.{RanksFilled, Finds, findRows}
@@ -37,6 +39,11 @@ use Rattle.finder.specs.declared.answer.Answer.{Answer}
 use Rattle.finder.specs.declared.answer.Answer.the-variants.{Reach, Cannot, Refused}
 use Rattle.finder.proofs.Unique.{find-unique, find-refused, find-ranks}
 use Rattle.finder.proofs.Theorems.{reach-works, cannot-none, works-reach, none-cannot, cannot-secret}
+use Rattle.finder_plain.specs.Finds.{FindsPlain}
+use Rattle.finder_plain.specs.declared.finding.PlainAnswer.{PlainAnswer}
+use Rattle.finder_plain.specs.declared.finding.PlainAnswer.the-variants.{Reach as PlainReach, Cannot as PlainCannot, Refused as PlainRefused}
+use Rattle.finder_plain.proofs.Unique.{plain-unique}
+use Rattle.finder_plain.proofs.Theorems as Plain
 use Rattle.plancheck.specs.Checks.{Checks, RefusesPlan}
 use Rattle.plancheck.specs.declared.answer.CheckAnswer.{CheckAnswer}
 use Rattle.plancheck.specs.declared.answer.CheckAnswer.the-variants.{Yes, Refused as NotAccepted}
@@ -58,6 +65,7 @@ use Rattle.formula.proofs.read.Reads as read-contract
 use Rattle.book.proofs.read.Reads as book-read-contract
 use Rattle.book.proofs.write.Reads as book-write-contract
 use Rattle.finder.proofs.find.Reads as find-contract
+use Rattle.finder_plain.proofs.find.Reads as plain-contract
 use Rattle.plancheck.proofs.check.Reads as check-contract
 use Rattle.station.proofs.replay.Reads as replay-contract
 use Rattle.sheet.proofs.answer.Reads as answer-contract
@@ -78,6 +86,9 @@ one-book-written = writes-one
 pub one-answer : (book : List ℕ) (q : Question) (goal : Goal) (ranks plan : List ℕ) (a b : Answer) (r s x y : List ℕ)
     → Finds book q goal ranks plan a r x → Finds book q goal ranks plan b s y → (a ≡ b) × (r ≡ s) × (x ≡ y)
 one-answer = find-unique
+
+pub one-plain-answer : (book : List ℕ) (q : Question) (goal : Goal) (a b : PlainAnswer) → FindsPlain book q goal a → FindsPlain book q goal b → a ≡ b
+one-plain-answer = plain-unique
 
 pub one-verdict : (book : List ℕ) (q : Question) (goal : Goal) (plan : List ℕ) (a b : CheckAnswer) → Checks book q goal plan a → Checks book q goal plan b → a ≡ b
 one-verdict = checks-one
@@ -106,6 +117,10 @@ pub refused-question : (book : List ℕ) (q : Question) (goal : Goal) (ranks pla
     ⊎ ((w ≡ PlanRoom) × ((n : ℕ) × (m : ℕ) × ValidQuestion book q goal n m × (7 ^ n ≤ length ranks) × RanksFilled n (systemOf n book q goal) ranks r
     × ((p : Plan) × WrittenFrom (systemOf n book q goal) (startOf q) p × (length plan < length (encode p))))))
 refused-question = find-refused
+
+-- the second finder's: "Its refusals are those through 12"
+pub refused-plain : (book : List ℕ) (q : Question) (goal : Goal) (w : Refusal) → FindsPlain book q goal (PlainRefused w) → First (questionRows book q goal) w
+refused-plain book q goal w f = f
 
 pub refused-plan : (book : List ℕ) (q : Question) (goal : Goal) (plan : List ℕ) (r : Refusal) → Checks book q goal plan (NotAccepted r)
     → RefusesPlan book q goal plan r
@@ -165,6 +180,24 @@ module _ (book : List ℕ) (q : Question) (goal : Goal) (ranks plan : List ℕ) 
       → ((p : Plan) → WorksFor book q goal n p → ⊥) → Finds book q goal ranks plan a r x → a ≡ Cannot
   cannot-where = none-cannot book q goal ranks plan r x
 
+-- the same of the second finder, which is lent no room; that the two agree is in Plain
+module _ (book : List ℕ) (q : Question) (goal : Goal) where
+  pub plain-reach : (h : ℕ) → FindsPlain book q goal (PlainReach h)
+      → (n : ℕ) × (m : ℕ) × ValidQuestion book q goal n m
+      × ((p : Plan) × WorksFor book q goal n p × (height p ≡ h) × ((s : Plan) → WorksFor book q goal n s → h ≤ height s))
+  plain-reach = Plain.plain-reach book q goal
+
+  pub plain-reach-where : {n m : ℕ} → ValidQuestion book q goal n m → (a : PlainAnswer) (p : Plan) → WorksFor book q goal n p → FindsPlain book q goal a
+      → (h : ℕ) × (a ≡ PlainReach h)
+  plain-reach-where v = Plain.works-reach book q goal v
+
+  pub plain-cannot : FindsPlain book q goal PlainCannot → (n : ℕ) × (m : ℕ) × ValidQuestion book q goal n m × ((p : Plan) → WorksFor book q goal n p → ⊥)
+  plain-cannot = Plain.plain-cannot book q goal
+
+  pub plain-cannot-where : {n m : ℕ} → ValidQuestion book q goal n m → (a : PlainAnswer) → ((p : Plan) → WorksFor book q goal n p → ⊥) → FindsPlain book q goal a
+      → a ≡ PlainCannot
+  plain-cannot-where v = Plain.none-cannot book q goal v
+
 pub check : (book : List ℕ) (q : Question) (goal : Goal) (plan : List ℕ) {n m : ℕ} → ValidQuestion book q goal n m → (a : CheckAnswer) → Checks book q goal plan a
     → (a ≡ Yes) ↔ ((length plan ≤ 32640) × ((p : Plan) × WorksFor book q goal n p × (plan ≡ encode p)))
 check book q goal plan v a c = yes-exact v plan a c
@@ -188,6 +221,12 @@ pub secret : (book : List ℕ) (q : Question) (goal : Goal) (ranks plan : List �
     → (n : ℕ) × (m : ℕ) × ValidQuestion book q goal n m
     × (NoMaking n goal → learnCount (goal .learn) ≡ 1 → (p : Plan) → Permitted (systemOf n book q goal) (startOf q) p → Twins n (learnTable (goal .learn) 0) (startOf q) p)
 secret = cannot-secret
+
+-- "and demand 3 holds of its "cannot""
+pub plain-secret : (book : List ℕ) (q : Question) (goal : Goal) → FindsPlain book q goal PlainCannot
+    → (n : ℕ) × (m : ℕ) × ValidQuestion book q goal n m
+    × (NoMaking n goal → learnCount (goal .learn) ≡ 1 → (p : Plan) → Permitted (systemOf n book q goal) (startOf q) p → Twins n (learnTable (goal .learn) 0) (startOf q) p)
+plain-secret book q goal f = Plain.cannot-secret book q goal f
 
 -- ---- Demands 2 and 3 of a sheet: it asks one question, and what is printed is the answer to that
 
@@ -234,6 +273,10 @@ pub tied-find : (κs : _) (a : _) (x : _) (s : _) → find-contract.Post κs a x
     ↔ Finds (now (a .0)) (a .1 .0) (goalOf (now (a .1 .1 .0)) (now (a .1 .1 .1 .0))) (now (a .1 .1 .1 .1 .0)) (now (a .1 .1 .1 .1 .1 .0))
     x (now (s .1 .1 .1 .1 .0)) (now (s .1 .1 .1 .1 .1 .0))
 tied-find κs a x s = (λ p. p, λ p. p)
+
+pub tied-plain : (κs : _) (a : _) (x : _) (s : _) → plain-contract.Post κs a x s
+    ↔ FindsPlain (now (a .0)) (a .1 .0) (goalOf (now (a .1 .1 .0)) (now (a .1 .1 .1 .0))) x
+tied-plain κs a x s = (λ p. p, λ p. p)
 
 pub tied-check : (κs : _) (a : _) (x : _) (s : _) → check-contract.Post κs a x s
     ↔ Checks (now (a .0)) (a .1 .0) (goalOf (now (a .1 .1 .0)) (now (a .1 .1 .1 .0))) (now (a .1 .1 .1 .1 .0)) x

@@ -1,7 +1,7 @@
 -- One grammar: a sheet that is a text of rules followed by a text of a question is answered as the question is, put to the book that is made of the rules.
 -- Said of what the contracts of `sheet::answer` (`AnswersSheet`), `sheet_book::make_book` (`MakesBook`) and `sheet_ask::ask` (`AsksBook`) allow.
 use denote.Ref.{now}
-use mathlib.Core.Path.{_≡_, sym, ap, _∙_, subst}
+use mathlib.Core.Path.{_≡_, sym, ap, _∙_, subst, subst₂}
 use mathlib.Core.Logic.{inl, inr, _↔_}
 use mathlib.Core.Bool.{true, false}
 use mathlib.Core.List.{List, [], _++_}
@@ -43,6 +43,9 @@ use Rattle.sheet_book.specs.declared.MakeAnswer.the-variants.{Made, Refused}
 use Rattle.sheet_book.proofs.Rights.{rights-writable}
 use Rattle.sheet_ask.specs.Asks.{QuestionAsks, PrintsQuestion, AsksBook}
 use Rattle.sheet_ask.proofs.Theorems.{ask-told}
+use Rattle.sheet_plain.specs.Asks.{AsksPlainly, PrintsAs}
+use Rattle.sheet_plain.specs.declared.PlainTold.{PlainTold}
+use Rattle.sheet_plain.proofs.Theorems.{both-same}
 use Rattle.sheet_book.proofs.make_book.Reads as make-contract
 use Rattle.sheet_ask.proofs.ask.Reads as ask-contract
 
@@ -137,6 +140,13 @@ module _ (R Q : List ℕ) (short : length (R ++ Q) ≤ 32768) (plain : T (nonePa
 
         pub answer-is-ask : (s : ℕ) (new : List ℕ) → AnswersSheet (R ++ Q) out s new → (s ≡ r) × (new ≡ out′)
         answer-is-ask s new x = answer-unique (R ++ Q) out s r new out′ x ask-answers
+
+        -- and what the second finder says of the question is what the sheet's answer says: the two of `both SHEET` are never apart
+        pub sheet-both : 823543 ≤ length ranks → (x : PlainTold) → AsksPlainly (take size after) Q x → (s : ℕ) (new : List ℕ) → AnswersSheet (R ++ Q) out s new
+            → PrintsAs x out s new
+        sheet-both all x said s new printed =
+            let same = answer-is-ask s new printed in
+            subst₂ (λ (i : ℕ) (o : List ℕ). PrintsAs x out i o) (sym (same .0)) (sym (same .1)) (both-same ranks out r ranks′ out′ all (take size after) Q x said asks)
 
       -- the question is refused: "the sheet is refused with the same number, the question's line counted on from the rules' lines"; the first line of the
       -- question, where it ends in byte 10, is none of the rules': after `size 1 1` a `read` line first in Q is 22 to `ask`, and a rule of the sheet

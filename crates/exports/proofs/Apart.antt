@@ -30,7 +30,7 @@ use Rattle.finder.specs.Finds.{Finds}
 use Rattle.finder.specs.declared.answer.Answer.{Answer}
 use Rattle.finder.specs.declared.answer.Answer.the-variants.{Reach, Cannot, Refused}
 use Rattle.finder_plain.specs.Finds.{FindsPlain}
-use Rattle.finder_plain.specs.declared.finding.PlainAnswer.the-variants.{Reach as PlainReach, Cannot as PlainCannot, Refused as NotAsked}
+use Rattle.finder_plain.specs.declared.finding.PlainAnswer.the-variants.{Reach as PlainReach, Cannot as PlainCannot, Refused as PlainRefused}
 use Rattle.finder_plain.proofs.Unique.{plain-height-small, plain-place-small}
 use Rattle.finder.proofs.Small.{place-small, reach-most}
 use Rattle.plancheck.specs.Checks.{Checks}
@@ -132,7 +132,7 @@ find-apart {book} {q} {goal} {ranks} {plan} {ranks′} {plan′} {r} c = (
 
 pub find-plain-apart : {book : List ℕ} {q : Question} {goal : Goal} {r : ℕ} (c : PlainlyFound book q goal r)
     → ((h : ℕ) → c .answer ≡ PlainReach h → (upper r ≡ 0) × (r ≡ h + 1))
-    × (c .answer ≡ PlainCannot → r ≡ 0) × ((w : Refusal) → c .answer ≡ NotAsked w → Tells-refusal r w)
+    × (c .answer ≡ PlainCannot → r ≡ 0) × ((w : Refusal) → c .answer ≡ PlainRefused w → Tells-refusal r w)
 find-plain-apart {book} {q} {goal} {r} c = (
   λ h e. let finds = subst (FindsPlain book q goal) e (c .finds) in
       let is : r ≡ h + 1 = c .result-is ∙ ap plainReturned e in

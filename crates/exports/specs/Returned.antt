@@ -10,7 +10,7 @@ use Rattle.book.specs.declared.writing.WriteAnswer.the-variants.{Written, Refus
 use Rattle.finder.specs.declared.answer.Answer.{Answer}
 use Rattle.finder.specs.declared.answer.Answer.the-variants.{Reach, Cannot, Refused}
 use Rattle.finder_plain.specs.declared.finding.PlainAnswer.{PlainAnswer}
-use Rattle.finder_plain.specs.declared.finding.PlainAnswer.the-variants.{Reach as PlainReach, Cannot as PlainCannot, Refused as NotAsked}
+use Rattle.finder_plain.specs.declared.finding.PlainAnswer.the-variants.{Reach as PlainReach, Cannot as PlainCannot, Refused as PlainRefused}
 use Rattle.plancheck.specs.declared.answer.CheckAnswer.{CheckAnswer}
 use Rattle.plancheck.specs.declared.answer.CheckAnswer.the-variants.{Yes, Refused as NotAccepted}
 use Rattle.sheet_book.specs.declared.MakeAnswer.{MakeAnswer}
@@ -45,7 +45,7 @@ findReturned (Refused r) = packed r
 abbrev pub plainReturned : PlainAnswer → ℕ
 plainReturned (PlainReach height) = height + 1
 plainReturned PlainCannot = 0
-plainReturned (NotAsked r) = packed r
+plainReturned (PlainRefused r) = packed r
 
 -- `pj_plan_check`: yes: 0, or the refusal as one number
 abbrev pub checkReturned : CheckAnswer → ℕ

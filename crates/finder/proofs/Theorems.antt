@@ -3,16 +3,9 @@
 use mathlib.Core.Path.{_≡_, refl, sym, subst}
 use mathlib.Core.Logic.{inl, inr}
 use mathlib.Core.List.{List, _++_}
-use mathlib.Core.Bool.{true}
 use Prim.Native.Nat.{ℕ, suc, _-_, _^_, _≤_, _<_}
 use native.Mathlib.Omega.{arith}
-use lib.Dec.{T}
 use lib.ListN.{length, getD, drop}
-use Rattle.ground.specs.Digits.{digit}
-use Rattle.ground.specs.Search.{all}
-use Rattle.ground.proofs.Bools.{and-in, true→T}
-use Rattle.knowledge.specs.Judgement.{known, learnSettled}
-use Rattle.knowledge.proofs.Known.{known-intro}
 use Rattle.refusal.proofs.OrderLaws.{first-clear}
 use Rattle.book_sound.proofs.Theorems.{sound-one}
 use Rattle.plan.specs.Plans.{Plan, Permitted, Works, height}
@@ -22,8 +15,7 @@ use Rattle.plan.specs.Secret.{Twins}
 use Rattle.plan.proofs.Ranks.{rank-least, rank-most, has-rank, rank-reach}
 use Rattle.plan.proofs.Written.{written-works, written-height}
 use Rattle.plan.proofs.Accepted.{written-most}
-use Rattle.plan.proofs.Secret.{secret}
-use Rattle.knowledge.specs.Goal.{Goal, learnCount, learnTable, allSettled, goalSettled}
+use Rattle.knowledge.specs.Goal.{Goal, learnCount, learnTable}
 use Rattle.question.specs.Question.{systemOf, startOf, NoMaking}
 use Rattle.question.specs.Asks.{ValidQuestion}
 use Rattle.finder.specs.Finds.{RanksFilled, Finds}
@@ -31,6 +23,7 @@ use Rattle.question.specs.declared.Question.{Question}
 use Rattle.finder.specs.declared.answer.Answer.{Answer}
 use Rattle.finder.specs.declared.answer.Answer.the-variants.{Reach, Cannot, Refused}
 use Rattle.question.proofs.SystemLaws.{lawful, few}
+use Rattle.question.proofs.SecretLaws.{none-secret}
 use Rattle.finder.proofs.FindLaws.{find-clear}
 
 -- ---- demand 2: "reach" exactly when a working plan exists, the least height, and such a plan
@@ -104,15 +97,6 @@ module _ (book : List ℕ) (q : Question) (goal : Goal) (ranks plan r x : List �
 
 -- ---- demand 3: what "cannot" means for a secret
 
--- with no making the goal is settled where the learn formula is
-module _ (book : List ℕ) (q : Question) (goal : Goal) where
-  pub enough : (n : ℕ) → NoMaking n goal → learnCount (goal .learn) ≡ 1 → (k : ℕ) → T (learnSettled n (digit 7 k) (learnTable (goal .learn) 0)) → T (systemOf n book q goal .goal k)
-  unfolding systemOf goalSettled allSettled all
-  enough n one single k h =
-      and-in (known n (digit 7 k) (goal .make)) (all (learnCount (goal .learn)) (λ j. learnSettled n (digit 7 k) (learnTable (goal .learn) j)))
-      (known-intro n (digit 7 k) (goal .make) (λ v l t. true→T (one v l)))
-      (subst (λ (c : ℕ). T (all c (λ j. learnSettled n (digit 7 k) (learnTable (goal .learn) j)))) (sym single) (and-in (learnSettled n (digit 7 k) (learnTable (goal .learn) 0)) true h tt))
-
 module _ (book : List ℕ) (q : Question) (goal : Goal) (ranks plan r x : List ℕ) where
   -- for a question with no making and one learn formula that is answered "cannot": for every permitted plan there are two starting valuations below 2^n,
   -- both agreeing with what the team knew, that give the formula different values, and on which the plan does the same acts and sees the same readings
@@ -121,4 +105,4 @@ module _ (book : List ℕ) (q : Question) (goal : Goal) (ranks plan r x : List �
       × (NoMaking n goal → learnCount (goal .learn) ≡ 1 → (p : Plan) → Permitted (systemOf n book q goal) (startOf q) p → Twins n (learnTable (goal .learn) 0) (startOf q) p)
   cannot-secret (inl u) = let e : Cannot ≡ Refused (u .why) = u .answered in let z : _≡_ {A = ℕ} 0 1 = cc in absurd (omega arith)
   cannot-secret (inr (n, m, v, l, f, a)) =
-      (n, m, v, λ one single p w. secret n (learnTable (goal .learn) 0) (lawful v) (enough book q goal n one single) (startOf q) (a .0) p w)
+      (n, m, v, λ one single p w. none-secret book q goal n one single v (a .0) p w)

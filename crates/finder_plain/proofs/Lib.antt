@@ -1,10 +1,9 @@
 -- The theorems of the plain finder, that its answer is one alone, and what its memory says: an entry bars the lower heights (`barred`), and a gap is
--- a "cannot" (`gap-cannot`). Then the laws of its functions: what the team may do, and where a rule cannot hold, a try, the entries, a
+-- a "cannot" (`gap-cannot`). Then the laws of its functions: what the team may do, a try, the entries, a
 -- search, the heights, a gap, and the answer to a valid question.
 pub mod Theorems
 pub mod Unique
 pub mod EntryLaws
-mod FittingLaws
 mod MayLaws
 mod TryLaws
 mod SearchLaws

@@ -1,41 +1,54 @@
 -- What the team may do at a knowledge number, from what the code asked of its state; and a search over the posts.
-use mathlib.Core.Path.{_≡_, refl, sym, ap, _∙_}
-use mathlib.Core.Bool.{Bool, true, false, cond}
+use mathlib.Core.Path.{_≡_, sym, ap, _∙_}
+use mathlib.Core.Bool.{Bool, true, false, _&&_}
 use mathlib.Core.List.{List}
 use Prim.Native.Nat.{ℕ, _+_, _^_, _≤_, _<_}
 use native.Mathlib.Omega.{arith}
-use lib.Dec.{leb}
-use Rattle.ground.specs.Digits.{digit}
+use borrow.Author.Tests.{eq-eqb, ne-eqb}
 use mathlib.Core.Logic.{inl, inr}
-use Rattle.ground.proofs.Bools.{true→T, both, false→T, lt-or-ge}
-use Rattle.refusal.specs.declared.Why.{Why}
-use Rattle.refusal.specs.declared.Why.the-variants.{NotKnown}
+use Rattle.ground.proofs.Bools.{true→T, both, false→T, lt-or-ge, and-true, and-false}
+use Rattle.book_block.specs.Rule.{rule}
+use Rattle.book_block.specs.declared.rule.Right.the-variants.{Look as look-rule, Set as set-rule}
 use Rattle.knowledge_acts.specs.Acts.{offered}
 use Rattle.knowledge_acts.specs.declared.act.Act.{Act}
+use Rattle.knowledge_acts.specs.declared.act.Act.the-variants.{Set, Look}
 use Rattle.knowledge.specs.Number.{digitIn, digitsOf}
+use Rattle.knowledge.specs.Fits.{nowSide}
+use Rattle.knowledge.specs.Judgement.{judgement, holds, known}
+use Rattle.knowledge.specs.declared.judgement.Judgement.{Judgement}
 use Rattle.knowledge.proofs.Number.{digits-are}
-use Rattle.knowledge_judging.proofs.GoalLaws.{within-seven}
-use Rattle.plan.specs.declared.Permit.{Permit}
-use Rattle.plan.specs.declared.Permit.the-variants.{Given, Denied}
+use Rattle.plan.specs.Plans.{given}
 use Rattle.question.specs.Permitted.{permitted}
+use Rattle.question.proofs.PermitLaws.{set-given, look-given}
 use Rattle.finder_plain.specs.Tries.{mayDo, byPost, Someone}
 
-module _ (n : ℕ) (book : List ℕ) (team k : ℕ) (a : Act) where
-  pub not-offered : {o : Bool} → o ≡ offered n team a → o ≡ false → false ≡ mayDo n book team k a
-  not-offered e f = rw (sym e ∙ f) refl
+-- ---- one rule, and one act
 
-  module _ (few : n ≤ 7) (small : k < 7 ^ 7) {o : Bool} (e : o ≡ offered n team a) (yes : o ≡ true) {ds : List ℕ} (state : ds ≡ digitsOf k) {r : Permit}
-      (asked : r ≡ cond (leb n 7) (permitted n book (digitIn ds) a) (Denied NotKnown)) where
-    at-number : permitted n book (digit 7 k) a ≡ r
-    at-number =
-        ap (λ (d : ℕ → ℕ). permitted n book d a) (sym (digits-are k small)) ∙ ap (λ (l : List ℕ). permitted n book (digitIn l) a) (sym state)
-        ∙ sym (within-seven n _ _ few) ∙ sym asked
+-- what is known of a rule is read off its judgement
+pub rule-known : (n : ℕ) (d : ℕ → ℕ) (table : List ℕ) {j k : Judgement} → j ≡ judgement n (nowSide d) table → j ≡ k → holds k ≡ known n d table
+unfolding known
+rule-known n d table e f = ap holds (sym f ∙ e)
 
-    pub is-given : r ≡ Given → true ≡ mayDo n book team k a
-    is-given f = rw (sym e ∙ yes, at-number ∙ f) refl
+module _ (n : ℕ) (book : List ℕ) (d : ℕ → ℕ) {a : Act} {i q : ℕ} {r : Bool} where
+  pub set-permitted : {b : Bool} → a ≡ Set i q b → r ≡ known n d (rule book i q set-rule) → r ≡ given (permitted n book d a)
+  set-permitted {b} e f = rw e (f ∙ sym (set-given n book d i q b))
 
-    pub is-denied : {why : Why} → r ≡ Denied why → false ≡ mayDo n book team k a
-    is-denied f = rw (sym e ∙ yes, at-number ∙ f) refl
+  pub look-permitted : a ≡ Look i q → d i ≡ 0 → r ≡ known n d (rule book i q look-rule) → r ≡ given (permitted n book d a)
+  look-permitted e z f = rw e (f ∙ sym (and-true _) ∙ ap (λ (b : Bool). known n d (rule book i q look-rule) && b) (sym (eq-eqb (d i) 0 z)) ∙ sym (look-given n book d i q))
+
+module _ (n : ℕ) (book : List ℕ) (d : ℕ → ℕ) {a : Act} {i q : ℕ} where
+  pub look-barred : a ≡ Look i q → (d i ≡ 0 → ⊥) → false ≡ given (permitted n book d a)
+  look-barred e ne =
+      rw e (sym (look-given n book d i q ∙ ap (λ (b : Bool). known n d (rule book i q look-rule) && b) (ne-eqb (d i) 0 ne) ∙ and-false (known n d (rule book i q look-rule))))
+
+-- the state of a number has its digits
+pub at-number : (n : ℕ) (book : List ℕ) (team k : ℕ) (a : Act) {ds : List ℕ} {r : Bool} → k < 7 ^ 7 → ds ≡ digitsOf k
+    → r ≡ (offered n team a && given (permitted n book (digitIn ds) a)) → r ≡ mayDo n book team k a
+at-number n book team k a small state e =
+    e ∙ ap (λ (l : List ℕ). offered n team a && given (permitted n book (digitIn l) a)) state
+    ∙ ap (λ (d : ℕ → ℕ). offered n team a && given (permitted n book d a)) (digits-are k small)
+
+-- ---- a search over the posts
 
 pub someone-here : (m : Act → Bool) (a : Act) (q : ℕ) → q < 8 → m (byPost a q) ≡ true → Someone m a
 someone-here m a q l e = record { post = q; few = l; allowed = true→T e }

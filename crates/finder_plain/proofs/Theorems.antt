@@ -10,16 +10,18 @@ use Rattle.ground.proofs.Search.{least-unique}
 use Rattle.refusal.specs.declared.Refusal.{Refusal}
 use Rattle.refusal.proofs.OrderLaws.{first-clear}
 use Rattle.book_sound.proofs.Theorems.{sound-one}
-use Rattle.knowledge.specs.Goal.{Goal}
-use Rattle.plan.specs.Plans.{Plan, Works, height}
+use Rattle.knowledge.specs.Goal.{Goal, learnCount, learnTable}
+use Rattle.plan.specs.Plans.{Plan, Permitted, Works, height}
 use Rattle.plan.specs.Ranks.{Reach as ReachIn, Cannot as CannotFrom}
+use Rattle.plan.specs.Secret.{Twins}
 use Rattle.plan.proofs.Ranks.{rank-least, rank-most, rank-small}
-use Rattle.question.specs.Question.{systemOf, startOf}
+use Rattle.question.specs.Question.{systemOf, startOf, NoMaking}
 use Rattle.question.specs.Asks.{ValidQuestion, Asks}
 use Rattle.question.specs.declared.Question.{Question}
 use Rattle.question.specs.declared.Asked.the-variants.{Not}
 use Rattle.question.proofs.RowLaws.{question-clear}
 use Rattle.question.proofs.SystemLaws.{lawful, few}
+use Rattle.question.proofs.SecretLaws.{none-secret}
 use Rattle.finder_plain.specs.Finds.{FindsPlain}
 use Rattle.finder_plain.specs.declared.finding.PlainAnswer.{PlainAnswer}
 use Rattle.finder_plain.specs.declared.finding.PlainAnswer.the-variants.{Reach, Cannot, Refused}
@@ -37,6 +39,12 @@ module _ (book : List ℕ) (q : Question) (goal : Goal) where
   pub plain-cannot : FindsPlain book q goal Cannot
       → (n : ℕ) × (m : ℕ) × ValidQuestion book q goal n m × ((p : Plan) → Works (systemOf n book q goal) (startOf q) p → ⊥)
   plain-cannot (n, m, v, none) = (n, m, v, none)
+
+  -- and what that means for a secret: demand 3
+  pub cannot-secret : FindsPlain book q goal Cannot
+      → (n : ℕ) × (m : ℕ) × ValidQuestion book q goal n m
+      × (NoMaking n goal → learnCount (goal .learn) ≡ 1 → (p : Plan) → Permitted (systemOf n book q goal) (startOf q) p → Twins n (learnTable (goal .learn) 0) (startOf q) p)
+  cannot-secret (n, m, v, none) = (n, m, v, λ one single p w. none-secret book q goal n one single v none p w)
 
   -- "Its refusals are those through 12": it refuses as `ask` does
   pub plain-refused : (r : Refusal) → FindsPlain book q goal (Refused r) ↔ Asks book q goal (Not r)

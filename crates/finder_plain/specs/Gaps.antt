@@ -16,6 +16,6 @@ pub record Gap (n : ℕ) (entries : List ℕ) (top : ℕ) : Type 0 where
   pub low : value < top
   pub nowhere : (k : ℕ) → k < 7 ^ n → getD entries k 0 ≡ value → ⊥
 
--- yes, there is one
+-- yes, there is one; no promises nothing, and the next height is tried
 abbrev pub FindsGap : ℕ → List ℕ → ℕ → Bool → Type 0
 FindsGap n entries top r = r ≡ true → Gap n entries top

@@ -7,12 +7,9 @@ use Prim.Native.Nat.{ℕ, _^_, _≤_, _<_}
 use lib.Dec.{T}
 use lib.ListN.{length, getD}
 use Rattle.ground.specs.Digits.{digit}
-use Rattle.book_block.specs.Rule.{rulePlace}
-use Rattle.book_block.specs.declared.rule.Right.the-variants.{Look as look-rule, Set as set-rule}
 use Rattle.knowledge_acts.specs.Acts.{offered}
 use Rattle.knowledge_acts.specs.declared.act.Act.{Act}
 use Rattle.knowledge_acts.specs.declared.act.Act.the-variants.{Set, Look}
-use Rattle.knowledge.specs.Fits.{fitsNow}
 use Rattle.plan.specs.Plans.{given, Outcome}
 use Rattle.question.specs.Permitted.{permitted}
 use Rattle.finder_plain.specs.declared.ahead.Ahead.{Ahead}
@@ -26,16 +23,6 @@ mayDo n book team k a = offered n team a && given (permitted n book (digit 7 k) 
 abbrev pub byPost : Act → ℕ → Act
 byPost (Set i p b) q = Set i q b
 byPost (Look i p) q = Look i q
-
--- where the table of the act's rule begins in the book
-abbrev pub placeOf : List ℕ → Act → ℕ
-placeOf book (Set i q b) = rulePlace book i q set-rule
-placeOf book (Look i q) = rulePlace book i q look-rule
-
--- v is a present valuation that fits the state k
-pub record Fitting (n k v : ℕ) : Type 0 where
-  pub small : v < 2 ^ n
-  pub fits : T (fitsNow n (digit 7 k) v)
 
 -- a post that may do it
 pub record Someone (m : Act → Bool) (a : Act) : Type 0 where

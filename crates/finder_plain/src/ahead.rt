@@ -3,7 +3,7 @@
 use crate::STATES;
 use crate::acts::look_at;
 use crate::acts::set_to;
-use crate::acts::someone_may;
+use crate::may::someone_may;
 use knowledge::Knowledge;
 use knowledge_acts::Act;
 ghost use Prim.Native.Nat.{_^_, _≤_, _<_};

@@ -32,7 +32,8 @@ fn heights(n: u8) -> u8
     2 * (valuations(n) - 1) + 1
 }
 
-// The first height at which a plan works from the start, or "cannot". What is remembered before must be so.
+// The first height at which a plan works from the start, or "cannot". Each entry must already be a height
+// below which no plan works.
 fn first_height(
     n: u8,
     book: &[u8],

@@ -1,5 +1,5 @@
-// What ends a "cannot" before the last height: a gap, a value below the start's entry that no state has. No
-// act leads over it, so that the states above it are a trap.
+// What ends a "cannot" before the last height: a gap, a value below the start's entry that no state has. Each
+// act from a state above it has an outcome above it, so that no plan works from there.
 use crate::STATES;
 ghost use mathlib.Core.Path.{_≡_};
 ghost use Prim.Native.Nat.{_^_, _≤_, _<_};

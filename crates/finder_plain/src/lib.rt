@@ -9,8 +9,8 @@
 mod acts;
 mod ahead;
 mod finding;
-mod fitting;
 mod gap;
+mod may;
 mod search;
 
 pub use finding::PlainAnswer;

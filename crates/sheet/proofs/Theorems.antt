@@ -26,7 +26,7 @@ use Rattle.print_answer.proofs.Theorems.{prints-unique, refused-length, reach-l
 use Rattle.knowledge.specs.Goal.{Goal, learnTable}
 use Rattle.question.specs.Question.{systemOf, startOf, NoMaking}
 use Rattle.question.specs.declared.Question.{Question}
-use Rattle.finder.proofs.Theorems.{enough}
+use Rattle.question.proofs.SecretLaws.{enough}
 use Rattle.sheet_question.specs.Desk.{TablesOf}
 use Rattle.sheet_reading.specs.Sheet.{Sheet}
 use Rattle.sheet_reading.specs.Reading.{Meaning, refused, stated, sheetMeaning}

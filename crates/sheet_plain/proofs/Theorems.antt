@@ -17,7 +17,7 @@ use Rattle.book_sound.specs.Sound.{Sound}
 use Rattle.book_sound.proofs.SoundLaws.{sound-clear}
 use Rattle.book_sound.proofs.Theorems.{sound-one}
 use Rattle.knowledge.specs.Goal.{Goal}
-use Rattle.plan.specs.Plans.{System, Plan}
+use Rattle.plan.specs.Plans.{System}
 use Rattle.plan.specs.Ranks.{Reach as ReachIn, Cannot as CannotFrom}
 use Rattle.print_answer.specs.Printed.{reachText, refusedText, cannotText, Prints}
 use Rattle.question.specs.Question.{systemOf, startOf}
@@ -25,7 +25,7 @@ use Rattle.question.specs.declared.Question.{Question}
 use Rattle.sheet_question.specs.Question.{QuestionMeaning, refused, asked, questionMeaning}
 use Rattle.sheet_ask.specs.Asks.{QuestionAsks, PrintsFound, PrintsAsked, PrintsQuestion, AsksBook}
 use Rattle.sheet_ask.proofs.AskedQuestion.{same-goal, same-question}
-use Rattle.sheet_plain.specs.Asks.{SaysPlainly, AsksQuestion, AsksPlainly}
+use Rattle.sheet_plain.specs.Asks.{SaysPlainly, SaysOfText, AsksPlainly, PrintsAs}
 use Rattle.sheet_plain.specs.declared.PlainTold.{PlainTold}
 use Rattle.sheet_plain.specs.declared.PlainTold.the-variants.{Reach, Cannot, BookRefused, QuestionRefused}
 
@@ -43,28 +43,22 @@ says-one S start Cannot (QuestionRefused w l) a b = absurd b
 says-one S start (BookRefused w) y a b = absurd a
 says-one S start (QuestionRefused w l) y a b = absurd a
 
-question-one : (n : ℕ) (book : List ℕ) (o : QuestionMeaning) (x y : PlainTold) → AsksQuestion n book o x → AsksQuestion n book o y → x ≡ y
+question-one : (n : ℕ) (book : List ℕ) (o : QuestionMeaning) (x y : PlainTold) → SaysOfText n book o x → SaysOfText n book o y → x ≡ y
 question-one n book (refused why line) x y a b = a ∙ sym b
 question-one n book (asked v) x y (q, goal, k, a) (q′, goal′, l, b) =
     says-one (systemOf n book q goal) (startOf q) x y a
     (subst₂ (λ (c : Question) (g : Goal). SaysPlainly (systemOf n book c g) (startOf c) y) (same-question l k) (same-goal l k) b)
 
-pub plain-unique : (book question : List ℕ) (x y : PlainTold) → AsksPlainly book question x → AsksPlainly book question y → x ≡ y
-plain-unique book question x y (inl (w, f, e)) (inl (v, g, d)) = e ∙ ap BookRefused (first-unique f g) ∙ sym d
-plain-unique book question x y (inl (w, f, e)) (inr (n, m, sound, c)) = first-clear f (sound-clear sound)
-plain-unique book question x y (inr (n, m, sound, c)) (inl (w, f, e)) = first-clear f (sound-clear sound)
-plain-unique book question x y (inr (n, m, sound, a)) (inr (k, l, other, b)) =
+pub told-unique : (book question : List ℕ) (x y : PlainTold) → AsksPlainly book question x → AsksPlainly book question y → x ≡ y
+told-unique book question x y (inl (w, f, e)) (inl (v, g, d)) = e ∙ ap BookRefused (first-unique f g) ∙ sym d
+told-unique book question x y (inl (w, f, e)) (inr (n, m, sound, c)) = first-clear f (sound-clear sound)
+told-unique book question x y (inr (n, m, sound, c)) (inl (w, f, e)) = first-clear f (sound-clear sound)
+told-unique book question x y (inr (n, m, sound, a)) (inr (k, l, other, b)) =
     let e = sound-one other sound in
     question-one n book (questionMeaning 0 true n m question) x y a
-    (subst₂ (λ (i j : ℕ). AsksQuestion i book (questionMeaning 0 true i j question) y) (e .0) (e .1) b)
+    (subst₂ (λ (i j : ℕ). SaysOfText i book (questionMeaning 0 true i j question) y) (e .0) (e .1) b)
 
 -- ---- what `ask` prints for what the plain finder says
-
-abbrev pub PrintsAs : PlainTold → List ℕ → ℕ → List ℕ → Type 0
-PrintsAs (Reach h) out r out′ = (p : Plan) × Prints out (reachText h p) r out′
-PrintsAs Cannot out r out′ = Prints out cannotText r out′
-PrintsAs (BookRefused why) out r out′ = Prints out (refusedText (number why) (place why)) r out′
-PrintsAs (QuestionRefused why line) out r out′ = Prints out (refusedText (number why) line) r out′
 
 same-found : (S : System) (start : ℕ) (x : PlainTold) (out : List ℕ) (r : ℕ) (out′ : List ℕ) → SaysPlainly S start x → PrintsFound S start out r out′ → PrintsAs x out r out′
 same-found S start (Reach h) out r out′ a (inl (j, p, l, w, printed)) = (p, subst (λ (i : ℕ). Prints out (reachText i p) r out′) (least-unique l a) printed)
@@ -80,7 +74,7 @@ module _ (ranks out : List ℕ) (r : ℕ) (ranks′ out′ : List ℕ) (enough :
   same-asked book q goal x few a (inl (short, printed)) = absurd (omega (arith, short, few, enough))
   same-asked {n} book q goal x few a (inr (room, filled, found)) = same-found (systemOf n book q goal) (startOf q) x out r out′ a found
 
-  same-question-text : (n : ℕ) (book : List ℕ) (o : QuestionMeaning) (x : PlainTold) → 7 ^ n ≤ 823543 → AsksQuestion n book o x
+  same-question-text : (n : ℕ) (book : List ℕ) (o : QuestionMeaning) (x : PlainTold) → 7 ^ n ≤ 823543 → SaysOfText n book o x
       → PrintsQuestion n book o ranks out r ranks′ out′ → PrintsAs x out r out′
   same-question-text n book (refused why line) x few e printed = subst (λ (t : PlainTold). PrintsAs t out r out′) (sym e) (printed .printed)
   same-question-text n book (asked v) x few (q, goal, k, a) (q′, goal′, l, b) =

@@ -8,11 +8,13 @@ use Prim.Native.Nat.{ℕ}
 use Rattle.ground.specs.Search.{Least}
 use Rattle.refusal.specs.declared.Refusal.{Refusal}
 use Rattle.refusal.specs.Order.{First}
+use Rattle.refusal.specs.Refusals.{number, place}
 use Rattle.book_sound.specs.Sound.{Sound}
 use Rattle.book_sound.specs.Rows.{bookRows}
 use Rattle.knowledge.specs.Goal.{Goal}
-use Rattle.plan.specs.Plans.{System}
+use Rattle.plan.specs.Plans.{System, Plan}
 use Rattle.plan.specs.Ranks.{Reach as ReachIn, Cannot as CannotFrom}
+use Rattle.print_answer.specs.Printed.{reachText, refusedText, cannotText, Prints}
 use Rattle.question.specs.Question.{systemOf, startOf}
 use Rattle.question.specs.declared.Question.{Question}
 use Rattle.sheet_question.specs.Question.{QuestionMeaning, refused, asked, questionMeaning}
@@ -28,12 +30,20 @@ SaysPlainly S start (BookRefused why) = ⊥
 SaysPlainly S start (QuestionRefused why line) = ⊥
 
 -- by what the question text means
-abbrev pub AsksQuestion : ℕ → List ℕ → QuestionMeaning → PlainTold → Type 0
-AsksQuestion n book (refused why line) r = r ≡ QuestionRefused why line
-AsksQuestion n book (asked a) r = (q : Question) × (goal : Goal) × QuestionAsks n a q goal × SaysPlainly (systemOf n book q goal) (startOf q) r
+abbrev pub SaysOfText : ℕ → List ℕ → QuestionMeaning → PlainTold → Type 0
+SaysOfText n book (refused why line) r = r ≡ QuestionRefused why line
+SaysOfText n book (asked a) r = (q : Question) × (goal : Goal) × QuestionAsks n a q goal × SaysPlainly (systemOf n book q goal) (startOf q) r
 
 -- "the book's 6 to 9"; or, of a sound book, by its size, what the text gets
 abbrev pub AsksPlainly : List ℕ → List ℕ → PlainTold → Type 0
 AsksPlainly book question r =
     ((why : Refusal) × First (bookRows book) why × (r ≡ BookRefused why))
-    ⊎ ((n : ℕ) × (m : ℕ) × Sound book n m × AsksQuestion n book (questionMeaning 0 true n m question) r)
+    ⊎ ((n : ℕ) × (m : ℕ) × Sound book n m × SaysOfText n book (questionMeaning 0 true n m question) r)
+
+-- what `ask` prints, by the first finder, where the plain finder says this: `both` holds the first line of it, `reach H`, `cannot` or the refusal, against
+-- what is said here
+abbrev pub PrintsAs : PlainTold → List ℕ → ℕ → List ℕ → Type 0
+PrintsAs (Reach h) out r out′ = (p : Plan) × Prints out (reachText h p) r out′
+PrintsAs Cannot out r out′ = Prints out cannotText r out′
+PrintsAs (BookRefused why) out r out′ = Prints out (refusedText (number why) (place why)) r out′
+PrintsAs (QuestionRefused why line) out r out′ = Prints out (refusedText (number why) line) r out′

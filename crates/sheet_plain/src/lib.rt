@@ -14,7 +14,7 @@ ghost use Rattle.book_sound.specs.Sound.{Sound};
 ghost use Rattle.finder_plain.specs.Finds.{FindsPlain};
 ghost use Rattle.sheet_question.specs.Question.{questionMeaning};
 ghost use Rattle.sheet_ask.specs.Inner.{Learnt, questionIn, goalIn};
-ghost use Rattle.sheet_plain.specs.Asks.{AsksPlainly, AsksQuestion};
+ghost use Rattle.sheet_plain.specs.Asks.{AsksPlainly, SaysOfText};
 
 // What is said of a question text.
 pub enum PlainTold {
@@ -48,7 +48,7 @@ fn found(book: &[u8], asked: AskedDesk) -> PlainAnswer
 // finder refuses nothing of it.
 fn ask_sound(book: &[u8], settings: u8, posts: u8, question: &[u8]) -> PlainTold
     requires { ⌜ Sound (now book) settings posts ⌝ }
-    ensures { λ r. ⌜ AsksQuestion settings (now (book .entry)) (questionMeaning 0 true settings posts (now (question .entry))) r ⌝ }
+    ensures { λ r. ⌜ SaysOfText settings (now (book .entry)) (questionMeaning 0 true settings posts (now (question .entry))) r ⌝ }
 {
     let reading = read_question(question, settings, posts);
     let told = reading.told;

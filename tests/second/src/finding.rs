@@ -87,7 +87,9 @@ fn expect(
     let (mut ranks_left, mut plan_left) = (ranks.lent_before().to_vec(), plan.lent_before().to_vec());
     let masks = [question.team, question.known, question.values];
     let word = ffi::find(&mut book, masks, &mut make, &mut learn, &mut ranks, &mut plan);
+    let only_read = book.untouched() && make.untouched() && learn.untouched();
     let plain = ffi::find_plain(&mut book, masks, &mut make, &mut learn);
+    let plain_read = book.untouched() && make.untouched() && learn.untouched();
 
     let expected = match solution {
         Ok(solution) => solution.in_rooms(rank_room, plan_room),
@@ -110,11 +112,16 @@ fn expect(
         Ok(Solution { found: Found::Cannot, .. }) => 0,
         Err(refusal) => refusal.word(),
     };
-    let only_read = book.untouched() && make.untouched() && learn.untouched();
     let bounded = solution.as_ref().map_or(true, |solution| within_bounds(solution));
     let right = bounded && word == expected_word && ranks.holds(&ranks_left) && plan.holds(&plan_left) && only_read;
-    group.case(plain == plain_word, || {
-        format!("{}\n        by the plain finder\n        expected {plain_word:#x}\n        got      {plain:#x}", shown_question(question))
+    group.case(plain == plain_word && plain_read, || {
+        let more = if plain_read { "" } else { ", and something was written" };
+        format!(
+            "{}, by the plain finder\n        expected {}\n        got      {}{more}",
+            shown_question(question),
+            told_plain(plain_word),
+            told_plain(plain),
+        )
     });
     group.case(right, || {
         let mut more = String::new();
@@ -164,6 +171,14 @@ fn told_find(word: u64) -> String {
     match word {
         0 => "cannot".to_string(),
         _ if word >> 32 == 0 => format!("reach {} with a plan of {} bytes", word >> 16, word & 0xffff),
+        _ => told(word),
+    }
+}
+
+fn told_plain(word: u64) -> String {
+    match word {
+        0 => "cannot".to_string(),
+        _ if word >> 32 == 0 => format!("reach {}", word - 1),
         _ => told(word),
     }
 }

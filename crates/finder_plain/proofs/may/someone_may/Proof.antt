@@ -4,30 +4,27 @@ use Prim.Native.Nat.{_-_, _≤_}
 use mathlib.Core.Path.{_≡_, sym, ap, _∙_}
 use native.Mathlib.Omega.{arith}
 use Rattle.finder_plain.specs.Tries.{mayDo, byPost}
-use Rattle.finder_plain.proofs.MayLaws.{NobodyBelow, nobody-more, nobody-all, someone-here}
-use Rattle.finder_plain.proofs.acts.someone_may.Statement.{statement}
-use Rattle.finder_plain.proofs.acts.someone_may.Tie as tie
+use Rattle.finder_plain.proofs.MayLaws.{at-number, NobodyBelow, nobody-more, nobody-all, someone-here}
+use Rattle.finder_plain.proofs.may.someone_may.Statement.{statement}
+use Rattle.finder_plain.proofs.may.someone_may.Tie as tie
 
 abbrev Inv-loop : tie.InvT-loop
-Inv-loop n book team k act v q₀ q = (q ≤ 8) × NobodyBelow (mayDo n book team k) act q
+Inv-loop n book team k act state q₀ q = (q ≤ 8) × NobodyBelow (mayDo n book team k) act q
 
 abbrev μ-loop : tie.MeasureT-loop
-μ-loop n book team k act v q₀ q = 8 - q
+μ-loop n book team k act state q₀ q = 8 - q
 
 loop-holds : tie.Need-loop-holds Inv-loop μ-loop
 loop-holds c = (omega arith, λ p l. absurd (omega arith))
 
-first-fitting-requires : tie.Need-first-fitting-requires Inv-loop μ-loop
-first-fitting-requires c κs = let start : tie.Start Inv-loop μ-loop = search in start .pre
+from-number-requires : tie.Need-from-number-requires Inv-loop μ-loop
+from-number-requires c κs = search needs
 
 by-post-requires : tie.Need-by-post-requires Inv-loop μ-loop
 by-post-requires c κs = search needs
 
 may-do-requires : tie.Need-may-do-requires Inv-loop μ-loop
-may-do-requires c κs =
-    let start : tie.Start Inv-loop μ-loop = search in
-    let fitted : tie.After-first-fitting Inv-loop μ-loop = search in
-    (start .pre .0, start .pre .1, fitted .first-fitting .ensures)
+may-do-requires c κs = search needs
 
 abbrev begun : tie.After-may-do Inv-loop μ-loop → tie.Start Inv-loop μ-loop
 begun c = search
@@ -39,8 +36,11 @@ turn c = c .before .before .before
 said : (c : tie.After-may-do Inv-loop μ-loop)
     → c .may-do .result ≡ mayDo (begun c .args .n) (begun c .args .book .now) (begun c .args .team) (begun c .args .k) (byPost (begun c .args .act) (turn c .loop .q))
 said c =
+    let made : tie.After-from-number Inv-loop μ-loop = search in
     let posted : tie.After-by-post Inv-loop μ-loop = search in
-    c .may-do .ensures ∙ ap (mayDo _ _ _ _) (posted .by-post .ensures)
+    let a = begun c .args in
+    at-number (a .n) (a .book .now) (a .team) (a .k) _ (begun c .pre .1) (made .from-number .ensures) (c .may-do .ensures)
+    ∙ ap (mayDo _ _ _ _) (posted .by-post .ensures)
 
 returns : tie.Need-returns Inv-loop μ-loop
 returns c =
@@ -69,4 +69,4 @@ returns-2 c =
 
 pub someone-may-spec : {M : Type 1} → statement M
 someone-may-spec =
-    tie.close (tie.spec Inv-loop μ-loop first-fitting-requires loop-holds by-post-requires may-do-requires returns add-q loop-less loop-again returns-2)
+    tie.close (tie.spec Inv-loop μ-loop from-number-requires loop-holds by-post-requires may-do-requires returns add-q loop-less loop-again returns-2)
