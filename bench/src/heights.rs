@@ -10,15 +10,19 @@ use crate::{CLOSED, PLAN, STATES};
 
 /// How many random questions there are of n settings; with seven a question may take half a second.
 const QUESTIONS: [usize; 8] = [0, 5000, 5000, 20_000, 5000, 1000, 300, 120];
+/// A question's time is the least of some turns.
+const TURNS: usize = 3;
 /// The lowest heights of the columns, and after them the column of "cannot".
 const FROM: [u64; 5] = [0, 2, 4, 8, 16];
 
 /// What the second finder says, the least height or that there is none, and how long it took.
 fn timed(asked: &Asked) -> (Option<u64>, Duration) {
-    let begun = Instant::now();
-    let word = proved::find_plain(asked);
-    let time = begun.elapsed();
-    let height = word.checked_sub(1);
+    let (mut height, mut time) = (None, Duration::MAX);
+    for _ in 0..TURNS {
+        let begun = Instant::now();
+        height = proved::find_plain(asked).checked_sub(1);
+        time = begun.elapsed().min(time);
+    }
     let (mut ranks, mut plan) = (vec![170; STATES], vec![170; PLAN]);
     let found = proved::find(asked, &mut ranks, &mut plan);
     assert!(height == (found != 0).then_some(found >> 16), "the two finders differ");
