@@ -7,9 +7,9 @@ kept
 beside() {
     local into=$side/$1
     shift
-    : 2>/dev/null >"$into" || trouble 'no room for a temporary file'
+    : 2>/dev/null >"$into" || trouble "no room in the temporary folder $side"
     run "$@" >"$into"
-    [ "$status" -ne 3 ] || exit 3
+    [ "$status" -ne 3 ] || trouble "no answer could be kept in the temporary folder $side, or the files could not be read"
 }
 
 # printed LINE: a line on standard output.
@@ -43,7 +43,7 @@ if [ $# -eq 1 ]; then
     first=$status
     # a sheet that is not refused is rules up to its line `team`, and a question from there on
     sed '/^team /,$d' <"$sheet" >"$side/rules" && sed -n '/^team /,$p' <"$sheet" >"$side/question" ||
-        trouble 'no room for a temporary file'
+        trouble "no room in the temporary folder $side"
     run program_book "$side/rules" "$side/book"
     [ "$status" -eq 0 ] || trouble "the rules of $name make no book"
     status=$first

@@ -44,7 +44,9 @@ fresh() {
 
 # kept: a folder of its own for what a call writes on the side.
 kept() {
-    [ -n "${side-}" ] || { side=$(mktemp -d) && trap 'rm -rf "$side"' EXIT; } || trouble 'no room for a temporary folder'
+    [ -z "$side" ] || return 0
+    trap '[ -z "$side" ] || rm -rf "$side"' EXIT
+    side=$(mktemp -d 2>/dev/null) || trouble "no temporary folder can be made${TMPDIR:+ in $TMPDIR, which TMPDIR names}"
 }
 
 # taken FILE MOST: a file that can be read twice, in `file`: FILE itself, or where that is no regular file (a pipe, a
@@ -53,7 +55,7 @@ taken() {
     file=$1
     [ "$1" = - ] || [ ! -f "$1" ] || return 0
     kept
-    file=$(mktemp "$side/XXXXXX") || trouble 'no room for a temporary file'
+    file=$(mktemp "$side/XXXXXX") || trouble "no room in the temporary folder $side"
     if [ "$1" = - ]; then
         head -c "$(($2 + 1))" >"$file" || trouble 'standard input cannot be read'
     else
@@ -116,7 +118,13 @@ is_text() {
     read -r word _ < <(head -c 4096 <"$1" | grep -a -v -e '^#' -e '^$' | head -n 1 | tr -d '\0')
     case $word in
     team) echo ', and this is a question' ;;
-    size) echo ", and these are rules: './parjolenc book' makes a book of them" ;;
+    size)
+        if head -c 32768 <"$1" | grep -a -q '^team '; then
+            echo ", and this is a sheet: give it alone, to 'answer' or 'both'"
+        else
+            echo ", and these are rules: './parjolenc book' makes a book of them"
+        fi
+        ;;
     reach | cannot) echo ', and this is an answer' ;;
     look | set) echo ', and this is a shift' ;;
     esac

@@ -45,6 +45,16 @@ x86_64)
     mkdir -p "$room/odd/target" && cp -r parjolenc command "$room/odd/" && cp -r target/bin "$room/odd/target/"
     odd 'another height' 3 "parjolenc: the two finders differ, which is proved not to be: 'reach 4' and 'reach 9'" 'reach 9\\n' 0
     odd 'another status' 3 "parjolenc: the two finders differ, which is proved not to be: 'reach 4' and 'cannot'" 'cannot\\n' 1
-    odd 'a plain finder in trouble' 3 '' '' 3
+    printf '#!/bin/sh\necho 3 >&3\n' >"$room/odd/target/bin/program_plain"
+    "$room/odd/parjolenc" both "$room/night.book" books/night/both.question >"$room/printed" 2>"$room/said"
+    holds 'a plain finder in trouble: the status' test $? -eq 3
+    holds 'a plain finder in trouble: no difference is said' grep -q 'no answer could be kept' "$room/said"
     ;;
 esac
+TMPDIR=$room/none ./parjolenc both sheets/night.sheet >"$room/printed" 2>"$room/said"
+holds 'both without a temporary folder: the status' test $? -eq 3
+holds 'both without a temporary folder: it is said' grep -q 'which TMPDIR names' "$room/said"
+mkdir "$room/mine" && echo mine >"$room/mine/answer"
+holds 'a variable from outside is not taken' test "$(side=$room/mine status=0 ./parjolenc both sheets/night.sheet 2>&1)" = 'both: reach 4'
+holds 'and what it names is left alone' test "$(cat "$room/mine/answer")" = mine
+expect 'a sheet for a book' 2 'refused 6 0' 'this is a sheet: give it alone' both sheets/night.sheet books/night/both.question
