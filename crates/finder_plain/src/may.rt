@@ -1,7 +1,7 @@
 // What the team may do at a state, by the judgement of the act's rule there.
+use crate::acts::by_post;
 use book_block::Right;
 use book_block::rule_at;
-use crate::acts::by_post;
 use ground::POSTS_MOST;
 use knowledge::Judgement;
 use knowledge::Knowledge;
