@@ -28,7 +28,8 @@ enum {
     RULES = 7,
     ASK = 8,
     REPLAY = 9, // its words are the first room: GUARD is a multiple of 8, so their address is right for words
-    FIND_PLAIN = 10
+    FIND_PLAIN = 10,
+    BOOK_SALVAGE = 11
 };
 
 static void fill(void *bytes, u64 size) {
@@ -52,6 +53,7 @@ static u64 call(u64 function, const u64 *number, u8 *const *room, const u64 *len
     case FORMULA_READ: return pj_formula_read(number[0], room[0], lent[0], room[1]);
     case BOOK_READ: return pj_book_read(room[0], lent[0], room[1], lent[1]);
     case BOOK_WRITE: return pj_book_write(number[0], number[1], room[0], lent[0], room[1], lent[1]);
+    case BOOK_SALVAGE: return pj_book_salvage(room[0], lent[0], room[1], lent[1]);
     case FIND: return pj_find(room[0], lent[0], (u8)number[0], (u8)number[1], (u8)number[2], room[1], lent[1],
                               room[2], lent[2], room[3], lent[3], room[4], lent[4]);
     case FIND_PLAIN: return pj_find_plain(room[0], lent[0], (u8)number[0], (u8)number[1], (u8)number[2], room[1], lent[1],

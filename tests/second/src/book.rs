@@ -92,7 +92,7 @@ pub fn block(start: &[u8]) -> Vec<u8> {
 }
 
 /// Tables of posts that don't exist, bits past 2^n, and all bytes past the tables are zero.
-fn has_only_rights(setting: &[u8], n: usize, m: usize) -> bool {
+pub fn has_only_rights(setting: &[u8], n: usize, m: usize) -> bool {
     let is_right = |byte: usize, bit: usize| byte / 32 < m && byte % 16 * 8 + bit < 1 << n;
     setting.iter().enumerate().all(|(byte, &bits)| (0..8).all(|bit| bits >> bit & 1 == 0 || is_right(byte, bit)))
 }

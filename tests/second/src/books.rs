@@ -120,7 +120,7 @@ fn expect_write(group: &mut Group, n: u64, m: u64, rights: &[u8], room: usize, e
 }
 
 /// How what was lent differs from what it was to hold.
-fn stores(room: &Room, left: &[u8], only_read: &Room) -> String {
+pub fn stores(room: &Room, left: &[u8], only_read: &Room) -> String {
     let mut told = String::new();
     if let Some(place) = (0..left.len()).find(|&i| room.lent()[i] != left[i]) {
         told += &format!(", and byte {place} of the room is {} and not {}", room.lent()[place], left[place]);
@@ -138,7 +138,7 @@ fn any_size(rng: &mut Rng) -> (usize, usize) {
     (rng.between(1, 7), rng.between(1, 8))
 }
 
-fn any_book(rng: &mut Rng, n: usize, m: usize) -> Vec<u8> {
+pub fn any_book(rng: &mut Rng, n: usize, m: usize) -> Vec<u8> {
     let rights = any_rights(rng, n, m);
     written(n, m, &rights)
 }
@@ -153,7 +153,7 @@ pub fn repaired(bytes: &[u8]) -> Vec<u8> {
     bytes.chunks(BLOCK).flat_map(block).collect()
 }
 
-fn turned(bytes: &[u8], bit: usize) -> Vec<u8> {
+pub fn turned(bytes: &[u8], bit: usize) -> Vec<u8> {
     let mut turned = bytes.to_vec();
     turned[bit / 8] ^= 1 << (bit % 8);
     turned
@@ -288,7 +288,7 @@ fn repaired_damage(group: &mut Group) {
 }
 
 /// A book with one to three damaged bytes, one of them in the head now and then.
-fn damaged_book(rng: &mut Rng) -> Vec<u8> {
+pub fn damaged_book(rng: &mut Rng) -> Vec<u8> {
     let (n, m) = any_size(rng);
     let mut book = any_book(rng, n, m);
     for _ in 0..rng.between(1, 3) {

@@ -30,6 +30,11 @@ pub fn book_write(n: u64, m: u64, rights: &mut Room, book: &mut Room) -> u64 {
     route::book_write(n, m, rights, book)
 }
 
+/// Salvages a damaged book into `room`. Success is the count of the blocks that were replaced × 256 + a mark for each.
+pub fn book_salvage(book: &mut Room, room: &mut Room) -> u64 {
+    route::book_salvage(book, room)
+}
+
 /// Answers a question (its masks are team, known and values) and leaves the ranks in `ranks` and the plan in `plan`.
 /// "Reach" is the height in bits 16 to 31 and the plan's length below them; "cannot" is 0.
 pub fn find(

@@ -1,4 +1,4 @@
-//! The second program: paper 01, issue 18's texts and requests written again, independently, and compared with
+//! The second program: paper 01, issue 18's texts and requests written again, independently, and compared with
 //! the proved library on many inputs, valid and damaged, to the last bit of every result and every lent byte.
 //! ../README.md tells how it is run.
 //!
@@ -34,6 +34,8 @@ mod report;
 mod rng;
 mod room;
 mod run;
+mod salvage;
+mod salvaging;
 mod secrets;
 mod sentences;
 mod sheet;
@@ -69,6 +71,7 @@ const AREAS: &[Area] = &[
     Area { name: "formulas", functions: &["pj_formula_read"], test: formulas::test },
     Area { name: "reading books", functions: &["pj_book_read"], test: books::reading },
     Area { name: "writing books", functions: &["pj_book_write"], test: books::writing },
+    Area { name: "salvaging books", functions: &["pj_book_salvage"], test: salvaging::test },
     Area { name: "finding", functions: &["pj_find", "pj_find_plain"], test: finding::test },
     Area { name: "checking plans", functions: &["pj_plan_check"], test: checking::test },
     Area { name: "secrets", functions: &["pj_find"], test: secrets::test },

@@ -17,6 +17,7 @@ const RULES: u64 = 7;
 const ASK: u64 = 8;
 const REPLAY: u64 = 9;
 const FIND_PLAIN: u64 = 10;
+const BOOK_SALVAGE: u64 = 11;
 
 pub fn formula_read(n: u64, text: &mut Room, table: &mut Room) -> u64 {
     call(FORMULA_READ, &[n], &mut [text, table])
@@ -28,6 +29,10 @@ pub fn book_read(book: &mut Room, rights: &mut Room) -> u64 {
 
 pub fn book_write(n: u64, m: u64, rights: &mut Room, book: &mut Room) -> u64 {
     call(BOOK_WRITE, &[n, m], &mut [rights, book])
+}
+
+pub fn book_salvage(book: &mut Room, room: &mut Room) -> u64 {
+    call(BOOK_SALVAGE, &[], &mut [book, room])
 }
 
 pub fn find(

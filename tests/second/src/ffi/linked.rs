@@ -7,6 +7,7 @@ extern "C" {
     fn pj_formula_read(n: u64, text: *const u8, len: u64, table: *mut u8) -> u64;
     fn pj_book_read(book: *const u8, len: u64, rights: *mut u8, rights_len: u64) -> u64;
     fn pj_book_write(n: u64, m: u64, rights: *const u8, len: u64, book: *mut u8, book_len: u64) -> u64;
+    fn pj_book_salvage(book: *const u8, len: u64, room: *mut u8, room_len: u64) -> u64;
     fn pj_find(
         book: *const u8,
         book_len: u64,
@@ -87,6 +88,10 @@ pub fn book_read(book: &mut Room, rights: &mut Room) -> u64 {
 
 pub fn book_write(n: u64, m: u64, rights: &mut Room, book: &mut Room) -> u64 {
     unsafe { pj_book_write(n, m, start(rights), size(rights), start(book), size(book)) }
+}
+
+pub fn book_salvage(book: &mut Room, room: &mut Room) -> u64 {
+    unsafe { pj_book_salvage(start(book), size(book), start(room), size(room)) }
 }
 
 pub fn find(
