@@ -4,21 +4,21 @@ use mathlib.Core.Bool.{Bool, true, false}
 use mathlib.Core.List.{List, _++_}
 use Prim.Native.Nat.{ℕ, _+_, _*_, _/_, _%_, _≤_, _<_}
 use native.Mathlib.Omega.{arith}
-use lib.Dec.{lit<}
-use lib.ListN.{length, getD, take, drop, replicate, length-replicate, getD-replicate, replicate-append-replicate}
+use lib.ListN.{length, getD, take, drop, replicate, length-replicate, replicate-append-replicate}
 use lib.Seq.{sets}
 use Rattle.ground.specs.Digits.{bit}
 use Rattle.ground.specs.Table.{truth, Within}
 use Rattle.ground.proofs.Bits.{bit-of-zero}
 use Rattle.ground.specs.Bounds.{SettingsFit, PostsFit}
 use Rattle.ground.proofs.Lists.{length-part}
+use Rattle.ground.proofs.Table.{zero-at}
 use Rattle.book_block.specs.declared.rule.Right.{Right}
 use Rattle.book_block.specs.Check.{block, RightCheck}
 use Rattle.book_block.specs.Rule.{tablePlace, table}
 use Rattle.book_block.specs.Kinds.{Zeros, Head, Tables}
 use Rattle.book_block.specs.Sealed.{sealed, sealedAt, settingBlock}
 use Rattle.book_block.proofs.SealLaws.{run-on, seal-on}
-use Rattle.book_block.proofs.StrayLaws.{table-byte, place-post}
+use Rattle.book_block.proofs.StrayLaws.{table-byte}
 use Rattle.book_block.proofs.BlockLaws.{length-setting, setting-right, setting-setting, setting-byte}
 use Rattle.book_sound.specs.Sound.{Sound, inOrder}
 use Rattle.book_sound.proofs.InOrder.{inOrder-same}
@@ -31,17 +31,15 @@ use Rattle.book_salvage.proofs.MarkLaws.{unmarked-stands}
 zero-tables : length (replicate {A = ℕ} 256 0) ≡ 256
 zero-tables = length-replicate {A = ℕ} 256 0
 
-zero-byte : (q : ℕ) (right : Right) (o : ℕ) → q < 8 → o < 16 → getD (table (replicate 256 0) q right) o 0 ≡ 0
-zero-byte q right o hq ho =
-    let u : (32 * q ≤ tablePlace q right + o) × (tablePlace q right + o < 32 * q + 32) = place-post q right o ho in
-    table-byte (replicate 256 0) q right o ho ∙ getD-replicate 256 (tablePlace q right + o) 0 0 (omega arith)
+zero-byte : (q : ℕ) (right : Right) (o : ℕ) → o < 16 → getD (table (replicate 256 0) q right) o 0 ≡ 0
+zero-byte q right o h = table-byte (replicate 256 0) q right o h ∙ zero-at 256 (tablePlace q right + o)
 
 closed-tables : (n m : ℕ) → Tables n m (replicate 256 0)
 unfolding Zeros Within truth
 closed-tables n m =
     record {
-      nobody = λ q right hm hq o z h. zero-byte q right o hq h;
-      within = λ q right hq v l h. ap (λ x. bit x (v % 8)) (zero-byte q right (v / 8) hq (omega arith)) ∙ bit-of-zero (v % 8);
+      nobody = λ q right hm hq o z h. zero-byte q right o h;
+      within = λ q right hq v l h. ap (λ x. bit x (v % 8)) (zero-byte q right (v / 8) (omega arith)) ∙ bit-of-zero (v % 8);
     }
 
 pub length-closed : length closedBlock ≡ 512
@@ -60,7 +58,7 @@ closed-stands n m =
 -- all its table bytes are zero
 pub closed-byte : (j : ℕ) → j < 256 → getD closedBlock j 0 ≡ 0
 unfolding closedBlock
-closed-byte j h = setting-byte (replicate 256 0) zero-tables j h ∙ getD-replicate 256 j 0 0 h
+closed-byte j h = setting-byte (replicate 256 0) zero-tables j h ∙ zero-at 256 j
 
 -- zeros, and then their check
 pub close-on : (room zeroed after : List ℕ) (at : ℕ) → at + 512 ≤ length room → zeroed ≡ sets room at (replicate 508 0) → after ≡ sealedAt zeroed at
