@@ -1,5 +1,5 @@
 -- What the reader and the writer leave in the room, and that rights which may be written meet none of the writer's refusals.
-use mathlib.Core.Path.{_≡_, sym, ap, _∙_, subst}
+use mathlib.Core.Path.{_≡_, sym, subst}
 use mathlib.Core.List.{List, _++_}
 use Prim.Native.Nat.{ℕ, _+_, _-_, _*_, _≤_}
 use native.Mathlib.Omega.{arith}
@@ -15,18 +15,13 @@ use Rattle.book_block.specs.Sealed.{headBlock}
 use Rattle.book.specs.Written.{settingBlocks, bookOf, Writable}
 use Rattle.refusal.specs.Order.{First, Clear}
 use Rattle.book.specs.Inner.{MayWrite}
-use Rattle.ground.proofs.Lists.{sets-front}
+use Rattle.ground.proofs.Lists.{filled}
 use Rattle.refusal.proofs.OrderLaws.{clear-none, clear-past, clear-when, clear-lowest}
 use Rattle.book_block.proofs.SealLaws.{run-on}
 use Rattle.book_block.proofs.BlockLaws.{length-head}
 use Rattle.book_sound.proofs.BlockRows.{none-block, down}
 use Rattle.book_sound.proofs.RightsLaws.{length-rights}
 use Rattle.book.proofs.WriteLaws.{length-book}
-
--- a room that is filled from its first byte
-filled : (room after text : List ℕ) (k : ℕ) → length text ≡ k → k ≤ length room → after ≡ sets room 0 text → after ≡ text ++ drop k room
-filled room after text k e h p =
-    p ∙ sets-front room text (omega arith) ∙ ap (λ (n : ℕ). text ++ drop n room) e
 
 pub read-room : {book : List ℕ} (room after : List ℕ) {n m : ℕ} → Sound book n m → 256 * n ≤ length room → after ≡ sets room 0 (rightsOf book n)
     → after ≡ rightsOf book n ++ drop (256 * n) room

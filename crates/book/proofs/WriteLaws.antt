@@ -4,47 +4,40 @@ use mathlib.Core.Path.{_≡_, sym, ap, _∙_}
 use mathlib.Core.List.{List}
 use Prim.Native.Nat.{ℕ, _+_, _*_, _≤_}
 use native.Mathlib.Nat.{zero-add}
-use native.Mathlib.Numerals.{add-one}
 use native.Mathlib.Omega.{arith}
-use lib.ListN.{length, take, drop, length-append}
+use lib.ListN.{length, take, drop}
 use lib.Seq.{sets}
 use Rattle.book_block.specs.Check.{block}
 use Rattle.book_block.specs.Sealed.{headBlock, settingBlock}
-use Rattle.book_sound.specs.Sound.{inOrder, rightsOf, tablesOf}
+use Rattle.book_sound.specs.Sound.{rightsOf, tablesOf}
 use Rattle.book.specs.Written.{settingBlocks, bookOf}
-use Rattle.book_block.proofs.SealLaws.{run-on}
 use Rattle.book_block.proofs.BlockLaws.{length-head, length-setting}
-use Rattle.book_sound.proofs.InOrder.{length-inOrder}
-use Rattle.book_sound.proofs.RightsLaws.{length-tables, tables-block, length-rights}
+use Rattle.book_sound.proofs.Laid.{lay-on, length-laid}
+use Rattle.book_sound.proofs.RightsLaws.{length-tables, tables-block, length-table-part}
 
 -- ---- the settings, one after the other
 
-pub length-settings : (rights : List ℕ) (n : ℕ) → 256 * n ≤ length rights → length (settingBlocks rights n) ≡ 512 * n
-unfolding settingBlocks
-length-settings rights n h =
-    length-inOrder _ 512 n (λ i k. length-setting (tablesOf rights i) (length-tables rights i (omega arith)))
+module _ (rights : List ℕ) where
+  -- the block of each setting that the rights have
+  pub length-written : (i : ℕ) → 256 * (1 + i) ≤ length rights → length (settingBlock (tablesOf rights i)) ≡ 512
+  length-written i h = length-setting (tablesOf rights i) (length-tables rights i h)
 
-pub settings-step : (rights l r₁ r₂ : List ℕ) (i : ℕ) → 256 * i ≤ length rights → r₁ ≡ sets l 512 (settingBlocks rights i)
-    → r₂ ≡ sets r₁ (512 * (1 + i)) (settingBlock (tablesOf rights i)) → r₂ ≡ sets l 512 (settingBlocks rights (i + 1))
-unfolding settingBlocks inOrder
-settings-step rights l r₁ r₂ i h p q =
-    rw add-one
-    (run-on l r₁ r₂ (settingBlocks rights i) (settingBlock (tablesOf rights i)) 512 (512 * (1 + i))
-    (let e : length (settingBlocks rights i) ≡ 512 * i = length-settings rights i h in omega arith) p q)
+  pub settings-step : (l r₁ r₂ : List ℕ) (i : ℕ) → 256 * i ≤ length rights → r₁ ≡ sets l 512 (settingBlocks rights i)
+      → r₂ ≡ sets r₁ (512 * (1 + i)) (settingBlock (tablesOf rights i)) → r₂ ≡ sets l 512 (settingBlocks rights (i + 1))
+  unfolding settingBlocks
+  settings-step l r₁ r₂ i h p q =
+      lay-on (λ k. settingBlock (tablesOf rights k)) 512 l r₁ r₂ 512 (512 * (1 + i)) i (λ k b. length-written k (omega arith)) (omega arith) p q
 
 pub length-book : (n m : ℕ) (rights : List ℕ) → length rights ≡ 256 * n → length (bookOf n m rights) ≡ 512 * (1 + n)
-unfolding bookOf
+unfolding bookOf settingBlocks
 length-book n m rights e =
-    let a : length (headBlock n m) ≡ 512 = length-head n m in
-    let b : length (settingBlocks rights n) ≡ 512 * n = length-settings rights n (omega arith) in
-    simp length-append (omega arith)
+    length-laid (headBlock n m) (λ i. settingBlock (tablesOf rights i)) n (length-head n m) (λ i k. length-written rights i (omega arith))
 
 -- ---- the rights of a book
 
 pub rights-step : (book l r₁ r₂ : List ℕ) (i : ℕ) → 512 * (1 + i) ≤ length book → r₁ ≡ sets l 0 (rightsOf book i)
     → r₂ ≡ sets r₁ (256 * i) (take 256 (drop (512 * (1 + i)) book)) → r₂ ≡ sets l 0 (rightsOf book (i + 1))
-unfolding rightsOf inOrder
+unfolding rightsOf
 rights-step book l r₁ r₂ i h p q =
-    rw add-one
-    (run-on l r₁ r₂ (rightsOf book i) (take 256 (block book (1 + i))) 0 (256 * i)
-    (zero-add _ ∙ length-rights book i h) p (q ∙ ap (sets r₁ (256 * i)) (sym (tables-block book (1 + i)))))
+    lay-on (λ k. take 256 (block book (1 + k))) 256 l r₁ r₂ 0 (256 * i) i (λ k b. length-table-part book k (omega arith)) (zero-add _) p
+    (q ∙ ap (sets r₁ (256 * i)) (sym (tables-block book (1 + i))))

@@ -19,7 +19,10 @@ pub tables-block : (book : List ℕ) (k : ℕ) → take 256 (block book k) ≡ t
 unfolding block
 tables-block book k = take-take 256 512 (drop (512 * k) book) (lit≤ tt)
 
+-- the tables of setting i in a book that has its block
+pub length-table-part : (book : List ℕ) (i : ℕ) → 512 * (1 + i) + 256 ≤ length book → length (take 256 (block book (1 + i))) ≡ 256
+length-table-part book i h = ap length (tables-block book (1 + i)) ∙ length-part book (512 * (1 + i)) 256 h
+
 pub length-rights : (book : List ℕ) (n : ℕ) → 512 * (1 + n) ≤ length book → length (rightsOf book n) ≡ 256 * n
 unfolding rightsOf
-length-rights book n h =
-    length-inOrder _ 256 n (λ i k. ap length (tables-block book (1 + i)) ∙ length-part book (512 * (1 + i)) 256 (omega arith))
+length-rights book n h = length-inOrder _ 256 n (λ i k. length-table-part book i (omega arith))

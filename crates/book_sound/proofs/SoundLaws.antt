@@ -36,8 +36,8 @@ module _ {book : List ℕ} {n m : ℕ} (sound : Sound book n m) where
         most = omega (arith, sound-blocks, sound .settings .most);
       }
 
-  sound-head : RightHead book
-  sound-head =
+  pub sound-head-right : RightHead book
+  sound-head-right =
       record {
         head = rw (sound-settings, sound-posts) (sound .head);
         posts = rw sound-posts (sound .posts);
@@ -49,7 +49,7 @@ module _ {book : List ℕ} {n m : ℕ} (sound : Sound book n m) where
   sound-clear =
       clear-past sound-whole
       (clear-lowest (λ k g. g .1 (sound .checks k (subst (λ x. k < x) sound-blocks (g .0))))
-      (clear-past sound-head
+      (clear-past sound-head-right
       (clear-lowest
       (none-block (λ k. SettingBlock (settingsOf book) (postsOf book) (block book k))
       (λ i h. rw (sound-settings, sound-posts) (sound .setting i (subst (λ x. i < x) sound-settings h))))

@@ -9,14 +9,16 @@ use book_block::are_zeros;
 use book_block::is_right;
 use book_block::is_setting;
 use ground::POSTS_MOST;
+use ground::peek;
 use refusal::Refusal;
+ghost use mathlib.Core.Path.{_≡_};
 ghost use Prim.Native.Nat.{_+_, _≤_};
 ghost use lib.ListN.{length};
 ghost use Rattle.ground.specs.Tells.{Tells};
 ghost use Rattle.ground.specs.Search.{Lowest};
 ghost use Rattle.book_block.specs.Check.{block, RightCheck};
 ghost use Rattle.book_block.specs.Kinds.{SettingBlock};
-ghost use Rattle.book_sound.specs.Rows.{Whole, RightHead};
+ghost use Rattle.book_sound.specs.Rows.{Whole, settingsOf, RightHead};
 ghost use Rattle.book_sound.specs.Promise.{Judges};
 
 // The fewest and most blocks of a book: the head and 1 to 7 settings.
@@ -36,7 +38,7 @@ pub enum ReadAnswer {
 }
 
 // Whether the bytes are 2 to 8 whole blocks.
-fn is_whole(book: &[u8]) -> bool
+pub fn is_whole(book: &[u8]) -> bool
     ensures { λ r. ⌜ Tells r (Whole (now (book .entry))) ⌝ }
 {
     if book.len() % BLOCK != 0 {
@@ -66,17 +68,26 @@ fn first_wrong(book: &[u8], count: usize) -> usize
     count
 }
 
-// Whether the head says one setting for each block after it, 1 to 8 posts and nothing else, in a
-// book of whole blocks.
-fn is_head(book: &[u8]) -> bool
-    requires { ⌜ Whole (now book) ⌝ }
+// How many settings the blocks of a book are for: one fewer than there are; 0 where there is none.
+fn settings_of(book: &[u8]) -> usize
+    ensures { λ r. ⌜ r ≡ settingsOf (now (book .entry)) ⌝ }
+{
+    let blocks = book.len() / BLOCK;
+    if blocks < 1 {
+        return 0;
+    }
+    blocks - 1
+}
+
+// Whether the head says one setting for each block after it, 1 to 8 posts and nothing else.
+pub fn is_head(book: &[u8]) -> bool
     ensures { λ r. ⌜ Tells r (RightHead (now (book .entry))) ⌝ }
 {
-    let n = book[0] as usize;
-    if n != book.len() / BLOCK - 1 {
+    let n = peek(book, 0) as usize;
+    if n != settings_of(book) {
         return false;
     }
-    let m = book[1] as usize;
+    let m = peek(book, 1) as usize;
     if m < 1 {
         return false;
     }

@@ -1,7 +1,6 @@
 -- A table over all sides is right from a side up; one entry more is right because a side that does not know a setting is judged from the two
 -- larger sides that tell it (`always-split`), and a side that tells all from its one valuation (`always-one`).
 use mathlib.Core.Path.{_≡_, refl, sym, ap, ap₂, _∙_}
-use mathlib.Core.Logic.{inl, inr}
 use mathlib.Core.List.{List}
 use mathlib.Core.Bool.{Bool, true, false, _&&_}
 use Prim.Native.Nat.{ℕ, _+_, _*_, _^_, _≤_, _<_}
@@ -10,12 +9,12 @@ use native.Mathlib.Decide.{ℕ-discrete}
 use native.Mathlib.Omega.{arith}
 use lib.Bits.{bitAnd, and-le-l}
 use lib.Dec.{lit<}
-use lib.ListN.{length, getD, set, replicate, length-replicate, getD-replicate, List·getD-eq-default}
+use lib.ListN.{length, getD, set, replicate, length-replicate}
 use lib.Pow.{pow-mono}
 use lib.Seq.{getD-set-same, getD-set-other}
 use Rattle.ground.specs.Digits.{digit, put, bit}
 use Rattle.ground.proofs.Bits.{bit-and}
-use Rattle.ground.proofs.Bools.{lt-or-ge}
+use Rattle.ground.proofs.Table.{zero-at}
 use Rattle.ground.proofs.Digits.{put-same, put-other, put-lt, put-sum}
 use Rattle.knowledge_acts.specs.Seven.{unknown, told}
 use Rattle.knowledge.specs.Fits.{always, is}
@@ -102,10 +101,7 @@ pub zeros-long : (m : ℕ) → length (zeros m) ≡ m
 zeros-long m = length-replicate {A = ℕ} m 0
 
 pub zeros-at : (m s : ℕ) → getD (zeros m) s 0 ≡ 0
-zeros-at m s = elim (lt-or-ge s m) [
-  | inl h ↦ getD-replicate m s 0 0 h
-  | inr h ↦ List·getD-eq-default (zeros m) 0 (rw (zeros-long m) h)
-]
+zeros-at m s = zero-at m s
 
 -- by what the side tells
 module _ (n side : ℕ) (r : SideTold) (most : n ≤ 7) (small : side < 3 ^ n) (says : SideTells n side r) where

@@ -31,6 +31,11 @@ getD-sets l i vs j h k =
 pub sets-front : (l vs : List ℕ) → length vs ≤ length l → sets l 0 vs ≡ vs ++ drop (length vs) l
 sets-front l vs h = sets-eq vs l 0 (omega arith) ∙ rw zero-add
 
+-- a room that is filled from its first byte, k bytes far
+pub filled : (room after text : List ℕ) (k : ℕ) → length text ≡ k → k ≤ length room → after ≡ sets room 0 text → after ≡ text ++ drop k room
+filled room after text k e h p =
+    p ∙ sets-front room text (omega arith) ∙ ap (λ (n : ℕ). text ++ drop n room) e
+
 -- byte j of a part
 pub getD-part : (l : List ℕ) (from n j : ℕ) → j < n → getD (take n (drop from l)) j 0 ≡ getD l (from + j) 0
 getD-part l from n j h = getD-take n (drop from l) j 0 h ∙ getD-drop from l j 0

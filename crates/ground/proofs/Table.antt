@@ -1,5 +1,5 @@
 -- Tables by their bits: a bit of a table that begins inside a longer list, and tables that tell the same are the same.
-use mathlib.Core.Path.{_≡_, sym, _∙_}
+use mathlib.Core.Path.{_≡_, sym, ap, _∙_}
 use mathlib.Core.Logic.{inl, inr}
 use mathlib.Core.List.{List}
 use mathlib.Core.Bool.{Bool, true, false}
@@ -7,7 +7,7 @@ use Prim.Native.Nat.{ℕ, _+_, _*_, _/_, _%_, _^_, _≤_, _<_}
 use native.Mathlib.Omega.{arith}
 use lib.Arith.{digits-div, digits-mod}
 use lib.Dec.{eqb}
-use lib.ListN.{length, getD, take, drop, List·getD-eq-default}
+use lib.ListN.{length, getD, take, drop, replicate, length-replicate, getD-replicate, List·getD-eq-default}
 use lib.Pow.{pow-mono}
 use lib.Seq.{getD-drop, getD-take, ext-getD}
 use Rattle.ground.specs.Digits.{bit, digit}
@@ -24,6 +24,14 @@ truth-in s from v = rw getD-drop
 pub truth-out : (s : List ℕ) (from v : ℕ) → length s ≤ from + v / 8 → false ≡ truth (drop from s) v
 unfolding truth
 truth-out s from v h = rw (getD-drop, List·getD-eq-default s 0 h) (sym (bit-of-zero (v % 8)))
+
+-- zeros: each byte is 0, also past their end, and as a table they say false at every valuation
+pub zero-at : (k i : ℕ) → _≡_ {A = ℕ} (getD (replicate k 0) i 0) 0
+zero-at k i = elim (lt-or-ge i k) [ inl h ↦ getD-replicate k i 0 0 h | inr h ↦ List·getD-eq-default (replicate {A = ℕ} k 0) 0 (omega (arith, length-replicate {A = ℕ} k 0)) ]
+
+pub zero-truth : (v : ℕ) → truth (replicate 16 0) v ≡ false
+unfolding truth
+zero-truth v = ap (λ (x : ℕ). bit x (v % 8)) (zero-at 16 (v / 8)) ∙ bit-of-zero (v % 8)
 
 -- bit k of byte j is what the table says at 8 j + k
 pub truth-bit : (t : List ℕ) (j k : ℕ) → k < 8 → truth t (j * 8 + k) ≡ bit (getD t j 0) k

@@ -1,8 +1,9 @@
--- The laws of questions, in this order: what the book's rules permit and why not, the system and the start, the tests on a question, its rows; that what `ask`
--- gives is settled, how far the places of its refusals go, and what "cannot" means for a secret.
+-- The laws of questions, in this order: what the book's rules permit and why not, the system and the start, a book with rules closed, the tests on a
+-- question, its rows; that what `ask` gives is settled, how far the places of its refusals go, and what "cannot" means for a secret.
 pub mod PermitLaws
 pub mod WhyLaws
 pub mod SystemLaws
+pub mod Closing
 pub mod QuestionLaws
 pub mod RowLaws
 pub mod AskLaws

@@ -8,7 +8,7 @@ use Rattle.refusal.specs.declared.Refusal.{Refusal}
 use Rattle.refusal.specs.declared.Refusal.the-variants.{FormulaLength, StrayByte, LetterPast, NotSentence, Settings, BookLength, Check, Head}
 use Rattle.refusal.specs.declared.Refusal.the-variants.{StrayBit, Team, Known, Goal, RankRoom, PlanRoom, Room, PlanLength, NoAct, NotPermitted}
 use Rattle.refusal.specs.declared.Refusal.the-variants.{NotSettled, TooSoon, LeftOver, Malformed, Twice, SheetLength, SheetSettings}
-use Rattle.refusal.specs.declared.Refusal.the-variants.{Shift, NoRecord, NotAllowed, Disagrees}
+use Rattle.refusal.specs.declared.Refusal.the-variants.{Shift, NoRecord, NotAllowed, Disagrees, SalvageHead}
 use Rattle.refusal.specs.declared.Why.the-variants.{KnownSetting, SurelyFalse, NotKnown}
 use Rattle.refusal.specs.declared.Numbers.{Numbers}
 use Rattle.refusal.specs.Refusals.{numbers, number, second}
@@ -47,6 +47,7 @@ every i =
     ∷ NoRecord i
     ∷ NotAllowed i
     ∷ Disagrees i
+    ∷ SalvageHead
     ∷ []
 
 -- the first of some refusals with this number and second number
@@ -92,6 +93,7 @@ each Shift = (refl, tt, tt, tt)
 each (NoRecord i) = (refl, tt, tt, tt)
 each (NotAllowed i) = (refl, tt, tt, tt)
 each (Disagrees i) = (refl, tt, tt, tt)
+each SalvageHead = (refl, tt, tt, tt)
 
 pub named-back : (r : Refusal) → named (numbers r) ≡ r
 named-back r = each r .0

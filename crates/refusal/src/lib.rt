@@ -88,6 +88,8 @@ pub enum Refusal {
     NotAllowed(usize),
     // 29: the record with this index a look that disagrees with the true settings.
     Disagrees(usize),
+    // 30: the head block of a book to be salvaged fails its check, or 8.
+    SalvageHead,
 }
 
 // The numbers that a refusal gives: "a refusal gives a number and a place", and 18 "carries a second number".
@@ -156,6 +158,7 @@ impl Refusal {
             Refusal::NoRecord(index) => numbered(27, index),
             Refusal::NotAllowed(index) => numbered(28, index),
             Refusal::Disagrees(index) => numbered(29, index),
+            Refusal::SalvageHead => numbered(30, 0),
         }
     }
 }

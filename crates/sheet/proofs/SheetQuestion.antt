@@ -39,7 +39,7 @@ use Rattle.sheet_words.specs.Words.{member}
 use Rattle.sheet_question.specs.Asked.{Known, knownSettings, knownTrue}
 use Rattle.sheet_question.specs.Desk.{TablesOf}
 use Rattle.sheet_reading.specs.Sheet.{Sheet}
-use Rattle.sheet_question.proofs.Zeros.{zero-at, zero-truth}
+use Rattle.ground.proofs.Table.{zero-at, zero-truth}
 use Rattle.sheet_reading.specs.Grammar.{PostsFit, KnownFit, WellFormed}
 use Rattle.sheet.specs.Answer.{SheetAsks, sheetBook}
 

@@ -26,7 +26,7 @@ use Rattle.sheet_rules.specs.Rules.{Rules, ruleText}
 use Rattle.sheet_rules.specs.Desk.{slotOf, tableIn, Filled, inSize, OnDesk}
 use Rattle.sheet_rules.specs.declared.desk.RulesDesk.{RulesDesk}
 use Rattle.sheet_rules.proofs.Bounds.{Fits}
-use Rattle.sheet_rules.proofs.HoldLaws.{zero-at, zero-truth}
+use Rattle.ground.proofs.Table.{zero-at, zero-truth}
 use Rattle.sheet_book.specs.Book.{RulesRights}
 
 -- a right is of the size, or its post is past it

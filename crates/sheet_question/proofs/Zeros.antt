@@ -1,15 +1,12 @@
 -- The desk when nothing is asked: zeros, which are the table of `0`.
-use mathlib.Core.Path.{_≡_, refl, sym, ap, _∙_, subst}
-use mathlib.Core.Logic.{inl, inr}
-use mathlib.Core.Bool.{false}
-use Prim.Native.Nat.{ℕ, zero, suc, _/_, _%_, _≤_, _<_}
+use mathlib.Core.Path.{refl, sym, subst}
+use Prim.Native.Nat.{ℕ, zero, suc, _≤_, _<_}
 use native.Mathlib.Omega.{arith}
 use lib.Dec.{lit<, lit≤}
-use lib.ListN.{getD, replicate, length-replicate, getD-replicate, List·getD-eq-default}
+use lib.ListN.{replicate, length-replicate}
 use Rattle.ground.specs.Text.{bytes}
-use Rattle.ground.specs.Digits.{bit}
-use Rattle.ground.specs.Table.{truth, Within}
-use Rattle.ground.proofs.Bools.{lt-or-ge}
+use Rattle.ground.specs.Table.{Within}
+use Rattle.ground.proofs.Table.{zero-at, zero-truth}
 use Rattle.ground.proofs.Bits.{bit-of-zero}
 use Rattle.formula_grammar.specs.Grammar.{nought, one-unit, one-product, text, meaning}
 use Rattle.formula_grammar.specs.Signs.{Foreign, isStray, isPast, isLetter, isSign}
@@ -18,13 +15,6 @@ use Rattle.sheet_words.specs.Words.{member}
 use Rattle.sheet_question.specs.Asked.{nothingAsked, knownSettings, knownTrue}
 use Rattle.sheet_question.specs.Desk.{AskedOnDesk}
 use Rattle.sheet_question.specs.Places.{askedLaid}
-
-pub zero-at : (k i : ℕ) → _≡_ {A = ℕ} (getD (replicate k 0) i 0) 0
-zero-at k i = elim (lt-or-ge i k) [ inl h ↦ getD-replicate k i 0 0 h | inr h ↦ List·getD-eq-default (replicate {A = ℕ} k 0) 0 (omega (arith, length-replicate {A = ℕ} k 0)) ]
-
-pub zero-truth : (v : ℕ) → truth (replicate 16 0) v ≡ false
-unfolding truth
-zero-truth v = ap (λ (x : ℕ). bit x (v % 8)) (zero-at 16 (v / 8)) ∙ bit-of-zero (v % 8)
 
 nought-clean : (n j : ℕ) → Foreign n (bytes "0") j → ⊥
 unfolding isStray isPast isLetter isSign

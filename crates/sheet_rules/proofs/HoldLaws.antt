@@ -1,18 +1,14 @@
 -- The desk when only the size is stated: the table of an unstated right at each place of the size, and zeros past it.
-use mathlib.Core.Path.{_≡_, refl, sym, ap, _∙_, subst}
-use mathlib.Core.Logic.{inl, inr}
+use mathlib.Core.Path.{_≡_, refl, sym, _∙_, subst}
 use mathlib.Core.Bool.{Bool, true, false, cond}
 use mathlib.Core.List.{List, []}
 use Prim.Native.Nat.{ℕ, zero, suc, _+_, _*_, _/_, _%_, _≤_, _<_}
 use native.Mathlib.Omega.{arith}
 use lib.Dec.{eqb, lit≤}
-use lib.ListN.{length, getD, replicate, length-replicate, getD-replicate, List·getD-eq-default}
+use lib.ListN.{length, replicate, length-replicate}
 use lib.Seq.{sets, length-sets}
 use borrow.Author.Tests.{eq-eqb, ne-eqb, lt-ltb, le-ltb}
-use Rattle.ground.specs.Digits.{bit}
-use Rattle.ground.specs.Table.{truth}
-use Rattle.ground.proofs.Bools.{lt-or-ge}
-use Rattle.ground.proofs.Bits.{bit-of-zero}
+use Rattle.ground.proofs.Table.{zero-at}
 use Rattle.ground.proofs.Search.{below-suc}
 use Rattle.refusal.specs.Order.{Clear}
 use Rattle.refusal.proofs.OrderLaws.{clear-none, clear-past, clear-lowest, first-clear}
@@ -27,15 +23,6 @@ use Rattle.sheet_rules.specs.Rules.{sizeOf, isStated, unstated, ruleText
 use Rattle.sheet_rules.specs.Desk.{slotOf, tableIn, Filled, inSize, RulesOnDesk}
 use Rattle.sheet_rules.specs.Turns.{rulesLaid, unstatedAt, Laid, Unstated}
 use Rattle.sheet_rules.proofs.SlotLaws.{slot-small, kind, slot-is, own-slot, other-slot}
-
--- ---- zeros
-
-pub zero-at : (k i : ℕ) → _≡_ {A = ℕ} (getD (replicate k 0) i 0) 0
-zero-at k i = elim (lt-or-ge i k) [ inl h ↦ getD-replicate k i 0 0 h | inr h ↦ List·getD-eq-default (replicate {A = ℕ} k 0) 0 (omega (arith, length-replicate {A = ℕ} k 0)) ]
-
-pub zero-truth : (v : ℕ) → truth (replicate 16 0) v ≡ false
-unfolding truth
-zero-truth v = ap (λ (x : ℕ). bit x (v % 8)) (zero-at 16 (v / 8)) ∙ bit-of-zero (v % 8)
 
 -- ---- an unstated right is a formula
 

@@ -74,9 +74,7 @@ returns-2 c =
     let e = else1 in refuse-check (book-1 e) (whole e) (c .before .first-wrong .ensures) (c .if2 .taken)
 
 is-head-requires : tie.Need-is-head-requires
-is-head-requires c κs =
-    let else1 : tie.Else1 = search in
-    whole else1
+is-head-requires c κs = search needs
 
 returns-3 : tie.Need-returns-3
 returns-3 c =
