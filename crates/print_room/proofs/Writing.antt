@@ -1,5 +1,5 @@
 -- Text written piece by piece is written whole.
-use mathlib.Core.Path.{_≡_, sym, ap, ap₂, _∙_}
+use mathlib.Core.Path.{_≡_, refl, sym, ap, ap₂, _∙_, subst}
 use mathlib.Core.List.{List, [], _∷_, _++_}
 use Prim.Native.Nat.{ℕ, _+_, _≤_, _<_}
 use native.Mathlib.Numerals.{add-one}
@@ -34,3 +34,13 @@ module _ {old new : List ℕ} {to at : ℕ} (text : List ℕ) (i : ℕ) (so-far 
 
   pub wrote-all : length text ≤ i → Wrote old to text new at
   wrote-all h = rw (take-all i text h) at so-far
+
+-- nothing written, and a text under another name
+pub wrote-none : {old : List ℕ} {to : ℕ} → Wrote old to [] old to
+wrote-none = record { room = refl; next-place = omega arith }
+
+pub wrote-as : {a b s t : List ℕ} {i j : ℕ} → s ≡ t → Wrote a i s b j → Wrote a i t b j
+wrote-as {a} {b} {i = i} {j = j} e w = subst (λ (x : List ℕ). Wrote a i x b j) e w
+
+pub ends-as : {s t : List ℕ} {to : ℕ} → s ≡ t → Ends to s → Ends to t
+ends-as {to = to} e w = subst (Ends to) e w

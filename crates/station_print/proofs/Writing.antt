@@ -1,6 +1,5 @@
--- What the functions that write have in common: nothing written, a text under another name, and pieces in order.
-use mathlib.Core.Path.{_≡_, refl, subst}
-use mathlib.Core.List.{List, []}
+-- What the functions that write have in common: pieces in order.
+use mathlib.Core.List.{List}
 use Prim.Native.Nat.{ℕ, zero, suc, _+_, _*_, _≤_, _<_}
 use native.Mathlib.Nat.{suc-mul}
 use native.Mathlib.Numerals.{add-one}
@@ -11,17 +10,7 @@ use Rattle.book_sound.specs.Sound.{inOrder}
 use Rattle.print_room.specs.Wrote.{Ends, Wrote}
 use Rattle.print_room.proofs.Writing.{wrote-then}
 
-pub wrote-none : {old : List ℕ} {to : ℕ} → Wrote old to [] old to
-wrote-none = record { room = refl; next-place = omega arith }
-
-pub wrote-as : {a b s t : List ℕ} {i j : ℕ} → s ≡ t → Wrote a i s b j → Wrote a i t b j
-wrote-as {a} {b} {i = i} {j = j} e w = subst (λ (x : List ℕ). Wrote a i x b j) e w
-
-pub ends-as : {s t : List ℕ} {to : ℕ} → s ≡ t → Ends to s → Ends to t
-ends-as {to = to} e w = subst (Ends to) e w
-
--- ---- pieces in order, one for each number below n
-
+-- one piece for each number below n
 module _ (f : ℕ → List ℕ) where
   pub order-more : {a b c : List ℕ} {i to at next : ℕ} → Wrote a to (inOrder f i) b at → Wrote b at (f i) c next → Wrote a to (inOrder f (i + 1)) c next
   unfolding inOrder

@@ -4,8 +4,8 @@ use native.Mathlib.Omega.{arith}
 use Rattle.refusal.specs.declared.Numbers.{Numbers}
 use Rattle.station.specs.Replay.{Replays}
 use Rattle.station.specs.declared.shift.Replayed.the-variants.{Whole, Stopped, Refused}
+use Rattle.print_room.proofs.Writing.{wrote-none, wrote-as}
 use Rattle.station_print.specs.Printed.{stoppedText}
-use Rattle.station_print.proofs.Writing.{wrote-none, wrote-as}
 use Rattle.station_print.proofs.Lengths.{reached-length}
 use Rattle.station_print.proofs.PrintLaws.{told-bytes, whole-count, stopped-next}
 use borrow.Author.Needs.{needs}

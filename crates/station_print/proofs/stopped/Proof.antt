@@ -3,10 +3,9 @@ use mathlib.Core.Path.{ap₂}
 use Prim.Native.Nat.{ℕ, _≤_}
 use native.Mathlib.Omega.{arith}
 use Rattle.station.specs.Shift.{actByte, seenByte}
-use Rattle.print_room.proofs.Writing.{wrote-then}
+use Rattle.print_room.proofs.Writing.{wrote-then, wrote-as}
 use Rattle.station_print.specs.Faults.{faultText}
 use Rattle.station_print.specs.Printed.{stoppedText}
-use Rattle.station_print.proofs.Writing.{wrote-as}
 use Rattle.station_print.proofs.Lengths.{reached-length, fault-length}
 use borrow.Author.Needs.{needs}
 use Rattle.station_print.proofs.stopped.Statement.{statement}

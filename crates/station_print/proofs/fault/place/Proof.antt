@@ -3,9 +3,8 @@ use mathlib.Core.Path.{sym, ap, _∙_}
 use borrow.Author.Tests.{not-true, not-false}
 use Rattle.ground.specs.Text.{bytes}
 use Rattle.print_room.specs.Decimal.{decimal}
-use Rattle.print_room.proofs.Writing.{wrote-then, ends-left, ends-right}
+use Rattle.print_room.proofs.Writing.{wrote-then, ends-left, ends-right, wrote-as, ends-as}
 use Rattle.station_print.specs.Faults.{placeText}
-use Rattle.station_print.proofs.Writing.{wrote-as, ends-as}
 use Rattle.station_print.proofs.FaultLaws.{place-bytes, place-line}
 use borrow.Author.Needs.{needs}
 use Rattle.station_print.proofs.fault.place.Statement.{statement}

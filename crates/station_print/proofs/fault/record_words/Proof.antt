@@ -3,8 +3,7 @@ use mathlib.Core.Path.{sym, _∙_}
 use mathlib.Core.List.{[], _∷_}
 use Rattle.ground.specs.Text.{bytes}
 use Rattle.print_room.specs.Decimal.{decimal}
-use Rattle.print_room.proofs.Writing.{wrote-then, ends-left, ends-right}
-use Rattle.station_print.proofs.Writing.{wrote-as, ends-as}
+use Rattle.print_room.proofs.Writing.{wrote-then, ends-left, ends-right, wrote-as, ends-as}
 use Rattle.station_print.proofs.FaultLaws.{record-said, record-unsaid}
 use borrow.Author.Needs.{needs}
 use Rattle.station_print.proofs.fault.record_words.Statement.{statement}

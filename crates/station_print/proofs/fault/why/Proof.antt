@@ -3,11 +3,10 @@ use mathlib.Core.Path.{sym, ap}
 use mathlib.Core.List.{[], _∷_, _++_}
 use Prim.Native.Nat.{ℕ}
 use Rattle.ground.specs.Text.{bytes}
-use Rattle.print_room.proofs.Writing.{wrote-then, ends-left, ends-right}
+use Rattle.print_room.proofs.Writing.{wrote-then, ends-left, ends-right, wrote-as, ends-as}
 use Rattle.station.specs.Shift.{RecordFault}
 use Rattle.station_print.specs.Settings.{settingWords}
 use Rattle.station_print.specs.Faults.{whyText}
-use Rattle.station_print.proofs.Writing.{wrote-as, ends-as}
 use Rattle.station_print.proofs.FaultLaws.{numbered-27, numbered-28, numbered-29}
 use borrow.Author.Needs.{needs}
 use Rattle.station_print.proofs.fault.why.Statement.{statement}

@@ -2,9 +2,8 @@
 use mathlib.Core.Path.{sym, ap}
 use mathlib.Core.List.{[], _∷_}
 use Rattle.ground.specs.Text.{bytes}
-use Rattle.print_room.proofs.Writing.{wrote-then, ends-left, ends-right}
+use Rattle.print_room.proofs.Writing.{wrote-then, ends-left, ends-right, wrote-as, ends-as}
 use Rattle.station_print.specs.Settings.{between, settingName}
-use Rattle.station_print.proofs.Writing.{wrote-as, ends-as}
 use borrow.Author.Needs.{needs}
 use Rattle.station_print.proofs.settings.name.Statement.{statement}
 use Rattle.station_print.proofs.settings.name.Tie as tie

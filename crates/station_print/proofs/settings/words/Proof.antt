@@ -5,9 +5,9 @@ use native.Mathlib.Omega.{arith}
 use Rattle.ground.specs.Digits.{bit}
 use Rattle.book_sound.specs.Sound.{inOrder}
 use Rattle.print_room.specs.Wrote.{Wrote}
-use Rattle.print_room.proofs.Writing.{wrote-length}
+use Rattle.print_room.proofs.Writing.{wrote-length, wrote-none, wrote-as, ends-as}
 use Rattle.station_print.specs.Settings.{settingWord, settingWords}
-use Rattle.station_print.proofs.Writing.{wrote-none, wrote-as, ends-as, order-more, order-ends}
+use Rattle.station_print.proofs.Writing.{order-more, order-ends}
 use Rattle.station_print.proofs.settings.words.Statement.{statement}
 use Rattle.station_print.proofs.settings.words.Tie as tie
 

@@ -1,8 +1,8 @@
 -- `write_between` meets its contract, by whether it is the first setting.
 use mathlib.Core.Path.{sym, ap}
 use Prim.Native.Nat.{ℕ}
+use Rattle.print_room.proofs.Writing.{wrote-none, wrote-as, ends-as}
 use Rattle.station_print.specs.Settings.{between}
-use Rattle.station_print.proofs.Writing.{wrote-none, wrote-as, ends-as}
 use Rattle.station_print.proofs.SettingsLaws.{between-later}
 use borrow.Author.Needs.{needs}
 use Rattle.station_print.proofs.settings.write_between.Statement.{statement}

@@ -1,7 +1,7 @@
 -- `write_value` meets its contract, by the value.
 use mathlib.Core.Path.{sym, ap}
+use Rattle.print_room.proofs.Writing.{wrote-as, ends-as}
 use Rattle.station_print.specs.Settings.{onOff}
-use Rattle.station_print.proofs.Writing.{wrote-as, ends-as}
 use borrow.Author.Needs.{needs}
 use Rattle.station_print.proofs.settings.write_value.Statement.{statement}
 use Rattle.station_print.proofs.settings.write_value.Tie as tie

@@ -1,7 +1,7 @@
 -- `write_verb` meets its contract, by whether it is the first setting.
 use mathlib.Core.Path.{sym, ap}
+use Rattle.print_room.proofs.Writing.{wrote-as, ends-as}
 use Rattle.station_print.specs.Settings.{verb}
-use Rattle.station_print.proofs.Writing.{wrote-as, ends-as}
 use Rattle.station_print.proofs.SettingsLaws.{verb-later}
 use borrow.Author.Needs.{needs}
 use Rattle.station_print.proofs.settings.write_verb.Statement.{statement}
