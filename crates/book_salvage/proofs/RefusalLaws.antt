@@ -61,7 +61,7 @@ module _ (book room : List ℕ) where
           let same-n : n ≡ settingsOf book = en ∙ head-n (head .says) in
           let same-m : m ≡ postsOf book = em ∙ head-m (head .says) in
           let long : length (salvagedBook book marks (settingsOf book)) ≡ length book =
-              length-salvaged book marks (settingsOf book) (le-of-eq (sym (whole-size whole))) ∙ sym (whole-size whole) in
+          length-salvaged book marks (settingsOf book) (le-of-eq (sym (whole-size whole))) ∙ sym (whole-size whole) in
           record {
             whole = whole;
             head = head;

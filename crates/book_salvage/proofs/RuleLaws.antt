@@ -4,7 +4,7 @@ use mathlib.Core.Bool.{true, false}
 use mathlib.Core.List.{List}
 use Prim.Native.Nat.{ℕ, _+_, _*_, _≤_, _<_}
 use native.Mathlib.Omega.{arith}
-use lib.ListN.{length, getD, take, drop, replicate, length-replicate, getD-replicate}
+use lib.ListN.{length, take, drop, replicate, length-replicate, getD-replicate}
 use lib.Seq.{ext-getD}
 use Rattle.ground.specs.Digits.{bit}
 use Rattle.ground.proofs.Lists.{getD-part, length-part}

@@ -1,6 +1,6 @@
 -- What is promised of a salvage, in one place: one result alone, the room included; the result reads as a book, and salvaged again it is the same
 -- bytes; a sound book comes back as it was; and which rules the salvaged book has. All for every n at once.
-use mathlib.Core.Path.{_≡_, refl, sym, ap, ap₂, _∙_, subst}
+use mathlib.Core.Path.{_≡_, sym, ap, ap₂, _∙_, subst}
 use mathlib.Core.Bool.{true, false}
 use mathlib.Core.List.{List, _++_}
 use Prim.Native.Nat.{ℕ, _+_, _*_, _≤_, _<_}
@@ -21,7 +21,7 @@ use Rattle.book_sound.proofs.SoundLaws.{sound-settings, sound-posts, sound-whol
 use Rattle.book_salvage.specs.declared.SalvageAnswer.{SalvageAnswer}
 use Rattle.book_salvage.specs.declared.SalvageAnswer.the-variants.{Salvaged, Refused}
 use Rattle.book_salvage.specs.Salvaged.{MarksOf, ones, salvagedBook}
-use Rattle.book_salvage.specs.Rows.{HeadStands, salvageRows}
+use Rattle.book_salvage.specs.Rows.{salvageRows}
 use Rattle.book_salvage.specs.Promise.{SalvagesTo, Salvages}
 use Rattle.book_salvage.proofs.MarkLaws.{marks-one, marks-none, ones-none, ones-most, marked-small-byte}
 use Rattle.book_salvage.proofs.LaidLaws.{length-salvaged, salvaged-sound, salvaged-same}

@@ -3,7 +3,7 @@ use book_block::BLOCK;
 use book_block::is_right;
 use book_block::is_setting;
 ghost use mathlib.Core.Path.{_≡_};
-ghost use mathlib.Core.Bool.{Bool, not};
+ghost use mathlib.Core.Bool.{not};
 ghost use Prim.Native.Nat.{ℕ, suc, _+_, _^_, _≤_, _<_};
 ghost use Rattle.ground.specs.Digits.{bit};
 ghost use Rattle.ground.specs.Tells.{Tells};

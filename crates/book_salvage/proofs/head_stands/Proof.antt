@@ -1,6 +1,5 @@
 -- `head_stands` meets its contract: its two tests are the two parts of `HeadStands`.
 use denote.Ref.{now}
-use mathlib.Core.List.{List}
 use Rattle.ground.proofs.Answers.{told, untold, tells-iff}
 use Rattle.ground.specs.Tells.{Tells}
 use Rattle.book_block.specs.Check.{block, RightCheck}

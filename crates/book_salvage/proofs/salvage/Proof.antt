@@ -49,9 +49,11 @@ returns-2 : tie.Need-returns-2
 returns-2 c =
     let start : tie.Start = search in
     let else1 : tie.Else1 = search in
-    let b = now (start .args .book) in
-    (refuse-head b (now (start .args .room)) (whole else1)
-    (untold (HeadStands b) (c .before .head-stands .result) (c .before .head-stands .ensures) (c .if2 .taken)), refl)
+    let b = now (start .args .book) in (
+      refuse-head b (now (start .args .room)) (whole else1)
+          (untold (HeadStands b) (c .before .head-stands .result) (c .before .head-stands .ensures) (c .if2 .taken)),
+      refl,
+    )
 
 returns-3 : tie.Need-returns-3
 returns-3 c =

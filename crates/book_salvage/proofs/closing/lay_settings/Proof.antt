@@ -52,7 +52,7 @@ loop-again c =
       omega (arith, in-loop .loop-test),
       laid .kept .1 .1 .1 .0 ∙ r .inv .1,
       lay-on (settingAfter (now (a .book)) (a .marks)) 512 (now (a .room)) (r .room) _ 512 (512 * (1 + r .i)) (r .i)
-      (λ k h. length-after (now (a .book)) (a .marks) k (omega (arith, start .pre, in-loop .loop-test))) (omega arith) (r .inv .2) (laid .ensures),
+          (λ k h. length-after (now (a .book)) (a .marks) k (omega (arith, start .pre, in-loop .loop-test))) (omega arith) (r .inv .2) (laid .ensures),
     )
 
 same-length : tie.Need-same-length Inv-loop μ-loop

@@ -1,7 +1,7 @@
 -- `marks_of` meets its contract: after i turns there is a mark for each of i settings whose block does not stand.
 use borrow.Author.Needs.{needs}
 use mathlib.Core.Path.{_≡_, subst}
-use Prim.Native.Nat.{_+_, _≤_, _-_}
+use Prim.Native.Nat.{_≤_, _-_}
 use native.Mathlib.Omega.{arith}
 use denote.Ref.{now}
 use Rattle.book_salvage.proofs.MarkLaws.{MarkedTo, marked-none, marked-more, marked-all}
@@ -45,9 +45,10 @@ loop-again c =
     let in-loop : tie.In-loop Inv-loop μ-loop = search in
     let at-loop : tie.At-loop Inv-loop μ-loop = search in
     let r = at-loop .loop in
-    let made = after-with-mark .with-mark .ensures in
-    (omega (arith, in-loop .loop-test),
-    marked-more (r .i) (r .marks) _ (after-stands .stands .result) (r .inv .1) (after-stands .stands .ensures) (made .0) (made .1) (made .2))
+    let made = after-with-mark .with-mark .ensures in (
+      omega (arith, in-loop .loop-test),
+      marked-more (r .i) (r .marks) _ (after-stands .stands .result) (r .inv .1) (after-stands .stands .ensures) (made .0) (made .1) (made .2),
+    )
 
 returns : tie.Need-returns Inv-loop μ-loop
 returns c =

@@ -1,7 +1,6 @@
 -- `stands` meets its contract: its two tests are the two parts of `Stands`.
 use denote.Ref.{now}
-use mathlib.Core.List.{List}
-use Prim.Native.Nat.{ℕ, _+_}
+use Prim.Native.Nat.{_+_}
 use Rattle.ground.proofs.Answers.{told, untold, tells-iff}
 use Rattle.ground.specs.Tells.{Tells}
 use Rattle.book_block.specs.Check.{block, RightCheck}
