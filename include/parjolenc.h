@@ -1,4 +1,4 @@
-// The C interface of Parjolenc, version 2.2, for x86-64 Linux: what a host has to know stands in this file.
+// The C interface of Parjolenc, version 2.3, for x86-64 Linux: what a host has to know stands in this file.
 //
 // `rt staticlib exports` writes the library. A program is compiled with it by the ordinary line, in C99 or C++11:
 //
@@ -39,9 +39,9 @@ extern "C" {
 // The version of this interface, and not of what is behind it. The first number grows where a program that was
 // written for the header before it would not compile or would mean something else, the second where something is added.
 #define PJ_VERSION_FIRST 2
-#define PJ_VERSION_SECOND 2
+#define PJ_VERSION_SECOND 3
 #define PJ_VERSION (100 * PJ_VERSION_FIRST + PJ_VERSION_SECOND)
-#define PJ_VERSION_TEXT "2.2"
+#define PJ_VERSION_TEXT "2.3"
 
 typedef unsigned char pj_u8;
 typedef unsigned long long pj_u64;
@@ -62,17 +62,21 @@ static inline pj_u64 pj_place(pj_u64 result) { return result & 0xffffffff; }
 static inline pj_u64 pj_settings(pj_u64 result) { return result >> 8; }
 static inline pj_u64 pj_posts(pj_u64 result) { return result & 0xff; }
 
+// A success of pj_book_salvage: how many setting blocks were closed, and a mark for each, bit i for setting i.
+static inline pj_u64 pj_closed(pj_u64 result) { return result >> 8; }
+static inline pj_u64 pj_marks(pj_u64 result) { return result & 0xff; }
+
 // A success of pj_find: 0 is "cannot", and any other the plan's height and its length in bytes.
 static inline pj_u64 pj_height(pj_u64 result) { return result >> 16; }
 static inline pj_u64 pj_length(pj_u64 result) { return result & 0xffff; }
 
 // The numbers of the refusals, and when each is given: the words of docs/CONTRACTS.md, "Every refusal", which names the
 // definitions. Of several the first is given, in this order: pj_formula_read 5, 1, the lowest place of 2 or 3, 4;
-// pj_book_read 6, 7, 8, 9, 15; pj_book_write 5, 8, 6, 9, 15; pj_find 6 to 14; pj_find_plain 6 to 12; pj_plan_check 6 to 12, 16, then the
-// first of 17 to 21 as the plan is read; pj_rules 24, line by line 22, 23 and the formula's 1 to 4, then 15.
-// pj_sheet and pj_ask print theirs: pj_sheet 24, line by line 22, 23 and 1 to 4, and 25 directly after line 1; pj_ask
-// the book's 6 to 9, 24, line by line 22, 23 and 1 to 4, then 13. pj_replay gives the book's 6 to 9, 26, then record by
-// record 27, 28, 29.
+// pj_book_read 6, 7, 8, 9, 15; pj_book_write 5, 8, 6, 9, 15; pj_book_salvage 6, 30, 15; pj_find 6 to 14; pj_find_plain
+// 6 to 12; pj_plan_check 6 to 12, 16, then the first of 17 to 21 as the plan is read; pj_rules 24, line by line 22, 23
+// and the formula's 1 to 4, then 15. pj_sheet and pj_ask print theirs: pj_sheet 24, line by line 22, 23 and 1 to 4, and
+// 25 directly after line 1; pj_ask the book's 6 to 9, 24, line by line 22, 23 and 1 to 4, then 13. pj_replay gives the
+// book's 6 to 9, 26, then record by record 27, 28, 29.
 // The place is 0 where none is named in brackets. Of a text the place of 1 to 4 is the line.
 enum {
     // The formula has no byte or more than 255.
@@ -136,7 +140,9 @@ enum {
     // The rule of a recorded act is false at the true settings where the act is due. [the record's index]
     PJ_REFUSED_NOT_ALLOWED = 28,
     // A look was recorded with another value than its setting has where the look is due. [the record's index]
-    PJ_REFUSED_DISAGREES = 29
+    PJ_REFUSED_DISAGREES = 29,
+    // The head block of a book to be salvaged has a wrong check, or 8 would be given for it.
+    PJ_REFUSED_SALVAGE_HEAD = 30
 };
 
 // pj_second of 18, one more than its second number: why the act is not permitted. They are judged in this order.
@@ -175,6 +181,7 @@ enum {
 // have any length, and PJ_ANSWER_MOST and PJ_ASK_MOST fit all that they print. Where n is not known yet, the most of
 // each will do.
 //   `rights` of pj_book_read, 256 × n, and `book` of pj_book_write and pj_rules, 512 × (1 + n): no less will do
+//   `room` of pj_book_salvage, as many bytes as the book has, 512 × (1 + n): no less will do
 //   `plan` of pj_find, 2^n × (2^(n+1) - 1): no plan is longer, and room for the plan that is found will do
 //   `ranks` of pj_find and pj_ask, 7^n: no less will do
 #define PJ_RIGHTS_ROOM(n) (PJ_TABLES * (n))
@@ -298,6 +305,13 @@ pj_u64 pj_book_read(const pj_u8 *book, pj_u64 book_length, pj_u8 *rights, pj_u64
 
 // The book of n settings and m posts, at the start of `book`. 0, or a refusal, which leaves `book` as it was.
 pj_u64 pj_book_write(pj_u64 n, pj_u64 m, const pj_u8 *rights, pj_u64 rights_length, pj_u8 *book, pj_u64 book_length);
+
+// A damaged book back on its feet, at the start of `room`, as long as the book: the head and every setting block with a
+// right check and no bit that must be zero stay byte for byte, and each other setting block becomes the one with all
+// rules closed and a right check. count × 256 + marks, bit i of the marks where the block of setting i was closed, and
+// their count; or a refusal, which leaves `room` as it was. Later bytes of `room` stay as they were. What comes out is
+// read as a book, of the head's n and m, and salvaged again it is the same bytes.
+pj_u64 pj_book_salvage(const pj_u8 *book, pj_u64 book_length, pj_u8 *room, pj_u64 room_length);
 
 // Whether the team can bring the goal about. Reach: height × 2^16 + the plan's length, the plan at the start of `plan`;
 // cannot: 0; or a refusal. But for refusals 6 to 13 the first 7^n bytes of `ranks` hold the rank of every knowledge

@@ -1,5 +1,5 @@
 -- A host takes a result apart. The upper half is 0 exactly for a success; of a refusal it holds the number, and above it the second number, and the lower
--- half is the place; and a book's n and m, and a plan's height and length, come back by one division each: every place and every length that is given
+-- half is the place; and a book's n and m, a salvage's count and marks, and a plan's height and length, come back by one division each: every place and every length that is given
 -- has room, but for a record's index past 2^32.
 use mathlib.Core.Path.{_≡_, refl, sym, ap, _∙_, subst}
 use mathlib.Core.List.{List}
@@ -25,6 +25,10 @@ use Rattle.book_sound.specs.declared.ReadAnswer.the-variants.{Book, Refused as 
 use Rattle.book.specs.declared.writing.WriteAnswer.{WriteAnswer}
 use Rattle.book.specs.declared.writing.WriteAnswer.the-variants.{Written, Refused as NotWritten}
 use Rattle.book.proofs.Theorems.{read-place-small, write-place-small}
+use Rattle.book_salvage.specs.Promise.{Salvages}
+use Rattle.book_salvage.specs.declared.SalvageAnswer.{SalvageAnswer}
+use Rattle.book_salvage.specs.declared.SalvageAnswer.the-variants.{Salvaged, Refused as NotSalvaged}
+use Rattle.book_salvage.proofs.Theorems.{salvage-small, salvage-place-small}
 use Rattle.question.specs.declared.Question.{Question}
 use Rattle.finder.specs.Finds.{Finds}
 use Rattle.finder.specs.declared.answer.Answer.{Answer}
@@ -47,10 +51,10 @@ use Rattle.station.specs.Replay.{replayRows, Replays}
 use Rattle.exports.specs.Replay.{ShiftReplayed}
 use Rattle.exports.specs.Texts.{RulesMade}
 use Rattle.exports.specs.Packed.{packed, packedAt, upper, lower, numberIn, secondIn}
-use Rattle.exports.specs.Returned.{formulaReturned, readReturned, writeReturned, findReturned, plainReturned, checkReturned, rulesReturned}
+use Rattle.exports.specs.Returned.{formulaReturned, readReturned, writeReturned, salvageReturned, findReturned, plainReturned, checkReturned, rulesReturned}
 use Rattle.exports.specs.Returned.{replayReturned, reachedAs, reachedAfter}
 use Rattle.exports.specs.Formula.{FormulaRead}
-use Rattle.exports.specs.Book.{BookRead, BookWritten}
+use Rattle.exports.specs.Book.{BookRead, BookWritten, BookSalvaged}
 use Rattle.exports.specs.Find.{PlanFound, PlainlyFound}
 use Rattle.exports.specs.Check.{PlanChecked}
 
@@ -111,6 +115,22 @@ book-write-apart {n} {m} {rights} {old} {new} c = (
   λ e. ap upper (c .result-is ∙ ap writeReturned e),
   λ w e. let writes = subst (λ (a : WriteAnswer). WritesBook n m rights old a new) e (c .writes) in
       apart w (c .result-is ∙ ap writeReturned e) (omega (arith, write-place-small n m rights old w (writes .0))),
+)
+
+pub book-salvage-apart : {book old new : List ℕ} {r : ℕ} (c : BookSalvaged book old r new)
+    → ((marks count : ℕ) → c .answer ≡ Salvaged marks count → (upper r ≡ 0) × (r / 256 ≡ count) × (r % 256 ≡ marks))
+    × ((w : Refusal) → c .answer ≡ NotSalvaged w → Tells-refusal r w)
+book-salvage-apart {book} {old} {new} {r} c = (
+  λ marks count e. let salvages = subst (λ (a : SalvageAnswer). Salvages book old a new) e (c .salvages) in
+      let is : r ≡ count * 256 + marks = c .result-is ∙ ap salvageReturned e in
+      let most = salvage-small salvages in
+      let small : marks < 256 = omega (arith, most .0) in (
+        ap upper is ∙ div-eq-of-lt (omega (arith, most .1, small)),
+        ap (λ (x : ℕ). x / 256) is ∙ digits-div count small,
+        ap (λ (x : ℕ). x % 256) is ∙ digits-mod count small,
+      ),
+  λ w e. let salvages = subst (λ (a : SalvageAnswer). Salvages book old a new) e (c .salvages) in
+      apart w (c .result-is ∙ ap salvageReturned e) (omega (arith, salvage-place-small book old w (salvages .0))),
 )
 
 pub find-apart : {book : List ℕ} {q : Question} {goal : Goal} {ranks plan ranks′ plan′ : List ℕ} {r : ℕ} (c : PlanFound book q goal ranks plan r ranks′ plan′)

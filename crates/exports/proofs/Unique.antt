@@ -7,18 +7,20 @@ use Prim.Native.Nat.{ℕ}
 use Rattle.formula.specs.declared.Answer.{Answer}
 use Rattle.formula.proofs.Unique.{read-unique}
 use Rattle.book.proofs.Theorems.{reads-one, writes-one}
+use Rattle.book_salvage.proofs.Theorems.{salvage-one}
 use Rattle.knowledge.specs.Goal.{Goal}
 use Rattle.question.specs.declared.Question.{Question}
 use Rattle.finder.proofs.Unique.{find-unique}
 use Rattle.finder_plain.proofs.Unique.{plain-unique}
 use Rattle.plancheck.proofs.OneAnswer.{checks-one}
-use Rattle.exports.specs.Returned.{formulaReturned, readReturned, writeReturned, findReturned, plainReturned, checkReturned, rulesReturned, replayReturned, reachedAfter}
+use Rattle.exports.specs.Returned.{formulaReturned, readReturned, writeReturned, salvageReturned, findReturned, plainReturned, checkReturned}
+use Rattle.exports.specs.Returned.{rulesReturned, replayReturned, reachedAfter}
 use Rattle.exports.specs.Find.{PlanFound, PlainlyFound}
 use Rattle.exports.specs.Check.{PlanChecked}
 use Rattle.exports.specs.Formula.{onReturn, FormulaRead}
 use Rattle.sheet_rules.specs.Meaning.{rulesMeaning}
 use Rattle.sheet_book.proofs.Theorems.{makes-one}
-use Rattle.exports.specs.Book.{BookRead, BookWritten}
+use Rattle.exports.specs.Book.{BookRead, BookWritten, BookSalvaged}
 use Rattle.exports.specs.Texts.{RulesMade}
 use Rattle.station.proofs.OneAnswer.{replays-one}
 use Rattle.station.specs.declared.shift.Replayed.{Replayed}
@@ -40,6 +42,12 @@ pub book-write-unique : {n m : ℕ} {rights old : List ℕ} {r q : ℕ} {new oth
 book-write-unique {n} {m} {rights} {old} {new = new} {other = other} a b =
     let e = writes-one n m rights old (a .answer) (b .answer) new other (a .writes) (b .writes) in
     (a .result-is ∙ ap writeReturned (e .0) ∙ sym (b .result-is), e .1)
+
+pub book-salvage-unique : {book old : List ℕ} {r q : ℕ} {new other : List ℕ} → BookSalvaged book old r new → BookSalvaged book old q other
+    → (r ≡ q) × (new ≡ other)
+book-salvage-unique {book} {old} {new = new} {other = other} a b =
+    let e = salvage-one book old (a .answer) (b .answer) new other (a .salvages) (b .salvages) in
+    (a .result-is ∙ ap salvageReturned (e .0) ∙ sym (b .result-is), e .1)
 
 pub find-one : {book : List ℕ} {q : Question} {goal : Goal} {ranks plan : List ℕ} {r s : ℕ} {x y u v : List ℕ} → PlanFound book q goal ranks plan r x u
     → PlanFound book q goal ranks plan s y v → (r ≡ s) × (x ≡ y) × (u ≡ v)

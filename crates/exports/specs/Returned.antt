@@ -7,6 +7,8 @@ use Rattle.book_sound.specs.declared.ReadAnswer.{ReadAnswer}
 use Rattle.book_sound.specs.declared.ReadAnswer.the-variants.{Book, Refused as NoBook}
 use Rattle.book.specs.declared.writing.WriteAnswer.{WriteAnswer}
 use Rattle.book.specs.declared.writing.WriteAnswer.the-variants.{Written, Refused as NotWritten}
+use Rattle.book_salvage.specs.declared.SalvageAnswer.{SalvageAnswer}
+use Rattle.book_salvage.specs.declared.SalvageAnswer.the-variants.{Salvaged, Refused as NotSalvaged}
 use Rattle.finder.specs.declared.answer.Answer.{Answer}
 use Rattle.finder.specs.declared.answer.Answer.the-variants.{Reach, Cannot, Refused}
 use Rattle.finder_plain.specs.declared.finding.PlainAnswer.{PlainAnswer}
@@ -34,6 +36,11 @@ readReturned (NoBook r) = packed r
 abbrev pub writeReturned : WriteAnswer → ℕ
 writeReturned Written = 0
 writeReturned (NotWritten r) = packed r
+
+-- `pj_book_salvage`: the count times 256 plus the marks, or the refusal as one number
+abbrev pub salvageReturned : SalvageAnswer → ℕ
+salvageReturned (Salvaged marks count) = count * 256 + marks
+salvageReturned (NotSalvaged r) = packed r
 
 -- `pj_find`: reach: the height times 2^16 plus the plan's length, which has no more than 16 bits (proofs/Apart); cannot: 0; or the refusal as one number
 abbrev pub findReturned : Answer → ℕ

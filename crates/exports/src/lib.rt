@@ -7,12 +7,13 @@ ghost use Rattle.knowledge.specs.Goal.{goalOf};
 ghost use Rattle.exports.specs.Formula.{FormulaRead};
 ghost use Rattle.exports.specs.Find.{asked, PlanFound, PlainlyFound};
 ghost use Rattle.exports.specs.Check.{PlanChecked};
-ghost use Rattle.exports.specs.Book.{BookRead, BookWritten};
+ghost use Rattle.exports.specs.Book.{BookRead, BookWritten, BookSalvaged};
 ghost use Rattle.exports.specs.Texts.{RulesMade};
 ghost use Rattle.exports.specs.Replay.{ShiftReplayed};
 ghost use Rattle.sheet.specs.Answer.{AnswersSheet};
 ghost use Rattle.sheet_ask.specs.Asks.{AsksBook};
 use book::WriteAnswer;
+use book_salvage::SalvageAnswer;
 use book_sound::ReadAnswer;
 use finder::Answer as Found;
 use finder_plain::PlainAnswer;
@@ -63,6 +64,18 @@ pub extern "C" fn pj_book_write(n: u64, m: u64, rights: &[u8], book: &mut [u8]) 
     match book::write(n as usize, m as usize, rights, book) {
         WriteAnswer::Written => 0,
         WriteAnswer::Refused(why) => packed(why),
+    }
+}
+
+// The book with each damaged setting block closed, at the start of the lent room. count * 256 + marks, or a
+// refusal, which leaves the room as it was.
+#[no_mangle]
+pub extern "C" fn pj_book_salvage(book: &[u8], room: &mut [u8]) -> u64
+    ensures { λ r. ⌜ BookSalvaged (now (book .entry)) (now (room .entry)) r (now (room .exit)) ⌝ }
+{
+    match book_salvage::salvage(book, room) {
+        SalvageAnswer::Salvaged { marks, count } => (count as u64) * 256 + marks as u64,
+        SalvageAnswer::Refused(why) => packed(why),
     }
 }
 
