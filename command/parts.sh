@@ -136,9 +136,15 @@ book_hint() {
     read -r _ number place < <(sed -n 2p <<<"$said")
     case $number in
     6) say "$2: this is no book: a book has 2 to 8 blocks of 512 bytes$(is_text "$1")" ;;
-    7) say "$2: block $place is damaged: its check is wrong" ;;
+    7 | 9)
+        case $number in
+        7) say "$2: block $place is damaged: its check is wrong" ;;
+        9) say "$2: block $place has a bit that must be zero" ;;
+        esac
+        [ "$place" -eq 0 ] || say "'./parjolenc salvage' makes a book of it with that block closed, and others that are damaged; or make it again from its rules"
+        ;;
     8) say "$2: the head of the book is not in order" ;;
-    9) say "$2: block $place has a bit that must be zero" ;;
+    30) say "$2: the head block is damaged, and without it nothing can be salvaged: make the book again from its rules" ;;
     esac
 }
 

@@ -143,7 +143,7 @@ enum {
     PJ_REFUSED_NOT_ALLOWED = 28,
     // A look was recorded with another value than its setting has where the look is due. [the record's index]
     PJ_REFUSED_DISAGREES = 29,
-    // The head block of a book to be salvaged has a wrong check, or 8 would be given for it.
+    // The head block of a book to be salvaged has a wrong check, or is one that 8 is given for.
     PJ_REFUSED_SALVAGE_HEAD = 30
 };
 

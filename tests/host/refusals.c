@@ -6,11 +6,11 @@
 
 static pj_u8 rights[PJ_RIGHTS_ROOM(3)], book[PJ_BOOK_ROOM(3)], other[PJ_BOOK_ROOM(3)], room[PJ_BOOK_MOST + PJ_BLOCK];
 static pj_u8 ranks[PJ_RANKS_ROOM(3)], plan[PJ_PLAN_MOST + 1], make[PJ_TABLE], out[64], text[PJ_TEXT_MOST + 1];
-static int seen[30];
+static int seen[31];
 
 static void refused(const char *name, pj_u64 result, pj_u64 number, pj_u64 place) {
     test(name, pj_number(result) == number && pj_place(result) == place && pj_second(result) == 0);
-    if (number < 30 && pj_number(result) == number) seen[number] = 1;
+    if (number < 31 && pj_number(result) == number) seen[number] = 1;
 }
 
 // 18 with its second number.
@@ -36,7 +36,7 @@ static void printed(const char *name, const char *sheet, pj_u64 length, pj_u64 n
     fill(out, sizeof out, 0);
     int right = says(pj_sheet((const pj_u8 *)sheet, length, out, sizeof out), number, line);
     test(name, right);
-    if (number < 30 && right) seen[number] = 1;
+    if (number < 31 && right) seen[number] = 1;
 }
 
 // A text of rules that pj_rules refuses with this line, and leaves the room as it was.
@@ -214,6 +214,33 @@ static void shifts(void) {
     replayed("9 before 26", other, b, 8, done, 7, PJ_REFUSED_STRAY_BIT, 3, 170, 171);
 }
 
+// What salvaging gives of bytes that it refuses. It leaves the room as it was.
+static void no_salvage(const char *name, const pj_u8 *of, pj_u64 book_length, pj_u64 room_length, pj_u64 number) {
+    fill(room, sizeof room, 170);
+    refused(name, pj_book_salvage(of, book_length, room, room_length), number, 0);
+    test("and the room as it was", all_are(room, sizeof room, 170));
+}
+
+// Order: 6, 30, 15. A damaged setting block is no reason: it is closed.
+static void salvages(void) {
+    pj_u64 b = sizeof book;
+    no_salvage("6 of a salvage: a byte too few", book, b - 1, sizeof room, PJ_REFUSED_BOOK_LENGTH);
+    with_byte(2, 1, 0);
+    no_salvage("30: the head's check", other, b, sizeof room, PJ_REFUSED_SALVAGE_HEAD);
+    no_salvage("6 before 30", other, b - 1, sizeof room, PJ_REFUSED_BOOK_LENGTH);
+    no_salvage("30 before 15", other, b, b - 1, PJ_REFUSED_SALVAGE_HEAD);
+    with_byte(0, 2, 1);
+    no_salvage("30: a head with another n", other, b, sizeof room, PJ_REFUSED_SALVAGE_HEAD);
+    with_byte(1, 9, 1);
+    no_salvage("30: a head with nine posts", other, b, sizeof room, PJ_REFUSED_SALVAGE_HEAD);
+    with_byte(2, 1, 1);
+    no_salvage("30: a head with a third byte", other, b, sizeof room, PJ_REFUSED_SALVAGE_HEAD);
+    no_salvage("15 of a salvage: room for a byte too few", book, b, b - 1, PJ_REFUSED_ROOM);
+    with_byte(PJ_RULE(1, 0, 1), 0, 0);
+    pj_u64 told = pj_book_salvage(other, b, room, b);
+    test("a damaged block is closed and marked", pj_number(told) == 0 && pj_closed(told) == 1 && pj_marks(told) == 2);
+}
+
 int main(void) {
     pj_u8 table[PJ_TABLE];
     char long_text[PJ_FORMULA_MOST + 1];
@@ -299,9 +326,10 @@ int main(void) {
     texts_of_rules();
     texts_of_questions();
     shifts();
+    salvages();
 
     int count = 0;
-    for (int i = 1; i < 30; i++) count += seen[i];
-    test("all 29 were given", count == 29);
+    for (int i = 1; i < 31; i++) count += seen[i];
+    test("all 30 were given", count == 30);
     return closing();
 }

@@ -3,7 +3,7 @@ use mathlib.Core.Path.{_≡_, refl, sym, ap, _∙_, subst}
 use mathlib.Core.Bool.{Bool, true, false, not}
 use mathlib.Core.List.{List}
 use Prim.Native.Nat.{ℕ, zero, suc, _+_, _*_, _/_, _%_, _^_, _≤_, _<_}
-use native.Mathlib.Nat.{le-refl, pow-succ', one-mul, not-suc-le-zero, lt-of-lt-of-le}
+use native.Mathlib.Nat.{le-refl, pow-succ', one-mul, not-suc-le-zero, lt-of-lt-of-le, add-zero, add-suc}
 use native.Mathlib.Numerals.{add-one}
 use native.Mathlib.Omega.{arith}
 use lib.Dec.{eqb, lit<}
@@ -11,7 +11,7 @@ use lib.Pow.{pow-mono, shl-exact}
 use Rattle.ground.specs.Digits.{digit, bit}
 use Rattle.ground.specs.Tells.{Tells}
 use Rattle.ground.proofs.Bits.{same-bits, bit-of-zero}
-use Rattle.ground.proofs.Digits.{digit-top, digit-low, digit-lt}
+use Rattle.ground.proofs.Digits.{digit-top, digit-low, digit-lt, digit-above}
 use Rattle.ground.proofs.HighBits.{high-bit}
 use Rattle.ground.proofs.Search.{below-suc}
 use Rattle.book_block.specs.Check.{block}
@@ -127,3 +127,12 @@ ones-step k marks count e = ap (λ (x : ℕ). x + marks / 2 ^ k % 2) e ∙ ap (�
 pub ones-none : ones 8 0 ≡ 0
 unfolding ones digit
 ones-none = refl
+
+-- marks that have no bit at or past n are counted over n settings
+pub ones-past : (n d marks : ℕ) → marks < 2 ^ n → ones (n + d) marks ≡ ones n marks
+unfolding ones
+ones-past n zero marks h = ap (λ k. ones k marks) (add-zero n)
+ones-past n (suc d) marks h =
+    let none : digit 2 marks (n + d) ≡ 0 =
+    digit-above {b = 2} (lit< tt) marks (n + d) (lt-of-lt-of-le h (pow-mono {i = n} {j = n + d} (omega arith))) in
+    ap (λ k. ones k marks) (add-suc n d) ∙ omega (arith, none, ones-past n d marks h)

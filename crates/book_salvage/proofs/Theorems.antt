@@ -1,9 +1,10 @@
--- What is promised of a salvage, in one place: one result alone, the room included; the result reads as a book, and salvaged again it is the same
--- bytes; a sound book comes back as it was; and which rules the salvaged book has. All for every n at once.
-use mathlib.Core.Path.{_≡_, sym, ap, ap₂, _∙_, subst}
+-- What is promised of a salvage, in one place: one result alone, the room included; which answer exactly; the result reads as a book, and salvaged
+-- again it is the same bytes; a sound book comes back as it was; and which rules the salvaged book has. All for every n at once.
+use mathlib.Core.Path.{_≡_, refl, sym, ap, ap₂, _∙_, subst}
+use mathlib.Core.Logic.{_↔_}
 use mathlib.Core.Bool.{true, false}
 use mathlib.Core.List.{List, _++_}
-use Prim.Native.Nat.{ℕ, _+_, _*_, _≤_, _<_}
+use Prim.Native.Nat.{ℕ, _+_, _-_, _*_, _≤_, _<_}
 use native.Mathlib.Nat.{le-of-eq}
 use native.Mathlib.Omega.{arith}
 use lib.ListN.{length, take, drop, replicate}
@@ -11,19 +12,19 @@ use lib.Seq.{take-at}
 use Rattle.ground.specs.Digits.{bit}
 use Rattle.refusal.specs.declared.Refusal.{Refusal}
 use Rattle.refusal.specs.Refusals.{place}
-use Rattle.refusal.specs.Order.{First}
+use Rattle.refusal.specs.Order.{First, Clear}
 use Rattle.refusal.proofs.OrderLaws.{first-unique, first-clear, first-place-below}
 use Rattle.book_block.specs.declared.rule.Right.{Right}
 use Rattle.book_block.specs.Rule.{rule}
 use Rattle.book_sound.specs.Sound.{Sound}
-use Rattle.book_sound.specs.Rows.{settingsOf, postsOf}
+use Rattle.book_sound.specs.Rows.{Whole, settingsOf, postsOf}
 use Rattle.book_sound.proofs.SoundLaws.{sound-settings, sound-posts, sound-whole, sound-head-right}
 use Rattle.book_salvage.specs.declared.SalvageAnswer.{SalvageAnswer}
 use Rattle.book_salvage.specs.declared.SalvageAnswer.the-variants.{Salvaged, Refused}
 use Rattle.book_salvage.specs.Salvaged.{MarksOf, ones, salvagedBook}
-use Rattle.book_salvage.specs.Rows.{salvageRows}
+use Rattle.book_salvage.specs.Rows.{HeadStands, salvageRows}
 use Rattle.book_salvage.specs.Promise.{SalvagesTo, Salvages}
-use Rattle.book_salvage.proofs.MarkLaws.{marks-one, marks-none, ones-none, ones-most, marked-small-byte}
+use Rattle.book_salvage.proofs.MarkLaws.{marks-one, marks-none, ones-none, ones-most, ones-past, marked-small-byte}
 use Rattle.book_salvage.proofs.LaidLaws.{length-salvaged, salvaged-sound, salvaged-same}
 use Rattle.book_salvage.proofs.RefusalLaws.{whole-size, whole-settings, refuse-none}
 use Rattle.book_salvage.proofs.RuleLaws.{rule-kept, rule-closed}
@@ -45,6 +46,25 @@ salvage-one book room (Salvaged a c) (Refused r) x y p q = first-clear (q .0) (r
 salvage-one book room (Refused r) (Salvaged b d) x y p q = first-clear (p .0) (refuse-none book room (q .whole) (q .head) (q .fits))
 salvage-one book room (Refused r) (Refused s) x y p q = (ap Refused (first-unique (p .0) (q .0)), p .1 ∙ sym (q .1))
 
+-- ---- which answer, exactly: each refusal where it is the first in the order, and a salvaged book where none is given
+
+module _ (book room : List ℕ) (a : SalvageAnswer) (x : List ℕ) (so : Salvages book room a x) where
+  pub refused-exactly : (r : Refusal) → (a ≡ Refused r) ↔ First (salvageRows book room) r
+  refused-exactly r = (
+    λ e. subst (λ (b : SalvageAnswer). Salvages book room b x) e so .0,
+    λ f. salvage-one book room a (Refused r) x room so (f, refl) .0,
+  )
+
+  pub salvaged-exactly : ((marks : ℕ) × (count : ℕ) × (a ≡ Salvaged marks count)) ↔ (Whole book × HeadStands book × (length book ≤ length room))
+  salvaged-exactly = (
+    λ (marks, count, e). let s = subst (λ (b : SalvageAnswer). Salvages book room b x) e so in (s .whole, s .head, s .fits),
+    λ (whole, head, fits). by a so (refuse-none book room whole head fits),
+  )
+    where
+      by : (b : SalvageAnswer) → Salvages book room b x → Clear (salvageRows book room) → (marks : ℕ) × (count : ℕ) × (b ≡ Salvaged marks count)
+      by (Salvaged marks count) s none = (marks, count, refl)
+      by (Refused r) s none = first-clear (s .0) none
+
 -- ---- the result reads as a book
 
 module _ {book room after : List ℕ} {marks count : ℕ} (s : SalvagesTo book room marks count after) where
@@ -65,6 +85,13 @@ module _ {book room after : List ℕ} {marks count : ℕ} (s : SalvagesTo book r
       subst (λ b. Sound b (settingsOf book) (postsOf book)) (sym salvaged-bytes)
       (salvaged-sound book marks (settingsOf book) (le-of-eq (sym (whole-size (s .whole)))) (whole-settings (s .whole)) (s .head .says .posts)
       (s .head .check) (s .head .says .head) (s .marked))
+
+  -- "how many were replaced": the count is of the book's settings, those that are marked
+  pub counted-settings : count ≡ ones (settingsOf book) marks
+  counted-settings =
+      let n = settingsOf book in
+      let e : n + (8 - n) ≡ 8 = omega (arith, whole-settings (s .whole) .most) in
+      s .counted ∙ ap (λ k. ones k marks) (sym e) ∙ ones-past n (8 - n) marks (s .marked .within)
 
 -- ---- a sound book
 

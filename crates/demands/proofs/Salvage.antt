@@ -45,7 +45,7 @@ pub refused-salvage : (book room : List ℕ) (r : Refusal) (after : List ℕ) �
 refused-salvage book room r after x = x
 
 -- the contract is the function's own, as in Demands
-pub tied-salvage : (κs : _) (a : _) (x : _) (s : _) → salvage-contract.Post κs a x s ↔ Salvages (now (a .0)) (now (a .1 .0)) x (s .0)
+pub tied-salvage : (κs : _) (a : _) (x : _) (s : _) → salvage-contract.Post κs a x s ↔ Salvages (now (a .0)) (now (a .1 .0)) x (now (s .1 .0))
 tied-salvage κs a x s = (λ p. p, λ p. p)
 
 -- ---- the salvaged book
@@ -122,7 +122,7 @@ module _ {book room after : List ℕ} {marks count : ℕ} (s : SalvagesTo book r
           → ValidQuestion out q goal (settingsOf book) (postsOf book)
           × ((p : Plan) × Works (systemOf (settingsOf book) other q goal) (startOf q) p × (height p ≡ h))
       found h size f =
-          let (n, m, v, (p, w, e, more)) = reach-works out q goal ranks plan r x h size f in
+          let (n, m, v, (p, w, e, least, size-is, room-is)) = reach-works out q goal ranks plan r x h size f in
           let same = sound-one (v .sound) reads-as-book in (
             valid-salvaged v,
             (p, plan-works-too (valid-salvaged v) p (startOf q) (subst (λ j. Works (systemOf j out q goal) (startOf q) p) (same .0) w), e),
@@ -133,7 +133,7 @@ module _ {book room after : List ℕ} {marks count : ℕ} (s : SalvagesTo book r
           → Finds other q goal ranks′ plan′ (Reach g length′) r′ x′ → g ≤ h
       height-no-greater h size g length′ f f′ =
           let (v, (p, w, e)) = found h size f in
-          let (n, m, v′, (p′, w′, e′, least, more)) = reach-works other q goal ranks′ plan′ r′ x′ g length′ f′ in
+          let (n, m, v′, (p′, w′, e′, least, size-is, room-is)) = reach-works other q goal ranks′ plan′ r′ x′ g length′ f′ in
           let same = sound-one (v′ .sound) (has .sound) in
           subst (λ j. g ≤ j) e (least p (subst (λ j. Works (systemOf j other q goal) (startOf q) p) (sym (same .0)) w))
 
