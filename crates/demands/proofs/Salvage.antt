@@ -26,6 +26,7 @@ use Rattle.book_salvage.proofs.salvage.Reads as salvage-contract
 use Rattle.knowledge.specs.Goal.{Goal}
 use Rattle.plan.specs.Plans.{Plan, Works, height}
 use Rattle.plan.proofs.Compare.{works-more}
+use Rattle.plan.proofs.Ranks.{rank-least}
 use Rattle.question.specs.Question.{systemOf, startOf}
 use Rattle.question.specs.Asks.{ValidQuestion}
 use Rattle.question.specs.declared.Question.{Question}
@@ -34,6 +35,10 @@ use Rattle.finder.specs.Finds.{Finds}
 use Rattle.finder.specs.declared.answer.Answer.{Answer}
 use Rattle.finder.specs.declared.answer.Answer.the-variants.{Reach, Cannot}
 use Rattle.finder.proofs.Theorems.{reach-works, cannot-none, works-reach, none-cannot}
+use Rattle.finder_plain.specs.Finds.{FindsPlain}
+use Rattle.finder_plain.specs.declared.finding.PlainAnswer.{PlainAnswer}
+use Rattle.finder_plain.specs.declared.finding.PlainAnswer.the-variants.{Reach as PlainReach}
+use Rattle.finder_plain.proofs.Theorems as Plain
 
 -- ---- demand 1 of the salvage: one result alone, the room included; a refusal is the first of 6, 30, 15 and leaves the room as it was
 
@@ -115,6 +120,18 @@ module _ {book room after : List ℕ} {marks count : ℕ} (s : SalvagesTo book r
     pub plan-works-too : ValidQuestion out q goal (settingsOf book) (postsOf book) → (p : Plan) (k : ℕ)
         → Works (systemOf (settingsOf book) out q goal) k p → Works (systemOf (settingsOf book) other q goal) k p
     plan-works-too v p k w = works-more (closing-permits closes q goal (v .team)) p k w
+
+    -- of the second finder, which is lent no room: where it says reach of the salvaged book it says reach of the other, with no greater height
+    pub plain-reach-too : (h : ℕ) → FindsPlain out q goal (PlainReach h) → (b : PlainAnswer) → FindsPlain other q goal b
+        → (g : ℕ) × (b ≡ PlainReach g) × (g ≤ h)
+    plain-reach-too h f b f′ =
+        let (n, m, v, (p, w, e, least)) = Plain.plain-reach out q goal h f in
+        let same = sound-one (v .sound) reads-as-book in
+        let u = over-other (valid-salvaged v) in
+        let w′ = plan-works-too (valid-salvaged v) p (startOf q) (subst (λ j. Works (systemOf j out q goal) (startOf q) p) (same .0) w) in
+        let (g, is) = Plain.works-reach other q goal u b p w′ f′ in
+        let l = Plain.own-reach other q goal u (subst (FindsPlain other q goal) is f′) in
+        (g, is, subst (λ j. g ≤ j) e (rank-least (systemOf (settingsOf book) other q goal) (startOf q) (inl l) p w′))
 
     module _ (ranks plan r x ranks′ plan′ r′ x′ : List ℕ) where
       -- the plan that is found by the salvaged book, with its height
