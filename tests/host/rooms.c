@@ -27,6 +27,8 @@ static int rooms_of(int settings) {
     if (pj_book_write(n, 1, rights, PJ_RIGHTS_ROOM(n), book, PJ_BOOK_ROOM(n)) != 0) return 0;
     if (pj_number(pj_book_read(book, PJ_BOOK_ROOM(n), rights, PJ_RIGHTS_ROOM(n) - 1)) != PJ_REFUSED_ROOM) return 0;
     if (pj_settings(pj_book_read(book, PJ_BOOK_ROOM(n), rights, PJ_RIGHTS_ROOM(n))) != n) return 0;
+    if (pj_number(pj_book_salvage(book, PJ_BOOK_ROOM(n), room, PJ_BOOK_ROOM(n) - 1)) != PJ_REFUSED_ROOM) return 0;
+    if (pj_book_salvage(book, PJ_BOOK_ROOM(n), room, PJ_BOOK_ROOM(n)) != 0 || !same(room, book, PJ_BOOK_ROOM(n))) return 0;
     if (pj_number(find(n, PJ_RANKS_ROOM(n) - 1, PJ_PLAN_ROOM(n))) != PJ_REFUSED_RANK_ROOM) return 0;
     pj_u64 found = find(n, PJ_RANKS_ROOM(n), PJ_PLAN_ROOM(n)), length = pj_length(found);
     if (pj_number(found) != 0 || pj_height(found) != (2ULL << n) - 2) return 0;
@@ -133,6 +135,8 @@ static int null_for_empty(void) {
     if (pj_number(pj_book_read(book, b, 0, 0)) != PJ_REFUSED_ROOM) return 0;
     if (pj_number(pj_book_write(n, 1, 0, 0, book, b)) != PJ_REFUSED_BOOK_LENGTH) return 0;
     if (pj_number(pj_book_write(n, 1, rights, PJ_TABLES, 0, 0)) != PJ_REFUSED_ROOM) return 0;
+    if (pj_number(pj_book_salvage(0, 0, room, b)) != PJ_REFUSED_BOOK_LENGTH) return 0;
+    if (pj_number(pj_book_salvage(book, b, 0, 0)) != PJ_REFUSED_ROOM) return 0;
     if (pj_number(pj_find(0, 0, 1, 0, 0, make, 16, 0, 0, ranks, r, plan, 6)) != PJ_REFUSED_BOOK_LENGTH) return 0;
     if (pj_number(pj_find(book, b, 1, 0, 0, 0, 0, 0, 0, ranks, r, plan, 6)) != PJ_REFUSED_GOAL) return 0;
     if (pj_height(pj_find(book, b, 1, 0, 0, make, 16, 0, 0, ranks, r, plan, 6)) != 2) return 0;

@@ -35,6 +35,7 @@ static pj_u64 taken(void (*f)(void)) {
 static void formula_read(void) { result = pj_formula_read(7, text, sizeof text, make); }
 static void book_read(void) { result = pj_book_read(book, sizeof book, rights, sizeof rights); }
 static void book_write(void) { result = pj_book_write(7, 1, rights, sizeof rights, book, sizeof book); }
+static void book_salvage(void) { result = pj_book_salvage(book, sizeof book, out, sizeof book); }
 static void find(void) {
     result = pj_find(book, sizeof book, 1, 0, 0, make, PJ_TABLE, 0, 0, ranks, sizeof ranks, plan, sizeof plan);
 }
@@ -77,6 +78,8 @@ int main(void) {
     climb_rights(7, rights, make);
     holds("pj_book_write, seven settings", book_write, PJ_STACK_BOOK_WRITE);
     holds("pj_book_read, seven settings", book_read, PJ_STACK_BOOK_READ);
+    holds("pj_book_salvage, seven settings", book_salvage, PJ_STACK_BOOK_SALVAGE);
+    test("which are sound", result == 0);
     holds("pj_find, a plan of height 254", find, PJ_STACK_FIND);
     test("which was found", pj_height(result) == 254);
     plan_length = pj_length(result);
