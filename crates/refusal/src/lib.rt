@@ -5,7 +5,8 @@ ghost use mathlib.Core.Path.{_≡_};
 ghost use Prim.Native.Nat.{suc};
 ghost use Rattle.refusal.specs.Refusals.{secondOf, numbered, seconded, numbers};
 
-// Why an act is not permitted: the second number of 18, in the order in which they are judged.
+// Why an act is not permitted: the second number of 18. A set of a held setting, 3, is judged first, and
+// the others in the order of their numbers.
 pub enum Why {
     // 0: a look at a known setting.
     KnownSetting,
@@ -13,6 +14,8 @@ pub enum Why {
     SurelyFalse,
     // 2: nobody in the team knows whether its rule holds.
     NotKnown,
+    // 3: a set of a held setting.
+    HeldSetting,
 }
 
 impl Why {
@@ -24,6 +27,7 @@ impl Why {
             Why::KnownSetting => 1,
             Why::SurelyFalse => 2,
             Why::NotKnown => 3,
+            Why::HeldSetting => 4,
         }
     }
 }
@@ -88,6 +92,8 @@ pub enum Refusal {
     NotAllowed(usize),
     // 29: the record with this index a look that disagrees with the true settings.
     Disagrees(usize),
+    // 31: a held setting past n.
+    Held,
 }
 
 // The numbers that a refusal gives: "a refusal gives a number and a place", and 18 "carries a second number".
@@ -156,6 +162,7 @@ impl Refusal {
             Refusal::NoRecord(index) => numbered(27, index),
             Refusal::NotAllowed(index) => numbered(28, index),
             Refusal::Disagrees(index) => numbered(29, index),
+            Refusal::Held => numbered(31, 0),
         }
     }
 }
