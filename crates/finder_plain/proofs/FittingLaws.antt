@@ -2,7 +2,7 @@
 -- there permits nothing.
 use mathlib.Core.Path.{_≡_, refl, sym, ap, _∙_, subst}
 use mathlib.Core.List.{List}
-use mathlib.Core.Bool.{Bool, false}
+use mathlib.Core.Bool.{Bool, false, not}
 use Prim.Native.Nat.{ℕ, zero, suc, _+_, _*_, _/_, _^_, _≤_, _<_}
 use native.Mathlib.Nat.{zero-mul, one-mul}
 use native.Mathlib.Numerals.{add-one}
@@ -88,7 +88,7 @@ all-fitting n k {ds} {v} {i} small e f same =
 
 -- ---- a rule there
 
-module _ (n : ℕ) (book : List ℕ) (team k : ℕ) {v : ℕ} (few : n ≤ 7) (f : Fitting n k v) where
+module _ (n : ℕ) (book : List ℕ) (team held k : ℕ) {v : ℕ} (few : n ≤ 7) (f : Fitting n k v) where
   -- a rule that is known to hold is true there
   rule-true : (i q : ℕ) (right : Right) → T (known n (digit 7 k) (rule book i q right)) → T (truth (drop (rulePlace book i q right) book) v)
   unfolding rule
@@ -96,19 +96,20 @@ module _ (n : ℕ) (book : List ℕ) (team k : ℕ) {v : ℕ} (few : n ≤ 7) (f
       subst T (truth-take (drop (rulePlace book i q right) book) v (omega (arith, f .small, pow-mono {i = n} {j = 7} few)))
       (known-at n (digit 7 k) (take 16 (drop (rulePlace book i q right) book)) t v (f .small) (f .fits))
 
-  done-true : (a : Act) → T (mayDo n book team k a) → T (truth (drop (placeOf book a) book) v)
+  done-true : (a : Act) → T (mayDo n book team held k a) → T (truth (drop (placeOf book a) book) v)
   done-true (Set i q b) t =
-      let g = and-right (offered n team (Set i q b)) (given (permitted n book (digit 7 k) (Set i q b))) t in
-      rule-true i q set-rule (rw (set-given n book (digit 7 k) i q b) at g)
+      let g = and-right (offered n team (Set i q b)) (given (permitted n book held (digit 7 k) (Set i q b))) t in
+      rule-true i q set-rule
+      (and-left (known n (digit 7 k) (rule book i q set-rule)) (not (bit held i)) (rw (set-given n book held (digit 7 k) i q b) at g))
   done-true (Look i q) t =
-      let g = and-right (offered n team (Look i q)) (given (permitted n book (digit 7 k) (Look i q))) t in
+      let g = and-right (offered n team (Look i q)) (given (permitted n book held (digit 7 k) (Look i q))) t in
       rule-true i q look-rule
-      (and-left (known n (digit 7 k) (rule book i q look-rule)) (eqb (digit 7 k i) 0) (rw (look-given n book (digit 7 k) i q) at g))
+      (and-left (known n (digit 7 k) (rule book i q look-rule)) (eqb (digit 7 k i) 0) (rw (look-given n book held (digit 7 k) i q) at g))
 
-  pub rule-false : (a : Act) {r : Bool} → r ≡ truth (drop (placeOf book a) book) v → r ≡ false → false ≡ mayDo n book team k a
+  pub rule-false : (a : Act) {r : Bool} → r ≡ truth (drop (placeOf book a) book) v → r ≡ false → false ≡ mayDo n book team held k a
   rule-false a e no-truth =
-      sym (T→false (mayDo n book team k a)
-      (not-T (mayDo n book team k a) (λ t. both (truth (drop (placeOf book a) book) v) (done-true a t) (false→T (sym e ∙ no-truth)))))
+      sym (T→false (mayDo n book team held k a)
+      (not-T (mayDo n book team held k a) (λ t. both (truth (drop (placeOf book a) book) v) (done-true a t) (false→T (sym e ∙ no-truth)))))
 
 -- the table that the code reads, by the act's case
 module _ (book : List ℕ) (v : ℕ) {a : Act} {i q from : ℕ} {r : Bool} where

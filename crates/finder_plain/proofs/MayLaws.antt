@@ -20,21 +20,21 @@ use Rattle.plan.specs.declared.Permit.the-variants.{Given, Denied}
 use Rattle.question.specs.Permitted.{permitted}
 use Rattle.finder_plain.specs.Tries.{mayDo, byPost, Someone}
 
-module _ (n : ℕ) (book : List ℕ) (team k : ℕ) (a : Act) where
-  pub not-offered : {o : Bool} → o ≡ offered n team a → o ≡ false → false ≡ mayDo n book team k a
+module _ (n : ℕ) (book : List ℕ) (team held k : ℕ) (a : Act) where
+  pub not-offered : {o : Bool} → o ≡ offered n team a → o ≡ false → false ≡ mayDo n book team held k a
   not-offered e f = rw (sym e ∙ f) refl
 
   module _ (few : n ≤ 7) (small : k < 7 ^ 7) {o : Bool} (e : o ≡ offered n team a) (yes : o ≡ true) {ds : List ℕ} (state : ds ≡ digitsOf k) {r : Permit}
-      (asked : r ≡ cond (leb n 7) (permitted n book (digitIn ds) a) (Denied NotKnown)) where
-    at-number : permitted n book (digit 7 k) a ≡ r
+      (asked : r ≡ cond (leb n 7) (permitted n book held (digitIn ds) a) (Denied NotKnown)) where
+    at-number : permitted n book held (digit 7 k) a ≡ r
     at-number =
-        ap (λ (d : ℕ → ℕ). permitted n book d a) (sym (digits-are k small)) ∙ ap (λ (l : List ℕ). permitted n book (digitIn l) a) (sym state)
+        ap (λ (d : ℕ → ℕ). permitted n book held d a) (sym (digits-are k small)) ∙ ap (λ (l : List ℕ). permitted n book held (digitIn l) a) (sym state)
         ∙ sym (within-seven n _ _ few) ∙ sym asked
 
-    pub is-given : r ≡ Given → true ≡ mayDo n book team k a
+    pub is-given : r ≡ Given → true ≡ mayDo n book team held k a
     is-given f = rw (sym e ∙ yes, at-number ∙ f) refl
 
-    pub is-denied : {why : Why} → r ≡ Denied why → false ≡ mayDo n book team k a
+    pub is-denied : {why : Why} → r ≡ Denied why → false ≡ mayDo n book team held k a
     is-denied f = rw (sym e ∙ yes, at-number ∙ f) refl
 
 pub someone-here : (m : Act → Bool) (a : Act) (q : ℕ) → q < 8 → m (byPost a q) ≡ true → Someone m a

@@ -61,9 +61,9 @@ fn by_post(act: Act, q: u8) -> Act
 }
 
 // Whether the team may do the act at the state k, at which the present values v fit.
-fn may_do(n: u8, book: &[u8], team: u8, k: u32, v: u8, act: Act) -> bool
+fn may_do(n: u8, book: &[u8], team: u8, held: u8, k: u32, v: u8, act: Act) -> bool
     requires { ⌜ (n ≤ 7) × (k < 7 ^ 7) × Fitting n k v ⌝ }
-    ensures { λ r. ⌜ r ≡ mayDo n (now (book .entry)) team k act ⌝ }
+    ensures { λ r. ⌜ r ≡ mayDo n (now (book .entry)) team held k act ⌝ }
 {
     if !act.offered(n, team) {
         return false;
@@ -71,21 +71,21 @@ fn may_do(n: u8, book: &[u8], team: u8, k: u32, v: u8, act: Act) -> bool
     if !true_at(book, act, v) {
         return false;
     }
-    match permits(Knowledge::from_number(k), n, book, act) {
+    match permits(Knowledge::from_number(k), n, book, held, act) {
         Permit::Given => true,
         Permit::Denied(_) => false,
     }
 }
 
 // Whether some post of the team may do the act at the state k. For this crate alone.
-pub(crate) fn someone_may(n: u8, book: &[u8], team: u8, k: u32, act: Act) -> bool
+pub(crate) fn someone_may(n: u8, book: &[u8], team: u8, held: u8, k: u32, act: Act) -> bool
     requires { ⌜ (n ≤ 7) × (k < 7 ^ 7) ⌝ }
-    ensures { λ r. ⌜ Tells r (Someone (mayDo n (now (book .entry)) team k) act) ⌝ }
+    ensures { λ r. ⌜ Tells r (Someone (mayDo n (now (book .entry)) team held k) act) ⌝ }
 {
     let v = first_fitting(n, k);
     let mut q: u8 = 0;
     while q < POSTS {
-        if may_do(n, book, team, k, v, by_post(act, q)) {
+        if may_do(n, book, team, held, k, v, by_post(act, q)) {
             return true;
         }
         q += 1;

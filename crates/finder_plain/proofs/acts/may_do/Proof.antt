@@ -14,7 +14,7 @@ returns c =
     let start : tie.Start = search in
     let asked : tie.After-offered = search in
     let a = start .args in
-    not-offered (a .n) (a .book .now) (a .team) (a .k) (a .act) (asked .offered .ensures) (not-true _ (c .if1 .taken))
+    not-offered (a .n) (a .book .now) (a .team) (a .held) (a .k) (a .act) (asked .offered .ensures) (not-true _ (c .if1 .taken))
 
 true-at-requires : tie.Need-true-at-requires
 true-at-requires c κs = search needs
@@ -24,7 +24,7 @@ returns-2 c =
     let start : tie.Start = search in
     let told : tie.After-true-at = search in
     let a = start .args in
-    rule-false (a .n) (a .book .now) (a .team) (a .k) (start .pre .0) (start .pre .2) (a .act) (told .true-at .ensures) (not-true _ (c .if2 .taken))
+    rule-false (a .n) (a .book .now) (a .team) (a .held) (a .k) (start .pre .0) (start .pre .2) (a .act) (told .true-at .ensures) (not-true _ (c .if2 .taken))
 
 from-number-requires : tie.Need-from-number-requires
 from-number-requires c κs = search needs
@@ -46,7 +46,7 @@ returns-3 c =
     let state : tie.After-from-number = search in
     let judged : tie.After-permits = search in
     let a = start .args in
-    is-given (a .n) (a .book .now) (a .team) (a .k) (a .act) (start .pre .0) (start .pre .1) (asked .offered .ensures) (not-false _ (ours .if1 .left))
+    is-given (a .n) (a .book .now) (a .team) (a .held) (a .k) (a .act) (start .pre .0) (start .pre .1) (asked .offered .ensures) (not-false _ (ours .if1 .left))
     (state .from-number .ensures) (judged .permits .ensures) (c .enum-told .given .1)
 
 returns-4 : tie.Need-returns-4
@@ -57,7 +57,7 @@ returns-4 c =
     let state : tie.After-from-number = search in
     let judged : tie.After-permits = search in
     let a = start .args in
-    is-denied (a .n) (a .book .now) (a .team) (a .k) (a .act) (start .pre .0) (start .pre .1) (asked .offered .ensures) (not-false _ (ours .if1 .left))
+    is-denied (a .n) (a .book .now) (a .team) (a .held) (a .k) (a .act) (start .pre .0) (start .pre .1) (asked .offered .ensures) (not-false _ (ours .if1 .left))
     (state .from-number .ensures) (judged .permits .ensures) (c .enum-told2 .given .1)
 
 pub may-do-spec : {M : Type 1} → statement M
