@@ -1,5 +1,5 @@
--- The laws of plans and ranks. First acts and states, then layers and the bound on ranks, ranks and tables of them, the plan written
--- and its bytes, the check, what is so after a run, demand 3 and its converse (`Twins`), and what shows a rank or a "cannot" by
+-- The laws of plans and ranks. First acts and states, then layers and the bound on ranks, ranks, two systems compared, tables of ranks, the
+-- plan written and its bytes, the check, what is so after a run, demand 3 and its converse (`Twins`), and what shows a rank or a "cannot" by
 -- computation.
 pub mod Acts
 pub mod States
@@ -12,6 +12,7 @@ pub mod Pigeonhole
 pub mod Class
 pub mod Bound
 pub mod Ranks
+pub mod Compare
 pub mod Certificate
 pub mod Table
 pub mod Written
