@@ -36,10 +36,10 @@ static void formula_read(void) { result = pj_formula_read(7, text, sizeof text, 
 static void book_read(void) { result = pj_book_read(book, sizeof book, rights, sizeof rights); }
 static void book_write(void) { result = pj_book_write(7, 1, rights, sizeof rights, book, sizeof book); }
 static void find(void) {
-    result = pj_find(book, sizeof book, 1, 0, 0, make, PJ_TABLE, 0, 0, ranks, sizeof ranks, plan, sizeof plan);
+    result = pj_find(book, sizeof book, 1, 0, 0, 0, make, PJ_TABLE, 0, 0, ranks, sizeof ranks, plan, sizeof plan);
 }
 static void plan_check(void) {
-    result = pj_plan_check(book, sizeof book, 1, 0, 0, make, PJ_TABLE, 0, 0, plan, plan_length);
+    result = pj_plan_check(book, sizeof book, 1, 0, 0, 0, make, PJ_TABLE, 0, 0, plan, plan_length);
 }
 static void sheet_answer(void) { result = pj_sheet(lines, lines_length, out, sizeof out); }
 static void rules_made(void) { result = pj_rules(lines, lines_length, book, sizeof book); }

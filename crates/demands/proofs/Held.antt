@@ -1,16 +1,15 @@
 -- "settings held, which no set act may touch though looks may": what it does to the answers. The demands speak of the question's system, which holds: its
 -- working plans are those of the same question with nothing held that set no held setting. So holding more never turns "cannot" into "reach" and
 -- never lowers the height.
-use mathlib.Core.Path.{_≡_, sym, subst}
-use mathlib.Core.Logic.{inl, inr, _↔_}
+use mathlib.Core.Path.{subst}
+use mathlib.Core.Logic.{_↔_}
 use mathlib.Core.List.{List}
 use Prim.Native.Nat.{ℕ, _^_, _≤_, _<_}
 use native.Mathlib.Omega.{arith}
 use lib.ListN.{getD}
 use Rattle.book_sound.proofs.Theorems.{sound-one}
 use Rattle.knowledge.specs.Goal.{Goal}
-use Rattle.plan.specs.Plans.{Plan, Permitted, Works, height}
-use Rattle.plan.specs.Ranks.{IsRank}
+use Rattle.plan.specs.Plans.{Plan, Permitted, Works}
 use Rattle.plan.proofs.Compare.{works-more, rank-no-greater}
 use Rattle.question.specs.Question.{systemOf, startOf}
 use Rattle.question.specs.Asks.{ValidQuestion}
