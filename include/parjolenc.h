@@ -1,4 +1,4 @@
-// The C interface of Parjolenc, version 2.3, for x86-64 Linux: what a host has to know stands in this file.
+// The C interface of Parjolenc, version 3.0, for x86-64 Linux: what a host has to know stands in this file.
 //
 // `rt staticlib exports` writes the library. A program is compiled with it by the ordinary line, in C99 or C++11:
 //
@@ -7,14 +7,15 @@
 // WORDS. A book has n settings, with indexes 0 to n - 1 and letters a to g, and m posts, with indexes 0 to m - 1 and
 // digits 1 to 8. For each setting and post it has two rules: where the post may look at the setting, and where it may
 // set it. A rule is a formula over the settings. A question is a book, a team of posts, what the team knows at the
-// start, and a goal: a make formula that is to hold in the end, and learn formulas whose truth at the start is to be
-// known in the end. The answer is a plan with the least height, or "cannot". A shift is what a recorder wrote down:
-// acts that were done, one after the other, and what each look saw. It is run against a book on true settings.
+// start, which settings are held, and a goal: a make formula that is to hold in the end, and learn formulas whose truth
+// at the start is to be known in the end. No set may touch a held setting, though looks may. The answer is a plan with
+// the least height, or "cannot". A shift is what a recorder wrote down: acts that were done, one after the other, and
+// what each look saw. It is run against a book on true settings.
 //
 // A table is 16 bytes: bit v mod 8 of byte v / 8, lowest first, is the formula's truth where setting i is bit i of v.
-// Bits at or past 2^n are 0. `team` has bit q for the post with index q; `known` has bit i for setting i, and `values`
-// the same bit where it is known to be true. The learn tables, 0 to 4, stand one after the other. Where there is
-// nothing to make, the make formula is `1`.
+// Bits at or past 2^n are 0. `team` has bit q for the post with index q; `known` has bit i for setting i, `values` the
+// same bit where it is known to be true, and `held` bit i where setting i is held; it may be known too. The learn
+// tables, 0 to 4, stand one after the other. Where there is nothing to make, the make formula is `1`.
 //
 // Rules and questions are also taken as text: a rules text, a question text, or a sheet, which is the one followed by
 // the other. Their lines are told below, under "texts".
@@ -38,10 +39,10 @@ extern "C" {
 
 // The version of this interface, and not of what is behind it. The first number grows where a program that was
 // written for the header before it would not compile or would mean something else, the second where something is added.
-#define PJ_VERSION_FIRST 2
-#define PJ_VERSION_SECOND 3
+#define PJ_VERSION_FIRST 3
+#define PJ_VERSION_SECOND 0
 #define PJ_VERSION (100 * PJ_VERSION_FIRST + PJ_VERSION_SECOND)
-#define PJ_VERSION_TEXT "2.3"
+#define PJ_VERSION_TEXT "3.0"
 
 typedef unsigned char pj_u8;
 typedef unsigned long long pj_u64;
@@ -74,11 +75,11 @@ static inline pj_u64 pj_length(pj_u64 result) { return result & 0xffff; }
 
 // The numbers of the refusals, and when each is given: the words of docs/CONTRACTS.md, "Every refusal", which names the
 // definitions. Of several the first is given, in this order: pj_formula_read 5, 1, the lowest place of 2 or 3, 4;
-// pj_book_read 6, 7, 8, 9, 15; pj_book_write 5, 8, 6, 9, 15; pj_book_salvage 6, 30, 15; pj_find 6 to 14; pj_find_plain
-// 6 to 12; pj_plan_check 6 to 12, 16, then the first of 17 to 21 as the plan is read; pj_rules 24, line by line 22, 23
-// and the formula's 1 to 4, then 15. pj_sheet and pj_ask print theirs: pj_sheet 24, line by line 22, 23 and 1 to 4, and
-// 25 directly after line 1; pj_ask the book's 6 to 9, 24, line by line 22, 23 and 1 to 4, then 13. pj_replay gives the
-// book's 6 to 9, 26, then record by record 27, 28, 29.
+// pj_book_read 6, 7, 8, 9, 15; pj_book_write 5, 8, 6, 9, 15; pj_book_salvage 6, 30, 15; pj_find 6 to 11, 31, 12 to 14;
+// pj_find_plain 6 to 11, 31, 12; pj_plan_check 6 to 11, 31, 12, 16, then the first of 17 to 21 as the plan is read;
+// pj_rules 24, line by line 22, 23 and the formula's 1 to 4, then 15. pj_sheet and pj_ask print theirs: pj_sheet 24,
+// line by line 22, 23 and 1 to 4, and 25 directly after line 1; pj_ask the book's 6 to 9, 24, line by line 22, 23 and 1
+// to 4, then 13. pj_replay gives the book's 6 to 9, 26, then record by record 27, 28, 29.
 // The place is 0 where none is named in brackets. Of a text the place of 1 to 4 is the line.
 enum {
     // The formula has no byte or more than 255.
@@ -116,8 +117,8 @@ enum {
     PJ_REFUSED_PLAN_LENGTH = 16,
     // A byte of the plan is above 168, or its setting is at or past n, or its post is not of the team. [its index]
     PJ_REFUSED_NO_ACT = 17,
-    // A look is at a setting of which a value is known, or the rule of an act is not known to hold where the act is
-    // due; the second number says which. [its index]
+    // A set is of a held setting, a look is at a setting of which a value is known, or the rule of an act is not known
+    // to hold where the act is due; the second number says which. [its index]
     PJ_REFUSED_NOT_PERMITTED = 18,
     // The plan stops where the goal is not settled. [the stop's index]
     PJ_REFUSED_NOT_SETTLED = 19,
@@ -144,11 +145,15 @@ enum {
     // A look was recorded with another value than its setting has where the look is due. [the record's index]
     PJ_REFUSED_DISAGREES = 29,
     // The head block of a book to be salvaged has a wrong check, or is one that 8 is given for.
-    PJ_REFUSED_SALVAGE_HEAD = 30
+    PJ_REFUSED_SALVAGE_HEAD = 30,
+    // A setting at or past n is held.
+    PJ_REFUSED_HELD = 31
 };
 
 // pj_second of 18, one more than its second number: why the act is not permitted. They are judged in this order.
 enum {
+    // A set of a held setting, whatever its rule.
+    PJ_SECOND_HELD_SETTING = 1 + 3,
     // A look at a setting of which a value is known, whatever its rule.
     PJ_SECOND_KNOWN_SETTING = 1 + 0,
     // The rule is false at every valuation that fits what the team knows there: it is surely closed.
@@ -245,7 +250,7 @@ static inline int pj_post(pj_u8 byte) { return (byte - 1) % 8; }
 
 // ---- texts
 
-// A rules text has lines of the first three kinds, and a question text of the other four, in this order; a sheet has
+// A rules text has lines of the first three kinds, and a question text of the other five, in this order; a sheet has
 // them all. P is a setting's letter, G a post's digit, F a formula. Words are split by one space, and byte 10 ends each
 // line, the last one too. In rules and question texts lines that begin with `#` and empty lines are passed over, and
 // line numbers, which begin with 1, count them; in a sheet such a line is refused.
@@ -255,6 +260,7 @@ static inline int pj_post(pj_u8 byte) { return (byte - 1) % 8; }
 //     write P G F    post G may set P where F holds
 //     team G ..      the team, one or more posts: one line
 //     known ..       what is known at the start, `a` for true and `~a` for false, or `known` alone: one line
+//     held ..        which settings are held, or `held` alone: one line or none
 //     make F         the make formula: one line
 //     ask F          a learn formula: none to four lines
 //
@@ -318,22 +324,22 @@ pj_u64 pj_book_write(pj_u64 n, pj_u64 m, const pj_u8 *rights, pj_u64 rights_leng
 pj_u64 pj_book_salvage(const pj_u8 *book, pj_u64 book_length, pj_u8 *room, pj_u64 room_length);
 
 // Whether the team can bring the goal about. Reach: height × 2^16 + the plan's length, the plan at the start of `plan`;
-// cannot: 0; or a refusal. But for refusals 6 to 13 the first 7^n bytes of `ranks` hold the rank of every knowledge
-// number, for any start; `plan` is written by reach alone. Later bytes of both stay as they were.
-pj_u64 pj_find(const pj_u8 *book, pj_u64 book_length, pj_u8 team, pj_u8 known, pj_u8 values, const pj_u8 *make,
-               pj_u64 make_length, const pj_u8 *learn, pj_u64 learn_length, pj_u8 *ranks, pj_u64 ranks_length,
-               pj_u8 *plan, pj_u64 plan_length);
+// cannot: 0; or a refusal. But for refusals 6 to 13 and 31 the first 7^n bytes of `ranks` hold the rank of every
+// knowledge number, for any start; `plan` is written by reach alone. Later bytes of both stay as they were.
+pj_u64 pj_find(const pj_u8 *book, pj_u64 book_length, pj_u8 team, pj_u8 known, pj_u8 values, pj_u8 held,
+               const pj_u8 *make, pj_u64 make_length, const pj_u8 *learn, pj_u64 learn_length, pj_u8 *ranks,
+               pj_u64 ranks_length, pj_u8 *plan, pj_u64 plan_length);
 
 // The same question, answered a second way, forwards from what the team knows and without a rank table: reach: the
-// least height + 1; cannot: 0; or one of refusals 6 to 12. It is proved to give the same answer and the same height as
-// pj_find. Nothing is lent for writing. Its memory is on the stack, a byte for each of 7^7 knowledge numbers, whatever
-// the book's n: see PJ_STACK_FIND_PLAIN.
-pj_u64 pj_find_plain(const pj_u8 *book, pj_u64 book_length, pj_u8 team, pj_u8 known, pj_u8 values, const pj_u8 *make,
-                     pj_u64 make_length, const pj_u8 *learn, pj_u64 learn_length);
+// least height + 1; cannot: 0; or one of refusals 6 to 12 and 31. It is proved to give the same answer and the same
+// height as pj_find. Nothing is lent for writing. Its memory is on the stack, a byte for each of 7^7 knowledge numbers,
+// whatever the book's n: see PJ_STACK_FIND_PLAIN.
+pj_u64 pj_find_plain(const pj_u8 *book, pj_u64 book_length, pj_u8 team, pj_u8 known, pj_u8 values, pj_u8 held,
+                     const pj_u8 *make, pj_u64 make_length, const pj_u8 *learn, pj_u64 learn_length);
 
 // Whether the bytes are those of a plan that works. 0 for yes, or a refusal. Nothing is written.
-pj_u64 pj_plan_check(const pj_u8 *book, pj_u64 book_length, pj_u8 team, pj_u8 known, pj_u8 values, const pj_u8 *make,
-                     pj_u64 make_length, const pj_u8 *learn, pj_u64 learn_length, const pj_u8 *plan,
+pj_u64 pj_plan_check(const pj_u8 *book, pj_u64 book_length, pj_u8 team, pj_u8 known, pj_u8 values, pj_u8 held,
+                     const pj_u8 *make, pj_u64 make_length, const pj_u8 *learn, pj_u64 learn_length, const pj_u8 *plan,
                      pj_u64 plan_length);
 
 // What is printed for a sheet, at the start of `out` as far as it fits; the length of all of it. The rest of `out` stays

@@ -40,7 +40,7 @@ static int rules_are_those(void) {
                 for (int byte = 1; byte <= 168; byte++) {
                     pj_u8 steps[3] = {(pj_u8)byte, 0, 0};
                     pj_u64 length = byte < PJ_ACT(PJ_LOOK, 0, 0) ? 2 : 3;
-                    pj_u64 told = pj_plan_check(book, sizeof book, 255, 0, 0, make, PJ_TABLE, 0, 0, steps, length);
+                    pj_u64 told = pj_plan_check(book, sizeof book, 255, 0, 0, 0, make, PJ_TABLE, 0, 0, steps, length);
                     int meant = pj_setting(steps[0]) == i && pj_post(steps[0]) == q &&
                                 (pj_kind(steps[0]) == PJ_LOOK ? set == 0 : set == 1);
                     if (meant ? told != 0 : pj_number(told) != PJ_REFUSED_NOT_PERMITTED) return 0;
@@ -71,29 +71,29 @@ static int bytes_are_those(void) {
         pj_u8 team = (pj_u8)(kind == PJ_STOP || kind == PJ_NO_KIND ? 255 : 1 << q), none = 0;
         char letter[3] = {'~', (char)('a' + i), 0};
         if (kind == PJ_NO_KIND) {
-            pj_u64 told = pj_plan_check(book, sizeof book, team, 0, 0, make, PJ_TABLE, 0, 0, steps, 2);
+            pj_u64 told = pj_plan_check(book, sizeof book, team, 0, 0, 0, make, PJ_TABLE, 0, 0, steps, 2);
             if (pj_number(told) != PJ_REFUSED_NO_ACT) return 0;
             continue;
         }
         if (kind == PJ_STOP) {
             fill(make, PJ_TABLE, 255);
-            if (pj_plan_check(book, sizeof book, team, 0, 0, make, PJ_TABLE, 0, 0, steps, 1) != 0) return 0;
+            if (pj_plan_check(book, sizeof book, team, 0, 0, 0, make, PJ_TABLE, 0, 0, steps, 1) != 0) return 0;
             continue;
         }
         if (PJ_ACT(kind, i, q) != byte) return 0;
         for (int value = 0; value < 2; value++) {
             if (formula(7, letter + value, make) != 0) return 0; // ~x, then x
-            pj_u64 told = pj_plan_check(book, sizeof book, team, 0, 0, make, PJ_TABLE, 0, 0, steps, 2);
+            pj_u64 told = pj_plan_check(book, sizeof book, team, 0, 0, 0, make, PJ_TABLE, 0, 0, steps, 2);
             if (kind == PJ_LOOK ? told == 0 : (told == 0) != (kind == (value ? PJ_SET_TRUE : PJ_SET_FALSE))) return 0;
         }
         // learnt is the letter alone, and by a look alone
         pj_u8 learn[PJ_TABLE];
         fill(make, PJ_TABLE, 255);
         if (formula(7, letter + 1, learn) != 0) return 0;
-        pj_u64 told = pj_plan_check(book, sizeof book, team, 0, 0, make, PJ_TABLE, learn, PJ_TABLE, steps, 3);
+        pj_u64 told = pj_plan_check(book, sizeof book, team, 0, 0, 0, make, PJ_TABLE, learn, PJ_TABLE, steps, 3);
         if ((told == 0) != (kind == PJ_LOOK)) return 0;
         team = (pj_u8)~team;
-        told = pj_plan_check(book, sizeof book, team, 0, 0, make, PJ_TABLE, &none, 0, steps, 3);
+        told = pj_plan_check(book, sizeof book, team, 0, 0, 0, make, PJ_TABLE, &none, 0, steps, 3);
         if (pj_number(told) != PJ_REFUSED_NO_ACT || pj_place(told) != 0) return 0;
     }
     return 1;
@@ -160,7 +160,7 @@ static int starts_are_those(int n, pj_u8 team, const pj_u8 *learn, pj_u64 learn_
     for (int known = 0; known < 1 << n; known++)
         for (int values = 0; values < 1 << n; values++) {
             if ((values & ~known) != 0) continue;
-            pj_u64 found = pj_find(book, PJ_BOOK_ROOM((pj_u64)n), team, (pj_u8)known, (pj_u8)values, make, PJ_TABLE,
+            pj_u64 found = pj_find(book, PJ_BOOK_ROOM((pj_u64)n), team, (pj_u8)known, (pj_u8)values, 0, make, PJ_TABLE,
                                    learn, learn_length, ranks, sizeof ranks, plan, sizeof plan);
             if (pj_number(found) != 0) return 0;
             pj_u64 height = found == 0 ? (pj_u64)PJ_RANK_NONE : pj_height(found);
@@ -186,7 +186,7 @@ static pj_u64 follow(pj_u64 at, pj_u64 number) {
 }
 
 int main(void) {
-    test("the version's text and number are one, 2.3", version_agrees());
+    test("the version's text and number are one, 3.0", version_agrees());
     test("a rule's 16 bytes stand at PJ_RIGHT among the rights and at PJ_RULE in the book", rules_stand_there());
     test("and are the rule of that setting and post, to look or to set", rules_are_those());
     test("pj_settings and pj_posts, for each n and m", numbers_of_books());
@@ -203,13 +203,14 @@ int main(void) {
     pj_u8 learn[PJ_TABLE];
     formula(3, "a&b", learn);
     test("and where a&b is to be learnt", starts_are_those(3, 3, learn, sizeof learn));
-    pj_u64 found = pj_find(book, PJ_BOOK_ROOM(3), 3, 0, 0, make, PJ_TABLE, 0, 0, ranks, sizeof ranks, plan, sizeof plan);
+    pj_u64 found =
+        pj_find(book, PJ_BOOK_ROOM(3), 3, 0, 0, 0, make, PJ_TABLE, 0, 0, ranks, sizeof ranks, plan, sizeof plan);
     test("and fall along its plan to 0 at each stop", follow(0, pj_start(0, 0)) == pj_length(found));
 
     climb_rights(4, rights, make);
     pj_book_write(4, 1, rights, PJ_RIGHTS_ROOM(4), book, PJ_BOOK_ROOM(4));
     test("the same for all 81 starts of the book of rank 30", starts_are_those(4, 1, 0, 0));
-    found = pj_find(book, PJ_BOOK_ROOM(4), 1, 0, 0, make, PJ_TABLE, 0, 0, ranks, sizeof ranks, plan, sizeof plan);
+    found = pj_find(book, PJ_BOOK_ROOM(4), 1, 0, 0, 0, make, PJ_TABLE, 0, 0, ranks, sizeof ranks, plan, sizeof plan);
     test("which has that rank", pj_height(found) == 30 && ranks[pj_start(0, 0)] == 30);
     test("and along its plan", follow(0, pj_start(0, 0)) == pj_length(found));
     return closing();

@@ -17,17 +17,19 @@ int main(void) {
     test("and read back", pj_number(read) == 0 && pj_settings(read) == 3 && pj_posts(read) == 2 &&
                               same(back, rights, sizeof rights));
 
-    pj_u64 found = pj_find(book, sizeof book, 3, 0, 0, make, sizeof make, 0, 0, ranks, sizeof ranks, plan, sizeof plan);
+    pj_u64 found = pj_find(book, sizeof book, 3, 0, 0, 0, make, sizeof make, 0, 0, ranks, sizeof ranks, plan,
+                           sizeof plan);
     test("both posts reach it in 4 steps", pj_number(found) == 0 && pj_height(found) == 4 && pj_length(found) == 8);
     static const pj_u8 steps[8] = {129, 58, 65, 0, 18, 58, 65, 0};
     test("by the plan of request R-2", same(plan, steps, 8));
     test("whose first act is: post 1 looks at c", pj_kind(plan[0]) == PJ_LOOK && pj_setting(plan[0]) == 2 &&
                                                       pj_post(plan[0]) == 0);
     test("which the check accepts",
-         pj_plan_check(book, sizeof book, 3, 0, 0, make, sizeof make, 0, 0, plan, pj_length(found)) == 0);
+         pj_plan_check(book, sizeof book, 3, 0, 0, 0, make, sizeof make, 0, 0, plan, pj_length(found)) == 0);
     test("post 1 alone cannot",
-         pj_find(book, sizeof book, 1, 0, 0, make, sizeof make, 0, 0, ranks, sizeof ranks, plan, sizeof plan) == 0);
-    pj_u64 none = pj_find(book, sizeof book, 0, 0, 0, make, sizeof make, 0, 0, ranks, sizeof ranks, plan, sizeof plan);
+         pj_find(book, sizeof book, 1, 0, 0, 0, make, sizeof make, 0, 0, ranks, sizeof ranks, plan, sizeof plan) == 0);
+    pj_u64 none = pj_find(book, sizeof book, 0, 0, 0, 0, make, sizeof make, 0, 0, ranks, sizeof ranks, plan,
+                          sizeof plan);
     test("a team of nobody is refused", pj_number(none) == PJ_REFUSED_TEAM && pj_place(none) == 0);
 
     pj_u64 printed = pj_sheet((const pj_u8 *)sheet, sizeof sheet - 1, out, sizeof out);

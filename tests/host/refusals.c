@@ -6,11 +6,11 @@
 
 static pj_u8 rights[PJ_RIGHTS_ROOM(3)], book[PJ_BOOK_ROOM(3)], other[PJ_BOOK_ROOM(3)], room[PJ_BOOK_MOST + PJ_BLOCK];
 static pj_u8 ranks[PJ_RANKS_ROOM(3)], plan[PJ_PLAN_MOST + 1], make[PJ_TABLE], out[64], text[PJ_TEXT_MOST + 1];
-static int seen[31];
+static int seen[32];
 
 static void refused(const char *name, pj_u64 result, pj_u64 number, pj_u64 place) {
     test(name, pj_number(result) == number && pj_place(result) == place && pj_second(result) == 0);
-    if (number < 31 && pj_number(result) == number) seen[number] = 1;
+    if (number < 32 && pj_number(result) == number) seen[number] = 1;
 }
 
 // 18 with its second number.
@@ -36,7 +36,7 @@ static void printed(const char *name, const char *sheet, pj_u64 length, pj_u64 n
     fill(out, sizeof out, 0);
     int right = says(pj_sheet((const pj_u8 *)sheet, length, out, sizeof out), number, line);
     test(name, right);
-    if (number < 31 && right) seen[number] = 1;
+    if (number < 32 && right) seen[number] = 1;
 }
 
 // A text of rules that pj_rules refuses with this line, and leaves the room as it was.
@@ -89,19 +89,26 @@ static pj_u64 written(pj_u64 n, pj_u64 m, pj_u64 rights_length, pj_u64 room_leng
 }
 
 // What both finders refuse a question with, or all ones where they differ; 13 and 14 are of rooms, and the second has none.
-static pj_u64 asked(pj_u8 team, pj_u8 known, pj_u8 values, pj_u64 make_length, pj_u64 learn_length, pj_u64 ranks_length,
-                    pj_u64 plan_length) {
+static pj_u64 asked_held(pj_u8 team, pj_u8 known, pj_u8 values, pj_u8 held, pj_u64 make_length, pj_u64 learn_length,
+                         pj_u64 ranks_length, pj_u64 plan_length) {
     static const pj_u8 learn[5 * PJ_TABLE] = {0};
-    pj_u64 found = pj_find(book, sizeof book, team, known, values, make, make_length, learn, learn_length, ranks,
+    pj_u64 found = pj_find(book, sizeof book, team, known, values, held, make, make_length, learn, learn_length, ranks,
                            ranks_length, plan, plan_length);
     if (pj_number(found) == PJ_REFUSED_RANK_ROOM || pj_number(found) == PJ_REFUSED_PLAN_ROOM) return found;
-    pj_u64 plain = pj_find_plain(book, sizeof book, team, known, values, make, make_length, learn, learn_length);
+    pj_u64 plain = pj_find_plain(book, sizeof book, team, known, values, held, make, make_length, learn, learn_length);
     return found == plain ? found : ~(pj_u64)0;
 }
 
-static pj_u64 checked(const pj_u8 *bytes, pj_u64 length) {
-    return pj_plan_check(book, sizeof book, 3, 0, 0, make, sizeof make, 0, 0, bytes, length);
+static pj_u64 asked(pj_u8 team, pj_u8 known, pj_u8 values, pj_u64 make_length, pj_u64 learn_length, pj_u64 ranks_length,
+                    pj_u64 plan_length) {
+    return asked_held(team, known, values, 0, make_length, learn_length, ranks_length, plan_length);
 }
+
+static pj_u64 checked_held(pj_u8 held, const pj_u8 *bytes, pj_u64 length) {
+    return pj_plan_check(book, sizeof book, 3, 0, 0, held, make, sizeof make, 0, 0, bytes, length);
+}
+
+static pj_u64 checked(const pj_u8 *bytes, pj_u64 length) { return checked_held(0, bytes, length); }
 
 // Order: 24, line by line 22, 23 and the formula's number, then 15.
 static void texts_of_rules(void) {
@@ -152,12 +159,17 @@ static void texts_of_questions(void) {
     question_refused("22 in a question: a size", "size 3 2\nteam 1\nknown\nmake b\n", PJ_REFUSED_MALFORMED, "1");
     question_refused("22 in a question: post 3 of the book's two", "team 3\nknown\nmake b\n", PJ_REFUSED_MALFORMED, "1");
     question_refused("22 in a question: d is known, of three", "team 1\nknown d\nmake b\n", PJ_REFUSED_MALFORMED, "2");
+    question_refused("22 in a question: d is held, of three", "team 1\nknown\nheld d\nmake b\n", PJ_REFUSED_MALFORMED, "3");
+    question_refused("22 in a question: `~` before a held one", "team 1\nknown\nheld ~a\nmake b\n", PJ_REFUSED_MALFORMED, "3");
+    question_refused("22 in a question: `held` before `known`", "team 1\nheld a\nknown\nmake b\n", PJ_REFUSED_MALFORMED, "2");
+    question_refused("22 in a question: a second `held`", "team 1\nknown\nheld a\nheld\nmake b\n", PJ_REFUSED_MALFORMED, "4");
     question_refused("22 in a question: an end before `make`", "team 1\n\nknown\n", PJ_REFUSED_MALFORMED, "4");
     question_refused("22 in a question: a fifth `ask`", "team 1\nknown\nmake 1\nask a\nask a\nask a\nask a\nask a\n",
                      PJ_REFUSED_MALFORMED, "8");
     question_refused("22 in a question: a last line without byte 10", "team 1\nknown\nmake b", PJ_REFUSED_MALFORMED, "3");
     question_refused("23 in a question: a post twice", "team 1 2 1\nknown\nmake b\n", PJ_REFUSED_TWICE, "1");
     question_refused("23 in a question: a setting twice", "team 1\nknown a ~a\nmake b\n", PJ_REFUSED_TWICE, "2");
+    question_refused("23 in a question: a held setting twice", "team 1\nknown\nheld a b a\nmake b\n", PJ_REFUSED_TWICE, "3");
     no_answer("13 of a question", book, sizeof book, whole, length, r - 1, PJ_REFUSED_RANK_ROOM, "0");
     no_answer("22 before 13", book, sizeof book, wrong, sizeof wrong - 1, 0, PJ_REFUSED_MALFORMED, "1");
 }
@@ -278,6 +290,12 @@ int main(void) {
     refused("10: a team with post 3 of two", asked(4, 0, 0, 16, 0, sizeof ranks, 8), PJ_REFUSED_TEAM, 0);
     refused("11: d is known of three settings", asked(3, 8, 0, 16, 0, sizeof ranks, 8), PJ_REFUSED_KNOWN, 0);
     refused("11: a value of what is not known", asked(3, 1, 2, 16, 0, sizeof ranks, 8), PJ_REFUSED_KNOWN, 0);
+    refused("31: d is held of three settings", asked_held(3, 0, 0, 8, 16, 0, sizeof ranks, 8), PJ_REFUSED_HELD, 0);
+    refused("31 of the second finder", pj_find_plain(book, sizeof book, 3, 0, 0, 128, make, sizeof make, 0, 0),
+            PJ_REFUSED_HELD, 0);
+    refused("31 of the plan check", checked_held(8, 0, 0), PJ_REFUSED_HELD, 0);
+    refused("11 before 31", asked_held(3, 8, 0, 8, 16, 0, sizeof ranks, 8), PJ_REFUSED_KNOWN, 0);
+    refused("31 before 12", asked_held(3, 0, 0, 8, 15, 0, sizeof ranks, 8), PJ_REFUSED_HELD, 0);
     refused("12: a make table of 15 bytes", asked(3, 0, 0, 15, 0, sizeof ranks, 8), PJ_REFUSED_GOAL, 0);
     refused("12: five learn tables", asked(3, 0, 0, 16, 5 * PJ_TABLE, sizeof ranks, 8), PJ_REFUSED_GOAL, 0);
     make[1] = 1;
@@ -306,6 +324,15 @@ int main(void) {
     denied("18: a look at what is known", checked(wrong, 8), 2, PJ_SECOND_KNOWN_SETTING);
     static const pj_u8 guess[2] = {PJ_ACT(PJ_SET_TRUE, 0, 1), 0};
     denied("18: a set whose rule nobody knows to hold", checked(guess, 2), 0, PJ_SECOND_NOT_KNOWN);
+    denied("18: a set of a held setting", checked_held(4, steps, 8), 4, PJ_SECOND_HELD_SETTING);
+    denied("held before not known", checked_held(1, guess, 2), 0, PJ_SECOND_HELD_SETTING);
+    wrong[2] = PJ_ACT(PJ_SET_TRUE, 1, 1);
+    denied("held before surely false", checked_held(2, wrong, 8), 2, PJ_SECOND_HELD_SETTING);
+    test("a look at a held setting is as before", pj_number(checked_held(4, steps, 8)) == 18 && checked(steps, 8) == 0);
+    test("where c is held b can't be made, nor by the second finder",
+         asked_held(3, 0, 0, 4, 16, 0, sizeof ranks, 8) == 0 &&
+             pj_find_plain(book, sizeof book, 3, 0, 0, 4, make, sizeof make, 0, 0) == 0);
+    test("where c is held and known to be false it can", pj_height(asked_held(3, 4, 0, 4, 16, 0, sizeof ranks, 8)) == 2);
     wrong[2] = 0;
     refused("19: a stop before the goal", checked(wrong, 8), PJ_REFUSED_NOT_SETTLED, 2);
     refused("20: seven bytes of eight", checked(steps, 7), PJ_REFUSED_TOO_SOON, 7);
@@ -329,7 +356,7 @@ int main(void) {
     salvages();
 
     int count = 0;
-    for (int i = 1; i < 31; i++) count += seen[i];
+    for (int i = 1; i < 32; i++) count += seen[i];
     test("all 30 were given", count == 30);
     return closing();
 }

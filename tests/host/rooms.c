@@ -15,7 +15,7 @@ static pj_u8 rights[PJ_RIGHTS_MOST], book[PJ_BOOK_MOST], ranks[PJ_RANKS_MOST], p
 static pj_u8 text[PJ_TEXT_MOST + 1], room[PJ_BOOK_MOST + 1], others[PJ_RANKS_MOST], out[PJ_ASK_MOST], all[PJ_ASK_MOST];
 
 static pj_u64 find(pj_u64 n, pj_u64 ranks_length, pj_u64 plan_length) {
-    return pj_find(book, PJ_BOOK_ROOM(n), 1, 0, 0, make, PJ_TABLE, 0, 0, ranks, ranks_length, plan, plan_length);
+    return pj_find(book, PJ_BOOK_ROOM(n), 1, 0, 0, 0, make, PJ_TABLE, 0, 0, ranks, ranks_length, plan, plan_length);
 }
 
 // The book of greatest rank with n settings, its rights, its ranks and its plan, into rooms of exactly the sizes that are
@@ -122,7 +122,7 @@ static int shift_of_a_million(void) {
 
 static pj_u64 checked(pj_u64 learn_length, pj_u64 plan_length) {
     static const pj_u8 learn[5 * PJ_TABLE] = {0};
-    return pj_plan_check(book, PJ_BOOK_ROOM(1), 1, 0, 0, make, PJ_TABLE, learn, learn_length, plan, plan_length);
+    return pj_plan_check(book, PJ_BOOK_ROOM(1), 1, 0, 0, 0, make, PJ_TABLE, learn, learn_length, plan, plan_length);
 }
 
 // Null for each slice of each function, with the length 0: what is due to an empty one is answered.
@@ -137,17 +137,17 @@ static int null_for_empty(void) {
     if (pj_number(pj_book_write(n, 1, rights, PJ_TABLES, 0, 0)) != PJ_REFUSED_ROOM) return 0;
     if (pj_number(pj_book_salvage(0, 0, room, b)) != PJ_REFUSED_BOOK_LENGTH) return 0;
     if (pj_number(pj_book_salvage(book, b, 0, 0)) != PJ_REFUSED_ROOM) return 0;
-    if (pj_number(pj_find(0, 0, 1, 0, 0, make, 16, 0, 0, ranks, r, plan, 6)) != PJ_REFUSED_BOOK_LENGTH) return 0;
-    if (pj_number(pj_find(book, b, 1, 0, 0, 0, 0, 0, 0, ranks, r, plan, 6)) != PJ_REFUSED_GOAL) return 0;
-    if (pj_height(pj_find(book, b, 1, 0, 0, make, 16, 0, 0, ranks, r, plan, 6)) != 2) return 0;
-    if (pj_number(pj_find(book, b, 1, 0, 0, make, 16, 0, 0, 0, 0, plan, 6)) != PJ_REFUSED_RANK_ROOM) return 0;
-    if (pj_number(pj_find(book, b, 1, 0, 0, make, 16, 0, 0, ranks, r, 0, 0)) != PJ_REFUSED_PLAN_ROOM) return 0;
-    if (pj_number(pj_find_plain(0, 0, 1, 0, 0, make, 16, 0, 0)) != PJ_REFUSED_BOOK_LENGTH) return 0;
-    if (pj_number(pj_find_plain(book, b, 1, 0, 0, 0, 0, 0, 0)) != PJ_REFUSED_GOAL) return 0;
-    if (pj_find_plain(book, b, 1, 0, 0, make, 16, 0, 0) != 2 + 1) return 0;
-    if (pj_number(pj_plan_check(0, 0, 1, 0, 0, make, 16, 0, 0, plan, 1)) != PJ_REFUSED_BOOK_LENGTH) return 0;
-    if (pj_number(pj_plan_check(book, b, 1, 0, 0, 0, 0, 0, 0, plan, 1)) != PJ_REFUSED_GOAL) return 0;
-    if (pj_number(pj_plan_check(book, b, 1, 0, 0, make, 16, 0, 0, 0, 0)) != PJ_REFUSED_TOO_SOON) return 0;
+    if (pj_number(pj_find(0, 0, 1, 0, 0, 0, make, 16, 0, 0, ranks, r, plan, 6)) != PJ_REFUSED_BOOK_LENGTH) return 0;
+    if (pj_number(pj_find(book, b, 1, 0, 0, 0, 0, 0, 0, 0, ranks, r, plan, 6)) != PJ_REFUSED_GOAL) return 0;
+    if (pj_height(pj_find(book, b, 1, 0, 0, 0, make, 16, 0, 0, ranks, r, plan, 6)) != 2) return 0;
+    if (pj_number(pj_find(book, b, 1, 0, 0, 0, make, 16, 0, 0, 0, 0, plan, 6)) != PJ_REFUSED_RANK_ROOM) return 0;
+    if (pj_number(pj_find(book, b, 1, 0, 0, 0, make, 16, 0, 0, ranks, r, 0, 0)) != PJ_REFUSED_PLAN_ROOM) return 0;
+    if (pj_number(pj_find_plain(0, 0, 1, 0, 0, 0, make, 16, 0, 0)) != PJ_REFUSED_BOOK_LENGTH) return 0;
+    if (pj_number(pj_find_plain(book, b, 1, 0, 0, 0, 0, 0, 0, 0)) != PJ_REFUSED_GOAL) return 0;
+    if (pj_find_plain(book, b, 1, 0, 0, 0, make, 16, 0, 0) != 2 + 1) return 0;
+    if (pj_number(pj_plan_check(0, 0, 1, 0, 0, 0, make, 16, 0, 0, plan, 1)) != PJ_REFUSED_BOOK_LENGTH) return 0;
+    if (pj_number(pj_plan_check(book, b, 1, 0, 0, 0, 0, 0, 0, 0, plan, 1)) != PJ_REFUSED_GOAL) return 0;
+    if (pj_number(pj_plan_check(book, b, 1, 0, 0, 0, make, 16, 0, 0, 0, 0)) != PJ_REFUSED_TOO_SOON) return 0;
     if (pj_sheet(0, 0, out, sizeof out) != 13 || !same_text(out, "refused 22 1\n")) return 0;
     if (pj_sheet(0, 0, 0, 0) != 13) return 0;
 
@@ -176,9 +176,10 @@ static int any_address(void) {
         pj_u8 *at = memory + offset, *r = at, *b = at + 1001, *k = at + 4001, *p = at + 5001, *t = at + 6001;
         if (p6_rights(r) != 0 || formula(3, "b", t) != 0) return 0;
         if (pj_book_write(3, 2, r, PJ_RIGHTS_ROOM(3), b, PJ_BOOK_ROOM(3)) != 0) return 0;
-        pj_u64 found = pj_find(b, PJ_BOOK_ROOM(3), 3, 0, 0, t, PJ_TABLE, 0, 0, k, PJ_RANKS_ROOM(3), p, PJ_PLAN_ROOM(3));
+        pj_u64 found =
+            pj_find(b, PJ_BOOK_ROOM(3), 3, 0, 0, 0, t, PJ_TABLE, 0, 0, k, PJ_RANKS_ROOM(3), p, PJ_PLAN_ROOM(3));
         if (pj_height(found) != 4 || pj_length(found) != 8) return 0;
-        if (pj_plan_check(b, PJ_BOOK_ROOM(3), 3, 0, 0, t, PJ_TABLE, 0, 0, p, 8) != 0) return 0;
+        if (pj_plan_check(b, PJ_BOOK_ROOM(3), 3, 0, 0, 0, t, PJ_TABLE, 0, 0, p, 8) != 0) return 0;
         pj_u8 *rules_at = at + 7001, *question_at = at + 8001, *made = at + 9001, *o = at + 12001;
         for (pj_u64 i = 0; i < sizeof rules - 1; i++) rules_at[i] = (pj_u8)rules[i];
         for (pj_u64 i = 0; i < sizeof question - 1; i++) question_at[i] = (pj_u8)question[i];
@@ -212,10 +213,10 @@ static void *ask(void *given) {
         fill(own->ranks, sizeof own->ranks, 170);
         climb_rights(own->n, own->rights, own->make);
         pj_u64 wrote = pj_book_write(n, 1, own->rights, PJ_RIGHTS_ROOM(n), own->book, sizeof own->book);
-        pj_u64 found = pj_find(own->book, PJ_BOOK_ROOM(n), 1, 0, 0, own->make, PJ_TABLE, 0, 0, own->ranks,
+        pj_u64 found = pj_find(own->book, PJ_BOOK_ROOM(n), 1, 0, 0, 0, own->make, PJ_TABLE, 0, 0, own->ranks,
                                PJ_RANKS_ROOM(n), own->plan, PJ_PLAN_ROOM(n));
         if (wrote != 0 || pj_number(found) != 0 || pj_height(found) != (2ULL << n) - 2) own->right = 0;
-        pj_u64 told = pj_plan_check(own->book, PJ_BOOK_ROOM(n), 1, 0, 0, own->make, PJ_TABLE, 0, 0, own->plan,
+        pj_u64 told = pj_plan_check(own->book, PJ_BOOK_ROOM(n), 1, 0, 0, 0, own->make, PJ_TABLE, 0, 0, own->plan,
                                     pj_length(found));
         if (told != 0) own->right = 0;
         pj_u64 t = climb_question(own->n, own->text);

@@ -37,11 +37,11 @@ static void book_read(void) { result = pj_book_read(book, sizeof book, rights, s
 static void book_write(void) { result = pj_book_write(7, 1, rights, sizeof rights, book, sizeof book); }
 static void book_salvage(void) { result = pj_book_salvage(book, sizeof book, out, sizeof book); }
 static void find(void) {
-    result = pj_find(book, sizeof book, 1, 0, 0, make, PJ_TABLE, 0, 0, ranks, sizeof ranks, plan, sizeof plan);
+    result = pj_find(book, sizeof book, 1, 0, 0, 0, make, PJ_TABLE, 0, 0, ranks, sizeof ranks, plan, sizeof plan);
 }
-static void find_plain(void) { result = pj_find_plain(book, sizeof book, 1, 0, 0, make, PJ_TABLE, 0, 0); }
+static void find_plain(void) { result = pj_find_plain(book, sizeof book, 1, 0, 0, 0, make, PJ_TABLE, 0, 0); }
 static void plan_check(void) {
-    result = pj_plan_check(book, sizeof book, 1, 0, 0, make, PJ_TABLE, 0, 0, plan, plan_length);
+    result = pj_plan_check(book, sizeof book, 1, 0, 0, 0, make, PJ_TABLE, 0, 0, plan, plan_length);
 }
 static void sheet_answer(void) { result = pj_sheet(lines, lines_length, out, sizeof out); }
 static void rules_made(void) { result = pj_rules(lines, lines_length, book, sizeof book); }

@@ -82,7 +82,7 @@ int main(void) {
     test("the setter and the night operator reach it in 4 steps", prints(question, answer, 1));
     pj_u8 make[PJ_TABLE];
     formula(4, "d", make);
-    pj_u64 found = pj_find(book, length, 3, 12, 0, make, sizeof make, 0, 0, others, sizeof others, plan, sizeof plan);
+    pj_u64 found = pj_find(book, length, 3, 12, 0, 0, make, sizeof make, 0, 0, others, sizeof others, plan, sizeof plan);
     test("which pj_find says too", pj_height(found) == 4);
     test("the ranks are those that it leaves", same(ranks, others, sizeof others));
     test("the lines are those of its plan's bytes", lines_are(plan, pj_length(found)));

@@ -1,4 +1,4 @@
--- The page in full strength: each answer of `find` exactly where it is due, for any room; the refusals 6 to 13 exactly; what a yes of the plan check
+-- The page in full strength: each answer of `find` exactly where it is due, for any room; the refusals 6 to 13 and 31 exactly; what a yes of the plan check
 -- says of the question, and where it gives 18, with its second number; what is printed for a sheet, in one statement; and the refusals of a sheet exactly, by the grammar. Those of `find` follow from
 -- the contract's uniqueness: the answer that is due is allowed, so it is the one given.
 use mathlib.Core.Path.{_≡_, refl, sym, ap, _∙_, subst}
@@ -9,7 +9,7 @@ use lib.ListN.{length, drop}
 use Rattle.ground.specs.Search.{Least}
 use Rattle.refusal.specs.declared.Refusal.{Refusal}
 use Rattle.refusal.specs.declared.Why.{Why}
-use Rattle.refusal.specs.declared.Why.the-variants.{KnownSetting, SurelyFalse, NotKnown}
+use Rattle.refusal.specs.declared.Why.the-variants.{KnownSetting, SurelyFalse, NotKnown, HeldSetting}
 use Rattle.refusal.specs.declared.Refusal.the-variants.{PlanRoom, NotPermitted, Malformed, Twice, SheetLength, SheetSettings}
 use Rattle.refusal.specs.Refusals.{number, numbers}
 use Rattle.refusal.specs.Order.{First}
@@ -99,7 +99,7 @@ module _ {book : List ℕ} {q : Question} {goal : Goal} {n m : ℕ} (valid : Val
     λ p. is (Refused PlanRoom) plan (refl, p, refl),
   )
 
--- ---- 6 to 13 of `find`, exactly: a refusal that the rows give is given, and leaves both rooms as they were; and one that is given, but for 14, is theirs
+-- ---- 6 to 13 and 31 of `find`, exactly: a refusal that the rows give is given, and leaves both rooms as they were; and one that is given, but for 14, is theirs
 
 module _ (book : List ℕ) (q : Question) (goal : Goal) (ranks plan : List ℕ) (a : Answer) (r x : List ℕ) (finds : Finds book q goal ranks plan a r x) where
   pub rows-given : (w : Refusal) → First (findRows book q goal ranks) w → (a ≡ Refused w) × (r ≡ ranks) × (x ≡ plan)
@@ -128,11 +128,12 @@ pub denied : {book : List ℕ} {q : Question} {goal : Goal} {n m : ℕ} → Vali
     → (r : CheckAnswer) → Checks book q goal plan r → (i : ℕ) (why : Why) → (r ≡ NotAccepted (NotPermitted i why)) ↔ DeniedAt n book q goal plan i why
 denied valid plan short r said i why = denied-exact valid plan r said short i why
 
--- "0 for a look at a known setting, 1 surely false, 2 not known": number, place, and one more than that
+-- "0 for a look at a known setting, 1 surely false, 2 not known", and for a set of a held setting "second number 3": number, place, and one more than that
 pub denied-numbers : (i : ℕ) → (numbers (NotPermitted i KnownSetting) ≡ record { number = 18; place = i; second = 1 + 0 })
     × (numbers (NotPermitted i SurelyFalse) ≡ record { number = 18; place = i; second = 1 + 1 })
     × (numbers (NotPermitted i NotKnown) ≡ record { number = 18; place = i; second = 1 + 2 })
-denied-numbers i = (refl, refl, refl)
+    × (numbers (NotPermitted i HeldSetting) ≡ record { number = 18; place = i; second = 1 + 3 })
+denied-numbers i = (refl, refl, refl, refl)
 
 -- ---- a sheet that is taken asks a question; either a least working plan is printed with its height, or none works and `cannot` is printed
 pub sheet-answered : (s old : List ℕ) (r : ℕ) (new : List ℕ) (sheet : Sheet) → sheetMeaning s ≡ stated sheet → AnswersSheet s old r new

@@ -61,6 +61,7 @@ both-ask r k = record {
   posts = k .posts;
   settings-known = k .settings-known;
   settings-true = k .settings-true;
+  settings-held = k .settings-held;
 }
 
 -- a text of rules that is refused makes no book

@@ -98,6 +98,7 @@ fn show_asked(
         team,
         known: 0,
         values: 0,
+        held: 0,
     };
     let answer = finder::find(book, question, &table, &[], ranks, plan);
     show(name, answer, plan);

@@ -10,9 +10,10 @@ use Rattle.finder_plain.specs.Finds.{FindsPlain}
 use Rattle.finder_plain.specs.declared.finding.PlainAnswer.{PlainAnswer}
 use Rattle.exports.specs.Returned.{findReturned, plainReturned}
 
--- the team has bit q for the post with index q; known bit i for setting i, and values bit i where it is known to be true
-abbrev pub asked : ℕ → ℕ → ℕ → Question
-asked team known values = record { team = team; known = known; values = values }
+-- the team has bit q for the post with index q; known bit i for setting i, values bit i where it is known to be true, and held bit i where no set act may
+-- touch it
+abbrev pub asked : ℕ → ℕ → ℕ → ℕ → Question
+asked team known values held = record { team = team; known = known; values = values; held = held }
 
 -- the result and the rooms after the call, from the rooms before it
 pub record PlanFound (book : List ℕ) (q : Question) (goal : Goal) (ranks plan : List ℕ) (result : ℕ) (ranks′ plan′ : List ℕ) : Type 0 where

@@ -87,18 +87,20 @@ pub extern "C" fn pj_find(
     team: u8,
     known: u8,
     values: u8,
+    held: u8,
     make: &[u8],
     learn: &[u8],
     ranks: &mut [u8],
     plan: &mut [u8],
 ) -> u64
-    ensures { λ r. ⌜ PlanFound (now (book .entry)) (asked team known values) (goalOf (now (make .entry)) (now (learn .entry)))
+    ensures { λ r. ⌜ PlanFound (now (book .entry)) (asked team known values held) (goalOf (now (make .entry)) (now (learn .entry)))
         (now (ranks .entry)) (now (plan .entry)) r (now (ranks .exit)) (now (plan .exit)) ⌝ }
 {
     let question = Question {
         team,
         known,
         values,
+        held,
     };
     match finder::find(book, question, make, learn, ranks, plan) {
         Found::Reach { height, length } => (height as u64) * 65536 + (length as u64) % 65536,
@@ -115,15 +117,17 @@ pub extern "C" fn pj_find_plain(
     team: u8,
     known: u8,
     values: u8,
+    held: u8,
     make: &[u8],
     learn: &[u8],
 ) -> u64
-    ensures { λ r. ⌜ PlainlyFound (now (book .entry)) (asked team known values) (goalOf (now (make .entry)) (now (learn .entry))) r ⌝ }
+    ensures { λ r. ⌜ PlainlyFound (now (book .entry)) (asked team known values held) (goalOf (now (make .entry)) (now (learn .entry))) r ⌝ }
 {
     let question = Question {
         team,
         known,
         values,
+        held,
     };
     match finder_plain::find(book, question, make, learn) {
         PlainAnswer::Reach(height) => height as u64 + 1,
@@ -139,16 +143,18 @@ pub extern "C" fn pj_plan_check(
     team: u8,
     known: u8,
     values: u8,
+    held: u8,
     make: &[u8],
     learn: &[u8],
     plan: &[u8],
 ) -> u64
-    ensures { λ r. ⌜ PlanChecked (now (book .entry)) (asked team known values) (goalOf (now (make .entry)) (now (learn .entry))) (now (plan .entry)) r ⌝ }
+    ensures { λ r. ⌜ PlanChecked (now (book .entry)) (asked team known values held) (goalOf (now (make .entry)) (now (learn .entry))) (now (plan .entry)) r ⌝ }
 {
     let question = Question {
         team,
         known,
         values,
+        held,
     };
     match plancheck::check(book, question, make, learn, plan) {
         CheckAnswer::Yes => 0,

@@ -3,7 +3,7 @@
 use mathlib.Core.Path.{_≡_, sym, ap, _∙_, subst}
 use mathlib.Core.Logic.{inl, inr}
 use mathlib.Core.List.{List}
-use mathlib.Core.Bool.{Bool, true, false, not, _&&_}
+use mathlib.Core.Bool.{Bool, true, false, not, _&&_, cond}
 use Prim.Native.Nat.{ℕ, zero, suc, min, _^_, _≤_, _<_}
 use native.Mathlib.Nat.{min-eq-left}
 use native.Mathlib.Omega.{arith}
@@ -11,7 +11,7 @@ use lib.Dec.{T}
 use lib.ListN.{length}
 use borrow.Author.Tests.{lt-ltb, eq-eqb}
 use Rattle.ground.specs.Digits.{digit, bit}
-use Rattle.ground.proofs.Bools.{T→false, false→T, both, and-true}
+use Rattle.ground.proofs.Bools.{T→false, false→T, both, and-true, and-false}
 use Rattle.ground.proofs.Search.{all-or, all-at}
 use Rattle.ground.proofs.Bits.{bit-of-zero}
 use Rattle.knowledge_acts.specs.Acts.{offered}
@@ -26,7 +26,7 @@ use Rattle.plan.specs.Certificate.{Leads, Certified}
 use Rattle.plan.proofs.Acts.{after-a-set, after-a-look}
 use Rattle.plan.proofs.Certificate.{certified, numbers-closed}
 use Rattle.finder_sides.specs.Sides.{nowSideNumber}
-use Rattle.finder_sides.specs.Tables.{entry, PostTables, Made, Learnt, goalAt}
+use Rattle.finder_sides.specs.Tables.{entry, actingOn, PostTables, Made, Learnt, goalAt}
 use Rattle.finder_sides.proofs.Tables.{post-known, goal-at}
 use Rattle.finder_ranks.specs.Ranks.{rank, May, HasLower, by-set, by-look}
 use Rattle.finder_ranks.specs.Fills.{RankTable, FillsRanks}
@@ -55,20 +55,35 @@ mask-post x h l = elim (all-or 8 (λ q. not (bit x q))) [
     not-not true h = tt
     not-not false h = h
 
+-- ---- who may act on a setting: nobody sets a held one, and all of the team look at any
+
+acting-when : (held known : Bool) (team p : ℕ) → (bit team p && (known && not held)) ≡ (bit (cond held 0 team) p && known)
+acting-when true known team p =
+    ap (λ (x : Bool). bit team p && x) (and-false known) ∙ and-false (bit team p) ∙ sym (ap (λ (x : Bool). x && known) (bit-of-zero p))
+acting-when false known team p = ap (λ (x : Bool). bit team p && x) (and-true known)
+
+acting-set : (team held i p : ℕ) (known : Bool) → (bit team p && (known && not (bit held i))) ≡ (bit (actingOn team held i) p && known)
+unfolding actingOn
+acting-set team held i p known = acting-when (bit held i) known team p
+
+acting-look : (team i p : ℕ) (known : Bool) → (bit team p && (known && true)) ≡ (bit (actingOn team 0 i) p && known)
+unfolding actingOn
+acting-look team i p known = rw (bit-of-zero i) (acting-when false known team p)
+
 -- ---- the tables of a valid question
 
 module _ {book : List ℕ} {q : Question} {goal : Goal} {n m : ℕ} (v : ValidQuestion book q goal n m) {made learnt : List ℕ} {set look : List (List ℕ)}
-    (hs′ : PostTables (min n 7) book (q .team) set-rule set) (hk′ : PostTables (min n 7) book (q .team) look-rule look)
+    (hs′ : PostTables (min n 7) book (actingOn (q .team) (q .held)) set-rule set) (hk′ : PostTables (min n 7) book (actingOn (q .team) 0) look-rule look)
     (hm′ : Made (min n 7) (goal .make) made) (hl′ : Learnt (min n 7) (goal .learn) learnt) where
   -- all its settings count
   counts : min n 7 ≡ n
   counts = min-eq-left (few v)
 
-  hs : PostTables n book (q .team) set-rule set
-  hs = subst (λ (x : ℕ). PostTables x book (q .team) set-rule set) counts hs′
+  hs : PostTables n book (actingOn (q .team) (q .held)) set-rule set
+  hs = subst (λ (x : ℕ). PostTables x book (actingOn (q .team) (q .held)) set-rule set) counts hs′
 
-  hk : PostTables n book (q .team) look-rule look
-  hk = subst (λ (x : ℕ). PostTables x book (q .team) look-rule look) counts hk′
+  hk : PostTables n book (actingOn (q .team) 0) look-rule look
+  hk = subst (λ (x : ℕ). PostTables x book (actingOn (q .team) 0) look-rule look) counts hk′
 
   law : Lawful n (systemOf n book q goal)
   law = lawful v
@@ -81,13 +96,15 @@ module _ {book : List ℕ} {q : Question} {goal : Goal} {n m : ℕ} (v : ValidQu
 
   set-may : (k i p : ℕ) (b : Bool) → i < n → p < 8 → may (systemOf n book q goal) k (Set i p b) ≡ bit (entry set i (nowSideNumber n k)) p
   unfolding systemOf offered
-  set-may k i p b h l = rw (lt-ltb i n h, set-given n book (digit 7 k) i p b) (sym (post-known hs k i p h l))
+  set-may k i p b h l =
+      rw (lt-ltb i n h, set-given n book (q .held) (digit 7 k) i p b)
+      (acting-set (q .team) (q .held) i p (known n (digit 7 k) (rule book i p set-rule)) ∙ sym (post-known hs k i p h l))
 
   look-may : (k i p : ℕ) → i < n → p < 8 → digit 7 k i ≡ 0 → may (systemOf n book q goal) k (Look i p) ≡ bit (entry look i (nowSideNumber n k)) p
   unfolding systemOf offered
   look-may k i p h l z =
-      rw (lt-ltb i n h, look-given n book (digit 7 k) i p, eq-eqb (digit 7 k i) 0 z)
-      (ap (λ (x : Bool). bit (q .team) p && x) (and-true (known n (digit 7 k) (rule book i p look-rule))) ∙ sym (post-known hk k i p h l))
+      rw (lt-ltb i n h, look-given n book (q .held) (digit 7 k) i p, eq-eqb (digit 7 k i) 0 z)
+      (acting-look (q .team) i p (known n (digit 7 k) (rule book i p look-rule)) ∙ sym (post-known hk k i p h l))
 
   set-in : (k i p : ℕ) (b : Bool) → T (may (systemOf n book q goal) k (Set i p b)) → May set n k i
   set-in k i p b t =

@@ -1,4 +1,4 @@
-// From a question to its answer: refusals 6 to 13, then the three steps.
+// From a question to its answer: refusals 6 to 13 and 31, then the three steps.
 use crate::answer::Answer;
 use crate::answer::from_start;
 use book_block::Right;
@@ -32,8 +32,9 @@ fn search(
     requires { ⌜ ((m : ℕ) × ValidQuestion (now book) question (goalOf (now make) (now learn)) n m) × (7 ^ n ≤ size (now ranks)) ⌝ }
     ensures { λ r. ⌜ Answered n (now (book .entry)) question (goalOf (now (make .entry)) (now (learn .entry))) (now (ranks .entry)) (now (plan .entry)) r (now (ranks .exit)) (now (plan .exit)) ⌝ }
 {
-    let set = posts_allowed(book, n, question.team, Right::Set);
-    let look = posts_allowed(book, n, question.team, Right::Look);
+    let set = posts_allowed(book, n, question.team, question.held, Right::Set);
+    // "settings held, which no set act may touch though looks may"
+    let look = posts_allowed(book, n, question.team, 0, Right::Look);
     let done = made(make, n);
     let known = learnt(learn, n);
     fill_ranks(n, &done, &known, &set, &look, ranks);
@@ -41,7 +42,8 @@ fn search(
     from_start(n, &set, &look, ranks, start, plan)
 }
 
-// "Reach" with the least height and its plan, or "cannot"; or the first of refusals 6 to 14.
+// "Reach" with the least height and its plan, or "cannot"; or the first of refusals 6 to 14, with 31
+// between 11 and 12.
 pub fn find(
     book: &[u8],
     question: Question,

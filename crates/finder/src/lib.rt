@@ -1,4 +1,4 @@
-// The finder: a book, a team, what it knows and a goal go in; "reach" with the least height and a
+// The finder: a book, a team, what it knows, what is held and a goal go in; "reach" with the least height and a
 // plan, or "cannot", come out, as `Answer`. A question that is not valid, or a rank table that is too
 // short, is refused, by the first refusal in the written order, and leaves the lent rank table and plan
 // room as they were. A valid question fills the first 7^n bytes of the rank table with the ranks of all

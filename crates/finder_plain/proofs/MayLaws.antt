@@ -1,11 +1,12 @@
 -- What the team may do at a knowledge number, from what the code asked of its state; and a search over the posts.
 use mathlib.Core.Path.{_≡_, sym, ap, _∙_}
-use mathlib.Core.Bool.{Bool, true, false, _&&_}
+use mathlib.Core.Bool.{Bool, true, false, not, _&&_}
 use mathlib.Core.List.{List}
 use Prim.Native.Nat.{ℕ, _+_, _^_, _≤_, _<_}
 use native.Mathlib.Omega.{arith}
 use borrow.Author.Tests.{eq-eqb, ne-eqb}
 use mathlib.Core.Logic.{inl, inr}
+use Rattle.ground.specs.Digits.{bit}
 use Rattle.ground.proofs.Bools.{true→T, both, false→T, lt-or-ge, and-true, and-false}
 use Rattle.book_block.specs.Rule.{rule}
 use Rattle.book_block.specs.declared.rule.Right.the-variants.{Look as look-rule, Set as set-rule}
@@ -29,24 +30,29 @@ pub rule-known : (n : ℕ) (d : ℕ → ℕ) (table : List ℕ) {j k : Judgement
 unfolding known
 rule-known n d table e f = ap holds (sym f ∙ e)
 
-module _ (n : ℕ) (book : List ℕ) (d : ℕ → ℕ) {a : Act} {i q : ℕ} {r : Bool} where
-  pub set-permitted : {b : Bool} → a ≡ Set i q b → r ≡ known n d (rule book i q set-rule) → r ≡ given (permitted n book d a)
-  set-permitted {b} e f = rw e (f ∙ sym (set-given n book d i q b))
+module _ (n : ℕ) (book : List ℕ) (held : ℕ) (d : ℕ → ℕ) {a : Act} {i q : ℕ} {r : Bool} where
+  pub set-permitted : {b : Bool} → a ≡ Set i q b → bit held i ≡ false → r ≡ known n d (rule book i q set-rule) → r ≡ given (permitted n book held d a)
+  set-permitted {b} e free f =
+      rw e (f ∙ sym (and-true _) ∙ ap (λ (h : Bool). known n d (rule book i q set-rule) && not h) (sym free) ∙ sym (set-given n book held d i q b))
 
-  pub look-permitted : a ≡ Look i q → d i ≡ 0 → r ≡ known n d (rule book i q look-rule) → r ≡ given (permitted n book d a)
-  look-permitted e z f = rw e (f ∙ sym (and-true _) ∙ ap (λ (b : Bool). known n d (rule book i q look-rule) && b) (sym (eq-eqb (d i) 0 z)) ∙ sym (look-given n book d i q))
+  pub look-permitted : a ≡ Look i q → d i ≡ 0 → r ≡ known n d (rule book i q look-rule) → r ≡ given (permitted n book held d a)
+  look-permitted e z f = rw e (f ∙ sym (and-true _) ∙ ap (λ (b : Bool). known n d (rule book i q look-rule) && b) (sym (eq-eqb (d i) 0 z)) ∙ sym (look-given n book held d i q))
 
-module _ (n : ℕ) (book : List ℕ) (d : ℕ → ℕ) {a : Act} {i q : ℕ} where
-  pub look-barred : a ≡ Look i q → (d i ≡ 0 → ⊥) → false ≡ given (permitted n book d a)
+module _ (n : ℕ) (book : List ℕ) (held : ℕ) (d : ℕ → ℕ) {a : Act} {i q : ℕ} where
+  pub set-held : {b : Bool} → a ≡ Set i q b → bit held i ≡ true → false ≡ given (permitted n book held d a)
+  set-held {b} e h =
+      rw e (sym (set-given n book held d i q b ∙ ap (λ (x : Bool). known n d (rule book i q set-rule) && not x) h ∙ and-false (known n d (rule book i q set-rule))))
+
+  pub look-barred : a ≡ Look i q → (d i ≡ 0 → ⊥) → false ≡ given (permitted n book held d a)
   look-barred e ne =
-      rw e (sym (look-given n book d i q ∙ ap (λ (b : Bool). known n d (rule book i q look-rule) && b) (ne-eqb (d i) 0 ne) ∙ and-false (known n d (rule book i q look-rule))))
+      rw e (sym (look-given n book held d i q ∙ ap (λ (b : Bool). known n d (rule book i q look-rule) && b) (ne-eqb (d i) 0 ne) ∙ and-false (known n d (rule book i q look-rule))))
 
 -- the state of a number has its digits
-pub at-number : (n : ℕ) (book : List ℕ) (team k : ℕ) (a : Act) {ds : List ℕ} {r : Bool} → k < 7 ^ 7 → ds ≡ digitsOf k
-    → r ≡ (offered n team a && given (permitted n book (digitIn ds) a)) → r ≡ mayDo n book team k a
-at-number n book team k a small state e =
-    e ∙ ap (λ (l : List ℕ). offered n team a && given (permitted n book (digitIn l) a)) state
-    ∙ ap (λ (d : ℕ → ℕ). offered n team a && given (permitted n book d a)) (digits-are k small)
+pub at-number : (n : ℕ) (book : List ℕ) (team held k : ℕ) (a : Act) {ds : List ℕ} {r : Bool} → k < 7 ^ 7 → ds ≡ digitsOf k
+    → r ≡ (offered n team a && given (permitted n book held (digitIn ds) a)) → r ≡ mayDo n book team held k a
+at-number n book team held k a small state e =
+    e ∙ ap (λ (l : List ℕ). offered n team a && given (permitted n book held (digitIn l) a)) state
+    ∙ ap (λ (d : ℕ → ℕ). offered n team a && given (permitted n book held d a)) (digits-are k small)
 
 -- ---- a search over the posts
 

@@ -35,10 +35,10 @@ yes-no e = let z : _≡_ {A = ℕ} 0 1 = cc in absurd (omega arith)
 
 module _ (n : ℕ) (book : List ℕ) (q : Question) (goal : Goal) (k : ℕ) where
   -- what lies ahead by the rules lies ahead in the system
-  pub in-system : (entries : List ℕ) (a : Act) (h : ℕ) {r : Ahead} (s : Ahead) → r ≡ s → Foresees (mayDo n book (q .team) k) entries k a h r
+  pub in-system : (entries : List ℕ) (a : Act) (h : ℕ) {r : Ahead} (s : Ahead) → r ≡ s → Foresees (mayDo n book (q .team) (q .held) k) entries k a h r
       → Foresees (may (systemOf n book q goal) k) entries k a h s
   unfolding systemOf
-  in-system entries a h s e f = subst (Foresees (mayDo n book (q .team) k) entries k a h) e f
+  in-system entries a h s e f = subst (Foresees (mayDo n book (q .team) (q .held) k) entries k a h) e f
 
   pub goal-yes : {r : Bool} → r ≡ goalSettled n goal k → r ≡ true → T (systemOf n book q goal .goal k)
   unfolding systemOf

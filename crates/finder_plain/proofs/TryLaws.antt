@@ -138,12 +138,12 @@ look-opens e f s = record {
 }
 
 -- "look, where .. the digit is 0"
-pub look-known : (n : ℕ) (book : List ℕ) (team : ℕ) {k i h : ℕ} {entries : List ℕ} → (digit 7 k i ≡ 0 → ⊥) → Blocked (mayDo n book team k) entries k (Look i 0) h
-look-known n book team {k} {i} ne = record {
+pub look-known : (n : ℕ) (book : List ℕ) (team held : ℕ) {k i h : ℕ} {entries : List ℕ} → (digit 7 k i ≡ 0 → ⊥) → Blocked (mayDo n book team held k) entries k (Look i 0) h
+look-known n book team held {k} {i} ne = record {
   outcome = λ q t.
-      let g = and-right (offered n team (Look i q)) (given (permitted n book (digit 7 k) (Look i q))) t in
+      let g = and-right (offered n team (Look i q)) (given (permitted n book held (digit 7 k) (Look i q))) t in
       absurd (ne (eqb→eq (digit 7 k i) 0
-      (and-right (known n (digit 7 k) (rule book i q look-rule)) (eqb (digit 7 k i) 0) (rw (look-given n book (digit 7 k) i q) at g))));
+      (and-right (known n (digit 7 k) (rule book i q look-rule)) (eqb (digit 7 k i) 0) (rw (look-given n book held (digit 7 k) i q) at g))));
 }
 
 -- ---- what is asked of a state and a setting
@@ -171,12 +171,12 @@ module _ {n k i : ℕ} {entries : List ℕ} (a : Asks n k i entries) where
   digit-here e f = f ∙ ap (λ (l : List ℕ). digitIn l i) e ∙ digit-in k i (omega (arith, a .few, a .setting))
 
 -- a post that may do it is one of the eight of a byte
-pub post-few : (n : ℕ) (book : List ℕ) (team k : ℕ) (a : Act) (q : ℕ) → team < 256 → T (mayDo n book team k (byPost a q)) → q < 8
+pub post-few : (n : ℕ) (book : List ℕ) (team held k : ℕ) (a : Act) (q : ℕ) → team < 256 → T (mayDo n book team held k (byPost a q)) → q < 8
 unfolding offered
-post-few n book team k (Set i p b) q l t =
-    bits-low 8 team l q (and-right (ltb i n) (bit team q) (and-left (ltb i n && bit team q) (given (permitted n book (digit 7 k) (Set i q b))) t))
-post-few n book team k (Look i p) q l t =
-    bits-low 8 team l q (and-right (ltb i n) (bit team q) (and-left (ltb i n && bit team q) (given (permitted n book (digit 7 k) (Look i q))) t))
+post-few n book team held k (Set i p b) q l t =
+    bits-low 8 team l q (and-right (ltb i n) (bit team q) (and-left (ltb i n && bit team q) (given (permitted n book held (digit 7 k) (Set i q b))) t))
+post-few n book team held k (Look i p) q l t =
+    bits-low 8 team l q (and-right (ltb i n) (bit team q) (and-left (ltb i n && bit team q) (given (permitted n book held (digit 7 k) (Look i q))) t))
 
 -- ---- an act by its case
 

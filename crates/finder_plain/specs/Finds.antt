@@ -1,5 +1,5 @@
 -- What the plain `find` gives: "the same reach or cannot and the same height as the table finder on every valid question". "Its refusals are those
--- through 12. It writes nothing".
+-- through 12", with 31 between 11 and 12. "It writes nothing".
 use mathlib.Core.List.{List}
 use Prim.Native.Nat.{ℕ}
 use Rattle.ground.specs.Search.{Least}
@@ -20,7 +20,7 @@ AnswersPlainly S start (Reach h) = Least (ReachIn S start) h
 AnswersPlainly S start Cannot = CannotFrom S start
 AnswersPlainly S start (Refused r) = ⊥
 
--- a valid question is answered; any other is refused by the first of refusals 6 to 12
+-- a valid question is answered; any other is refused by the first of refusals 6 to 12 and 31
 abbrev pub FindsPlain : List ℕ → Question → Goal → PlainAnswer → Type 0
 FindsPlain book q goal (Reach h) = (n : ℕ) × (m : ℕ) × ValidQuestion book q goal n m × Least (ReachIn (systemOf n book q goal) (startOf q)) h
 FindsPlain book q goal Cannot = (n : ℕ) × (m : ℕ) × ValidQuestion book q goal n m × CannotFrom (systemOf n book q goal) (startOf q)

@@ -25,6 +25,7 @@ fn by_set(
     n: u8,
     book: &[u8],
     team: u8,
+    held: u8,
     k: u32,
     i: u8,
     value: bool,
@@ -32,7 +33,7 @@ fn by_set(
     entries: &[u8; STATES],
 ) -> Ahead
     requires { ⌜ Asks n k i (now entries) ⌝ }
-    ensures { λ r. ⌜ Foresees (mayDo n (now (book .entry)) team k) (now (entries .entry)) k (Set i 0 value) h r ⌝ }
+    ensures { λ r. ⌜ Foresees (mayDo n (now (book .entry)) team held k) (now (entries .entry)) k (Set i 0 value) h r ⌝ }
 {
     let x = set_to(k, i, value);
     if x == k {
@@ -45,6 +46,7 @@ fn by_set(
         n,
         book,
         team,
+        held,
         k,
         Act::Set {
             setting: i,
@@ -58,9 +60,18 @@ fn by_set(
 }
 
 // A look at setting i.
-fn by_look(n: u8, book: &[u8], team: u8, k: u32, i: u8, h: u8, entries: &[u8; STATES]) -> Ahead
+fn by_look(
+    n: u8,
+    book: &[u8],
+    team: u8,
+    held: u8,
+    k: u32,
+    i: u8,
+    h: u8,
+    entries: &[u8; STATES],
+) -> Ahead
     requires { ⌜ Asks n k i (now entries) ⌝ }
-    ensures { λ r. ⌜ Foresees (mayDo n (now (book .entry)) team k) (now (entries .entry)) k (Look i 0) h r ⌝ }
+    ensures { λ r. ⌜ Foresees (mayDo n (now (book .entry)) team held k) (now (entries .entry)) k (Look i 0) h r ⌝ }
 {
     if Knowledge::from_number(k).digit(i) != 0 {
         return Ahead::Nothing;
@@ -77,6 +88,7 @@ fn by_look(n: u8, book: &[u8], team: u8, k: u32, i: u8, h: u8, entries: &[u8; ST
         n,
         book,
         team,
+        held,
         k,
         Act::Look {
             setting: i,
@@ -94,20 +106,21 @@ pub(crate) fn foresee(
     n: u8,
     book: &[u8],
     team: u8,
+    held: u8,
     k: u32,
     act: Act,
     h: u8,
     entries: &[u8; STATES],
 ) -> Ahead
     requires { ⌜ Asks n k (settingOf act) (now entries) ⌝ }
-    ensures { λ r. ⌜ Foresees (mayDo n (now (book .entry)) team k) (now (entries .entry)) k act h r ⌝ }
+    ensures { λ r. ⌜ Foresees (mayDo n (now (book .entry)) team held k) (now (entries .entry)) k act h r ⌝ }
 {
     match act {
         Act::Set {
             setting,
             post: _,
             value,
-        } => by_set(n, book, team, k, setting, value, h, entries),
-        Act::Look { setting, post: _ } => by_look(n, book, team, k, setting, h, entries),
+        } => by_set(n, book, team, held, k, setting, value, h, entries),
+        Act::Look { setting, post: _ } => by_look(n, book, team, held, k, setting, h, entries),
     }
 }

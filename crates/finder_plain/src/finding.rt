@@ -1,4 +1,4 @@
-// From a question to its answer: refusals 6 to 12, then height after height.
+// From a question to its answer: refusals 6 to 12 and 31, then height after height.
 use crate::STATES;
 use crate::gap::has_gap;
 use crate::search::works_below;
@@ -61,7 +61,8 @@ fn first_height(
     PlainAnswer::Cannot
 }
 
-// "Reach" with the least height, or "cannot"; or the first of refusals 6 to 12.
+// "Reach" with the least height, or "cannot"; or the first of refusals 6 to 12, with 31 between 11
+// and 12.
 pub fn find(book: &[u8], question: Question, make: &[u8], learn: &[u8]) -> PlainAnswer
     ensures { λ r. ⌜ FindsPlain (now (book .entry)) question (goalOf (now (make .entry)) (now (learn .entry))) r ⌝ }
 {

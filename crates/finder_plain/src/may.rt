@@ -1,8 +1,9 @@
-// What the team may do at a state, by the judgement of the act's rule there.
+// What the team may do at a state: what is not held, by the judgement of the act's rule there.
 use crate::acts::by_post;
 use book_block::Right;
 use book_block::rule_at;
 use ground::POSTS_MOST;
+use ground::bit_of;
 use knowledge::Judgement;
 use knowledge::Knowledge;
 use knowledge_acts::Act;
@@ -41,17 +42,22 @@ fn holds(state: Knowledge, n: u8, book: &[u8], setting: u8, post: u8, right: Rig
     }
 }
 
-// Whether the book's rules permit the act.
-fn is_permitted(state: Knowledge, n: u8, book: &[u8], act: Act) -> bool
+// Whether the act is permitted, by the held settings and the book's rules.
+fn is_permitted(state: Knowledge, n: u8, book: &[u8], held: u8, act: Act) -> bool
     requires { ⌜ n ≤ 7 ⌝ }
-    ensures { λ r. ⌜ r ≡ given (permitted n (now (book .entry)) (digitIn (state .digits)) act) ⌝ }
+    ensures { λ r. ⌜ r ≡ given (permitted n (now (book .entry)) held (digitIn (state .digits)) act) ⌝ }
 {
     match act {
         Act::Set {
             setting,
             post,
             value: _,
-        } => holds(state, n, book, setting, post, Right::Set),
+        } => {
+            if bit_of(held, setting) {
+                return false;
+            }
+            holds(state, n, book, setting, post, Right::Set)
+        }
         Act::Look { setting, post } => {
             if state.digit(setting) != 0 {
                 return false;
@@ -62,25 +68,25 @@ fn is_permitted(state: Knowledge, n: u8, book: &[u8], act: Act) -> bool
 }
 
 // Whether the act is one of the team's, and permitted.
-fn may_do(state: Knowledge, n: u8, book: &[u8], team: u8, act: Act) -> bool
+fn may_do(state: Knowledge, n: u8, book: &[u8], team: u8, held: u8, act: Act) -> bool
     requires { ⌜ n ≤ 7 ⌝ }
-    ensures { λ r. ⌜ r ≡ (offered n team act && given (permitted n (now (book .entry)) (digitIn (state .digits)) act)) ⌝ }
+    ensures { λ r. ⌜ r ≡ (offered n team act && given (permitted n (now (book .entry)) held (digitIn (state .digits)) act)) ⌝ }
 {
     if !act.offered(n, team) {
         return false;
     }
-    is_permitted(state, n, book, act)
+    is_permitted(state, n, book, held, act)
 }
 
 // Whether some post of the team may do the act at the state k. For this crate alone.
-pub(crate) fn someone_may(n: u8, book: &[u8], team: u8, k: u32, act: Act) -> bool
+pub(crate) fn someone_may(n: u8, book: &[u8], team: u8, held: u8, k: u32, act: Act) -> bool
     requires { ⌜ (n ≤ 7) × (k < 7 ^ 7) ⌝ }
-    ensures { λ r. ⌜ Tells r (Someone (mayDo n (now (book .entry)) team k) act) ⌝ }
+    ensures { λ r. ⌜ Tells r (Someone (mayDo n (now (book .entry)) team held k) act) ⌝ }
 {
     let state = Knowledge::from_number(k);
     let mut q: u8 = 0;
     while q < POSTS {
-        if may_do(state, n, book, team, by_post(act, q)) {
+        if may_do(state, n, book, team, held, by_post(act, q)) {
             return true;
         }
         q += 1;

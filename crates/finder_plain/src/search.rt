@@ -53,7 +53,7 @@ fn works_by(
     requires { ⌜ Searches n (systemOf n (now book) question (goalOf (now make) (now learn))) k (now entries) × (settingOf act < n) ⌝ }
     ensures { λ r. ⌜ SearchedBy n (systemOf n (now (book .entry)) question (goalOf (now (make .entry)) (now (learn .entry)))) k act h (now (entries .entry)) (now (entries .exit)) r ⌝ }
 {
-    match foresee(n, book, question.team, k, act, h, entries) {
+    match foresee(n, book, question.team, question.held, k, act, h, entries) {
         Ahead::Nothing => false,
         Ahead::One(x) => works_below(n, book, question, make, learn, x, h, entries),
         Ahead::Two(no, yes) => {

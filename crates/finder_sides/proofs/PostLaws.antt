@@ -95,36 +95,36 @@ module _ {n team i : ℕ} {book columns t : List ℕ} {right : Right}
   post-row = record { long = filled .long; posts = post-known; bytes = post-byte; past = filled .past }
 
 -- the tables of the first settings, and nothing yet in those after
-pub record RowsTo (n : ℕ) (book : List ℕ) (team : ℕ) (right : Right) (k : ℕ) (t : List (List ℕ)) : Type 0 where
+pub record RowsTo (n : ℕ) (book : List ℕ) (acting : ℕ → ℕ) (right : Right) (k : ℕ) (t : List (List ℕ)) : Type 0 where
   pub settings : length t ≡ 7
-  pub rows : (i : ℕ) → i < k → PostRow n book team right i (getD t i [])
+  pub rows : (i : ℕ) → i < k → PostRow n book (acting i) right i (getD t i [])
   pub blank : (i : ℕ) → k ≤ i → i < 7 → BlankRow (getD t i [])
 
-module _ {n team : ℕ} {book : List ℕ} {right : Right} where
-  pub no-rows : RowsTo n book team right 0 (replicate 7 (zeros 2187))
+module _ {n : ℕ} {acting : ℕ → ℕ} {book : List ℕ} {right : Right} where
+  pub no-rows : RowsTo n book acting right 0 (replicate 7 (zeros 2187))
   no-rows = record {
     settings = length-replicate 7 (zeros 2187);
     rows = λ i h. absurd (omega arith);
     blank = λ i h l. rw (getD-replicate 7 i (zeros 2187) [] l) blank-row;
   }
 
-  pub more-rows : {k : ℕ} (t : List (List ℕ)) (row : List ℕ) → k < 7 → RowsTo n book team right k t → PostRow n book team right k row
-      → RowsTo n book team right (k + 1) (set t k row)
+  pub more-rows : {k : ℕ} (t : List (List ℕ)) (row : List ℕ) → k < 7 → RowsTo n book acting right k t → PostRow n book (acting k) right k row
+      → RowsTo n book acting right (k + 1) (set t k row)
   more-rows {k} t row below r here = record {
     settings = length-set t k row ∙ r .settings;
-    rows = each-more [] (λ i x. PostRow n book team right i x) t k row (omega (arith, r .settings)) (r .rows) here;
+    rows = each-more [] (λ i x. PostRow n book (acting i) right i x) t k row (omega (arith, r .settings)) (r .rows) here;
     blank = λ i h l. rw (getD-set-other t k i row [] (λ q. absurd (omega arith))) (r .blank i (omega arith) l);
   }
 
   -- an entry of the settings past n is 0
-  no-entry : {k : ℕ} (t : List (List ℕ)) → RowsTo n book team right k t → (i s : ℕ) → k ≤ i → entry t i s ≡ 0
+  no-entry : {k : ℕ} (t : List (List ℕ)) → RowsTo n book acting right k t → (i s : ℕ) → k ≤ i → entry t i s ≡ 0
   unfolding entry
   no-entry t r i s h = elim (lt-or-ge i 7) [
     | inl l ↦ r .blank i h l .zero-at s
     | inr l ↦ ap (λ (x : List ℕ). getD x s 0) (List·getD-eq-default t [] (omega (arith, r .settings)))
   ]
 
-  pub all-rows : {k : ℕ} (t : List (List ℕ)) → RowsTo n book team right k t → k ≤ n → n ≤ k → PostTables n book team right t
+  pub all-rows : {k : ℕ} (t : List (List ℕ)) → RowsTo n book acting right k t → k ≤ n → n ≤ k → PostTables n book acting right t
   unfolding entry
   all-rows {k} t r up down = record {
     posts = λ i s q h l m. r .rows i (omega arith) .posts s q l m;

@@ -41,11 +41,11 @@ learnt-settled n learn t table k =
     side-some table (startSideNumber n k) (start-number-lt n k)
     ∙ all-ext (learnCount learn) _ _ (λ j h. settled-start n k (learnTable learn j))
 
--- "by a post of the team", where "its set rule for that post is known to hold", or its look rule
-pub post-known : {n team : ℕ} {book : List ℕ} {right : Right} {t : List (List ℕ)} → PostTables n book team right t → (k i q : ℕ) → i < n → q < 8
-    → bit (entry t i (nowSideNumber n k)) q ≡ (bit team q && known n (digit 7 k) (rule book i q right))
-post-known {n} {team} {book} {right} table k i q h l =
-    table .posts i (nowSideNumber n k) q h (now-number-lt n k) l ∙ ap (λ (x : Bool). bit team q && x) (known-now n k (rule book i q right))
+-- "by a post of the team", of those that may act on the setting, where "its set rule for that post is known to hold", or its look rule
+pub post-known : {n : ℕ} {acting : ℕ → ℕ} {book : List ℕ} {right : Right} {t : List (List ℕ)} → PostTables n book acting right t
+    → (k i q : ℕ) → i < n → q < 8 → bit (entry t i (nowSideNumber n k)) q ≡ (bit (acting i) q && known n (digit 7 k) (rule book i q right))
+post-known {n} {acting} {book} {right} table k i q h l =
+    table .posts i (nowSideNumber n k) q h (now-number-lt n k) l ∙ ap (λ (x : Bool). bit (acting i) q && x) (known-now n k (rule book i q right))
 
 -- "The goal is settled"
 pub goal-at : {n : ℕ} (make learn : List ℕ) {made learnt : List ℕ} → Made n make made → Learnt n learn learnt

@@ -22,7 +22,8 @@ side-table-unique {n} {f} {t} {u} a b =
     ])
 
 -- `posts_allowed`
-module _ {n team : ℕ} {book : List ℕ} {right : Right} {t u : List (List ℕ)} (a : PostTables n book team right t) (b : PostTables n book team right u) where
+module _ {n : ℕ} {acting : ℕ → ℕ} {book : List ℕ} {right : Right} {t u : List (List ℕ)}
+    (a : PostTables n book acting right t) (b : PostTables n book acting right u) where
   same-entry : (i s : ℕ) → entry t i s ≡ entry u i s
   same-entry i s = elim (lt-or-ge i n) [
     | inr h ↦ a .no-setting i s h ∙ sym (b .no-setting i s h)

@@ -2,7 +2,7 @@
 -- judgement (knowledge/specs/Judgement) says at that side.
 use mathlib.Core.Path.{_≡_}
 use mathlib.Core.List.{List, []}
-use mathlib.Core.Bool.{Bool, true, false, not, _&&_}
+use mathlib.Core.Bool.{Bool, true, false, not, _&&_, cond}
 use Prim.Native.Nat.{ℕ, _^_, _≤_, _<_}
 use lib.Dec.{eqb}
 use lib.ListN.{length, getD}
@@ -18,14 +18,18 @@ use Rattle.finder_sides.specs.Sides.{nowSideNumber, startSideNumber}
 unfoldable pub entry : List (List ℕ) → ℕ → ℕ → ℕ
 entry t i s = getD (getD t i []) s 0
 
--- bit q of the entry of setting i and side s: the post q is of the team, and its rule on the setting is known to hold at the side
-abbrev pub Posts : ℕ → List ℕ → ℕ → Right → List (List ℕ) → Type 0
-Posts n book team right t =
-    (i s q : ℕ) → i < n → s < 3 ^ n → q < 8 → bit (entry t i s) q ≡ (bit team q && holds (judgement n (digit 3 s) (rule book i q right)))
+-- the posts of the team that may act on setting i: none where it is held, by bit i of the mask
+unfoldable pub actingOn : ℕ → ℕ → ℕ → ℕ
+actingOn team held i = cond (bit held i) 0 team
+
+-- bit q of the entry of setting i and side s: the post q is of those that may act on the setting, and its rule on it is known to hold at the side
+abbrev pub Posts : ℕ → List ℕ → (ℕ → ℕ) → Right → List (List ℕ) → Type 0
+Posts n book acting right t =
+    (i s q : ℕ) → i < n → s < 3 ^ n → q < 8 → bit (entry t i s) q ≡ (bit (acting i) q && holds (judgement n (digit 3 s) (rule book i q right)))
 
 -- the tables of `posts_allowed`: seven settings of 2187 sides, bytes, and 0 at every setting past n and every side past 3^n
-pub record PostTables (n : ℕ) (book : List ℕ) (team : ℕ) (right : Right) (t : List (List ℕ)) : Type 0 where
-  pub posts : Posts n book team right t
+pub record PostTables (n : ℕ) (book : List ℕ) (acting : ℕ → ℕ) (right : Right) (t : List (List ℕ)) : Type 0 where
+  pub posts : Posts n book acting right t
   pub bytes : (i s : ℕ) → entry t i s < 256
   pub settings : length t ≡ 7
   pub sides : (i : ℕ) → i < 7 → length (getD t i []) ≡ 2187

@@ -24,7 +24,7 @@ use Rattle.question.specs.declared.Question.{Question}
 use Rattle.sheet_words.specs.Words.{member}
 use Rattle.sheet_words.proofs.NameLaws.{with-bit}
 use Rattle.sheet_rules.specs.Rules.{sameRight, concerns, unstated, ruleText}
-use Rattle.sheet_question.specs.Asked.{knownSettings, knownTrue}
+use Rattle.sheet_question.specs.Asked.{knownSettings, knownTrue, heldSettings}
 use Rattle.sheet_question.specs.Desk.{TablesOf}
 use Rattle.sheet_reading.specs.Sheet.{Sheet}
 use Rattle.sheet.specs.Answer.{SheetAsks}
@@ -83,7 +83,12 @@ tables-in n (F ∷ Fs) = table-of n F ++ tables-in n Fs
 -- ---- the question
 
 abbrev pub question-in : Sheet → Question
-question-in s = record { team = mask (s .asked .team); known = mask (knownSettings (s .asked .known)); values = mask (knownTrue (s .asked .known)) }
+question-in s = record {
+  team = mask (s .asked .team);
+  known = mask (knownSettings (s .asked .known));
+  values = mask (knownTrue (s .asked .known));
+  held = mask (heldSettings (s .asked .held));
+}
 
 abbrev pub goal-in : Sheet → Goal
 goal-in s = goalOf (table-of (s .size .settings) (s .asked .make)) (tables-in (s .size .settings) (s .asked .asks))
@@ -116,6 +121,7 @@ tests s R =
     ∷ small (s .asked .team)
     ∷ small (knownSettings (s .asked .known))
     ∷ small (knownTrue (s .asked .known))
+    ∷ small (heldSettings (s .asked .held))
     ∷ []
 
 -- it is the question that the sheet asks (who names it on an `unfolding` line unfolds all of it, so that the test computes)
@@ -169,4 +175,5 @@ asks s h =
       posts = mask-bits (s .asked .team) (pick t 7 h);
       settings-known = mask-bits (knownSettings (s .asked .known)) (pick t 8 h);
       settings-true = mask-bits (knownTrue (s .asked .known)) (pick t 9 h);
+      settings-held = mask-bits (heldSettings (s .asked .held)) (pick t 10 h);
     }

@@ -26,8 +26,8 @@ use Rattle.sheet_rules.specs.Steps.{sizeStep, ruleStep}
 use Rattle.sheet_rules.specs.Steps.{lineStep as rulesLine}
 use Rattle.sheet_rules.specs.Reading.{rulesFrom, sizeFrom, rulesRead}
 use Rattle.sheet_question.specs.Asked.{knownSettings}
-use Rattle.sheet_question.specs.Forms.{nameWords, isNames, isTeam, teamOf, isKnown, knownBy, knownOf}
-use Rattle.sheet_question.specs.LineSteps.{withTeam, withKnown, withMake, withAsk, teamStep, knownStep, makeStep, askStep, lineStep}
+use Rattle.sheet_question.specs.Forms.{nameWords, isNames, isTeam, teamOf, isKnown, knownBy, knownOf, isHeld, heldOf}
+use Rattle.sheet_question.specs.LineSteps.{withTeam, withKnown, withHeld, withMake, withAsk, teamStep, knownStep, heldStep, makeStep, askStep, heldOrMake, lineStep}
 use Rattle.sheet_question.specs.Question.{askedFrom}
 use Rattle.sheet_reading.specs.Sheet.{Sheet}
 use Rattle.sheet_reading.specs.Reading.{Meaning, refused, stated, sheetMeaning}
@@ -85,8 +85,8 @@ unfoldable pub decided : Row → Bool
 unfolding every same reads-so refuses-so formed asks-so search-in shows catches byteOf actOf decimal checkOf sumsAfter added
     isLetter isSign isStray isPast isAtom step verdict sentenceAnswer foreignAnswer formulaAnswer sameRight concerns isStated
     knownSettings onto split begins among isSetting isPost isSize digitAt isRule ruleOf isFalse bare isName allNames indexOf indexes
-    nameWords isNames isTeam teamOf isKnown knownBy knownOf twice unlessRefused isOfRules withRule sizeStep ruleStep rulesLine rulesFrom sizeFrom
-    rulesRead withTeam withKnown withMake withAsk teamStep knownStep makeStep askStep lineStep askedFrom sheetMeaning
+    nameWords isNames isTeam teamOf isKnown knownBy knownOf isHeld heldOf twice unlessRefused isOfRules withRule sizeStep ruleStep rulesLine rulesFrom sizeFrom
+    rulesRead withTeam withKnown withHeld withMake withAsk teamStep knownStep heldStep makeStep askStep heldOrMake lineStep askedFrom sheetMeaning
 decided (reads n s byte) = reads-so n s byte
 decided (refuses n s x p) = refuses-so n s x p
 decided (sums block s t) = two (checkOf (drop 0 block)) s t

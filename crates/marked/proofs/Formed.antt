@@ -7,9 +7,9 @@ use lib.ListN.{length}
 use Rattle.ground.proofs.Bools.{and-left, and-right, eq→eqb, both}
 use Rattle.sheet_words.specs.Words.{newline}
 use Rattle.sheet_rules.specs.Rules.{Rule}
-use Rattle.sheet_question.specs.Asked.{Known}
+use Rattle.sheet_question.specs.Asked.{Known, HeldLine, left-out, holding, heldSettings}
 use Rattle.sheet_reading.specs.Sheet.{Sheet}
-use Rattle.sheet_reading.specs.Grammar.{InLine, RulesFit, PostsFit, KnownFit, AsksFit, WellFormed}
+use Rattle.sheet_reading.specs.Grammar.{InLine, RulesFit, NamesFit, KnownFit, HeldFit, AsksFit, WellFormed}
 use Rattle.marked.proofs.Tests.{every, pick}
 
 unfoldable in-line : List ℕ → Bool
@@ -34,14 +34,14 @@ rules-fit-out n m (r ∷ rs) h =
     let t : List Bool = ltb (r .setting) n ∷ ltb (r .post) m ∷ in-line (r .text) ∷ rules-fit n m rs ∷ [] in
     ((ltb→lt (r .setting) n (pick t 0 h), ltb→lt (r .post) m (pick t 1 h), in-line-out (r .text) (pick t 2 h)), rules-fit-out n m rs (pick t 3 h))
 
-unfoldable posts-fit : ℕ → List ℕ → Bool
-posts-fit m [] = true
-posts-fit m (q ∷ qs) = ltb q m && posts-fit m qs
+unfoldable names-fit : ℕ → List ℕ → Bool
+names-fit m [] = true
+names-fit m (q ∷ qs) = ltb q m && names-fit m qs
 
-posts-fit-out : (m : ℕ) (qs : List ℕ) → T (posts-fit m qs) → PostsFit m qs
-unfolding posts-fit
-posts-fit-out m [] h = tt
-posts-fit-out m (q ∷ qs) h = (ltb→lt q m (and-left (ltb q m) (posts-fit m qs) h), posts-fit-out m qs (and-right (ltb q m) (posts-fit m qs) h))
+names-fit-out : (m : ℕ) (qs : List ℕ) → T (names-fit m qs) → NamesFit m qs
+unfolding names-fit
+names-fit-out m [] h = tt
+names-fit-out m (q ∷ qs) h = (ltb→lt q m (and-left (ltb q m) (names-fit m qs) h), names-fit-out m qs (and-right (ltb q m) (names-fit m qs) h))
 
 unfoldable known-fit : ℕ → List Known → Bool
 known-fit n [] = true
@@ -52,6 +52,10 @@ unfolding known-fit
 known-fit-out n [] h = tt
 known-fit-out n (k ∷ ks) h =
     (ltb→lt (k .setting) n (and-left (ltb (k .setting) n) (known-fit n ks) h), known-fit-out n ks (and-right (ltb (k .setting) n) (known-fit n ks) h))
+
+held-fit-out : (n : ℕ) (x : HeldLine) → T (names-fit n (heldSettings x)) → HeldFit n x
+held-fit-out n left-out h = tt
+held-fit-out n (holding names) h = names-fit-out n names h
 
 unfoldable asks-fit : List (List ℕ) → Bool
 asks-fit [] = true
@@ -70,15 +74,16 @@ tests s =
     ∷ leb (s .size .posts) 8
     ∷ rules-fit (s .size .settings) (s .size .posts) (s .rules)
     ∷ leb 1 (length (s .asked .team))
-    ∷ posts-fit (s .size .posts) (s .asked .team)
+    ∷ names-fit (s .size .posts) (s .asked .team)
     ∷ known-fit (s .size .settings) (s .asked .known)
+    ∷ names-fit (s .size .settings) (heldSettings (s .asked .held))
     ∷ in-line (s .asked .make)
     ∷ asks-fit (s .asked .asks)
     ∷ leb (length (s .asked .asks)) 4
     ∷ []
 
 unfoldable pub formed : Sheet → Bool
-unfolding every in-line rules-fit posts-fit known-fit asks-fit
+unfolding every in-line rules-fit names-fit known-fit asks-fit
 formed s = every (tests s)
 
 pub well-formed : (s : Sheet) → T (formed s) → WellFormed s
@@ -97,10 +102,11 @@ well-formed s h =
       };
       well-asked = record {
         someone = leb→le 1 (length (s .asked .team)) (pick t 5 h);
-        team = posts-fit-out m (s .asked .team) (pick t 6 h);
+        team = names-fit-out m (s .asked .team) (pick t 6 h);
         known = known-fit-out n (s .asked .known) (pick t 7 h);
-        make = in-line-out (s .asked .make) (pick t 8 h);
-        asks = asks-fit-out (s .asked .asks) (pick t 9 h);
-        asks-most = leb→le (length (s .asked .asks)) 4 (pick t 10 h);
+        held = held-fit-out n (s .asked .held) (pick t 8 h);
+        make = in-line-out (s .asked .make) (pick t 9 h);
+        asks = asks-fit-out (s .asked .asks) (pick t 10 h);
+        asks-most = leb→le (length (s .asked .asks)) 4 (pick t 11 h);
       };
     }

@@ -7,6 +7,7 @@ use lib.ListN.{replicate}
 use Rattle.ground.specs.Text.{bytes}
 use Rattle.book_block.specs.declared.rule.Right.the-variants.{Look, Set}
 use Rattle.sheet_rules.specs.Rules.{sizeOf}
+use Rattle.sheet_question.specs.Asked.{left-out}
 use Rattle.sheet_reading.specs.Sheet.{Sheet}
 use Rattle.marked.specs.Row.{Row, rule, reads, refuses, sums, reaches, faults, prints, sheet-reaches, sheet-cannot}
 
@@ -86,7 +87,7 @@ abbrev pub p9-asked : Sheet
 p9-asked = record {
   size = sizeOf 1 1;
   rules = rule Look 0 0 "1" ∷ rule Set 0 0 "1" ∷ [];
-  asked = record { team = 0 ∷ []; known = []; make = bytes "~a"; asks = bytes "a" ∷ [] };
+  asked = record { team = 0 ∷ []; known = []; held = left-out; make = bytes "~a"; asks = bytes "a" ∷ [] };
 }
 
 -- "P9 ..: reach 2, bytes 113, 0, 1, 0"
@@ -105,7 +106,7 @@ abbrev pub p11-asked : Sheet
 p11-asked = record {
   size = sizeOf 2 1;
   rules = rule Set 0 0 "b|~b" ∷ [];
-  asked = record { team = 0 ∷ []; known = []; make = bytes "a"; asks = [] };
+  asked = record { team = 0 ∷ []; known = []; held = left-out; make = bytes "a"; asks = [] };
 }
 
 -- "P11 ..: reach 1, bytes 57, 0"
@@ -120,7 +121,7 @@ abbrev pub p12-asked : Sheet
 p12-asked = record {
   size = sizeOf 2 1;
   rules = [];
-  asked = record { team = 0 ∷ []; known = record { setting = 0; value = false } ∷ []; make = bytes "1"; asks = bytes "a&b" ∷ [] };
+  asked = record { team = 0 ∷ []; known = record { setting = 0; value = false } ∷ []; held = left-out; make = bytes "1"; asks = bytes "a&b" ∷ [] };
 }
 
 -- "P12 ..: reach 0, byte 0"

@@ -1,4 +1,5 @@
--- 18 exactly, with its second number: "0 for a look at a known setting, 1 surely false, 2 not known, judged in that order".
+-- 18 exactly, with its second number: "0 for a look at a known setting, 1 surely false, 2 not known, judged in that order"; and for a set of a held
+-- setting 3, "judged first".
 use mathlib.Core.Path.{_≡_, subst}
 use mathlib.Core.Logic.{_↔_}
 use mathlib.Core.List.{List, [], _∷_, _++_}
@@ -41,7 +42,7 @@ pub record DeniedAt (n : ℕ) (book : List ℕ) (q : Question) (goal : Goal) (pl
   pub act : Act
   pub named : actOf byte ≡ One act
   pub ours : T (offered n (q .team) act)
-  pub why-not : WhyNot n book (digit 7 k) act why
+  pub why-not : WhyNot n book (q .held) (digit 7 k) act why
 
 -- a byte has this fault, and no end has
 at-byte : (S : System) (pending left : List ℕ) (why : Why) → Wrong S pending left (not-permitted why)
@@ -69,7 +70,7 @@ module _ {book : List ℕ} {q : Question} {goal : Goal} {n m : ℕ} (valid : Val
         act = a;
         named = named;
         ours = ours;
-        why-not = why-exactly n book (digit 7 k) a why .0 denied;
+        why-not = why-exactly n book (q .held) (digit 7 k) a why .0 denied;
       }
 
   denied-in : (i : ℕ) (why : Why) → DeniedAt n book q goal plan i why → Faults.First (systemOf n book q goal) (startOf q ∷ []) plan (not-permitted why) i
@@ -82,7 +83,7 @@ module _ {book : List ℕ} {q : Question} {goal : Goal} {n m : ℕ} (valid : Val
     index = d .index;
     reads = d .reads;
     wrong = fault-means (systemOf n book q goal) (d .k) (d .byte) (not-permitted why) .1
-        (d .act, d .named, d .ours, why-exactly n book (digit 7 (d .k)) (d .act) why .1 (d .why-not));
+        (d .act, d .named, d .ours, why-exactly n book (q .held) (digit 7 (d .k)) (d .act) why .1 (d .why-not));
   }
 
   pub denied-exact : (r : CheckAnswer) → Checks book q goal plan r → length plan ≤ 32640

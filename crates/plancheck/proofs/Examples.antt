@@ -42,7 +42,7 @@ is-a = 2 ∷ replicate 15 0
 
 -- post 1 alone, with nothing known
 abbrev pub p9-question : Question
-p9-question = record { team = 1; known = 0; values = 0 }
+p9-question = record { team = 1; known = 0; values = 0; held = 0 }
 
 abbrev pub p9-goal : Goal
 p9-goal = goalOf not-a is-a

@@ -38,10 +38,10 @@ pub look-parts : (k : ℕ) {i q x y : ℕ} {a : Act} → a ≡ Look i q → x �
 look-parts k e f g = rw (e, f, g)
 
 -- an act: what is offered, and what is permitted at the state of k
-pub permits-at : (n : ℕ) (book : List ℕ) (k : ℕ) (a : Act) {ds : List ℕ} {r : Permit} → n ≤ 7 → k < 7 ^ 7 → ds ≡ digitsOf k
-    → r ≡ cond (leb n 7) (permitted n book (digitIn ds) a) (Denied NotKnown) → permitted n book (digit 7 k) a ≡ r
-permits-at n book k a few small e f =
-    ap (λ (d : ℕ → ℕ). permitted n book d a) (sym (digits-are k small)) ∙ ap (λ (l : List ℕ). permitted n book (digitIn l) a) (sym e)
+pub permits-at : (n : ℕ) (book : List ℕ) (held k : ℕ) (a : Act) {ds : List ℕ} {r : Permit} → n ≤ 7 → k < 7 ^ 7 → ds ≡ digitsOf k
+    → r ≡ cond (leb n 7) (permitted n book held (digitIn ds) a) (Denied NotKnown) → permitted n book held (digit 7 k) a ≡ r
+permits-at n book held k a few small e f =
+    ap (λ (d : ℕ → ℕ). permitted n book held d a) (sym (digits-are k small)) ∙ ap (λ (l : List ℕ). permitted n book held (digitIn l) a) (sym e)
     ∙ sym (within-seven n _ _ few) ∙ sym f
 
 pub offered-setting : (n team : ℕ) (a : Act) → offered n team a ≡ true → settingOf a < n
@@ -82,7 +82,7 @@ module _ (n : ℕ) (book : List ℕ) (q : Question) (goal : Goal) (k at byte : �
   byte-nothing ne e f = rw (named ne (sym f ∙ e))
 
   pub byte-act : {x : Named} {a : Act} {r : ByteReading} → (byte ≡ 0 → ⊥) → x ≡ actOf byte → x ≡ One a
-      → r ≡ readingOf at (readAct (offered n (q .team) a) (permitted n book (digit 7 k) a) (outcomes k a))
+      → r ≡ readingOf at (readAct (offered n (q .team) a) (permitted n book (q .held) (digit 7 k) a) (outcomes k a))
       → r ≡ readingOf at (readByte (systemOf n book q goal) k byte)
   unfolding systemOf
   byte-act ne e f g = g ∙ sym (ap (readingOf at) (named ne (sym f ∙ e)))

@@ -7,7 +7,7 @@ use lib.Dec.{eqb}
 use Rattle.refusal.specs.declared.Refusal.{Refusal}
 use Rattle.refusal.specs.declared.Refusal.the-variants.{PlanLength, NoAct, NotPermitted, NotSettled, TooSoon}
 use Rattle.refusal.specs.declared.Why.{Why}
-use Rattle.refusal.specs.declared.Why.the-variants.{KnownSetting, SurelyFalse, NotKnown}
+use Rattle.refusal.specs.declared.Why.the-variants.{KnownSetting, SurelyFalse, NotKnown, HeldSetting}
 use Rattle.refusal.specs.Refusals.{number, place, second}
 use Rattle.plan.specs.Check.{Fault, no-act, not-permitted, not-settled, too-soon, left-over, Verdict, faulty}
 use Rattle.plancheck.specs.Refusals.{refusalOf}
@@ -22,7 +22,7 @@ fault-place left-over i = refl
 -- ---- a fault by its refusal
 
 reason : ℕ → Why
-reason x = cond (eqb x 1) KnownSetting (cond (eqb x 2) SurelyFalse NotKnown)
+reason x = cond (eqb x 1) KnownSetting (cond (eqb x 2) SurelyFalse (cond (eqb x 3) NotKnown HeldSetting))
 
 numbered : ℕ → ℕ → Fault
 numbered x y =
@@ -39,6 +39,7 @@ found-back no-act i = refl
 found-back (not-permitted KnownSetting) i = refl
 found-back (not-permitted SurelyFalse) i = refl
 found-back (not-permitted NotKnown) i = refl
+found-back (not-permitted HeldSetting) i = refl
 found-back not-settled i = refl
 found-back too-soon i = refl
 found-back left-over i = refl

@@ -45,7 +45,7 @@ use Rattle.plancheck.proofs.walk.check.Reads as check-reads
 pub check-unique : (κs : _) (a : _) (x y : _) (s : _) → check-reads.Post κs a x s → check-reads.Post κs a y s → x ≡ y
 check-unique κs a x y s p q = checks-one _ _ _ _ x y p q
 
--- ---- 6 to 12: the question's own, whatever the plan
+-- ---- 6 to 12 and 31: the question's own, whatever the plan
 
 module _ (book : List ℕ) (q : Question) (goal : Goal) (plan : List ℕ) (r : CheckAnswer) (answer : Checks book q goal plan r) where
   -- what the question's rows give is the answer

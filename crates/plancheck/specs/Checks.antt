@@ -22,7 +22,7 @@ use Rattle.plancheck.specs.declared.answer.CheckAnswer.the-variants.{Yes
 unfoldable pub checkRows : List ℕ → Question → Goal → List ℕ → List Row
 checkRows book q goal plan = questionRows book q goal ++ (when (32640 < length plan) PlanLength ∷ [])
 
--- none of refusals 6 to 12 and 16 is given, and the verdict on the plan's bytes is this one
+-- none of refusals 6 to 12, 31 and 16 is given, and the verdict on the plan's bytes is this one
 pub record JudgedAs (book : List ℕ) (q : Question) (goal : Goal) (plan : List ℕ) (verdict : Verdict) : Type 0 where
   pub n : ℕ
   pub m : ℕ

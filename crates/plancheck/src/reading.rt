@@ -48,14 +48,14 @@ fn outcomes_of(k: u32, act: Act) -> ByteReading
 }
 
 // An act: 17 before 18.
-fn read_act(n: u8, book: &[u8], team: u8, k: u32, at: usize, act: Act) -> ByteReading
+fn read_act(n: u8, book: &[u8], team: u8, held: u8, k: u32, at: usize, act: Act) -> ByteReading
     requires { ⌜ (n ≤ 7) × (k < 7 ^ 7) ⌝ }
-    ensures { λ r. ⌜ r ≡ readingOf at (readAct (offered n team act) (permitted n (now (book .entry)) (digit 7 k) act) (outcomes k act)) ⌝ }
+    ensures { λ r. ⌜ r ≡ readingOf at (readAct (offered n team act) (permitted n (now (book .entry)) held (digit 7 k) act) (outcomes k act)) ⌝ }
 {
     if !act.offered(n, team) {
         return ByteReading::Fails(Refusal::NoAct(at));
     }
-    match permits(Knowledge::from_number(k), n, book, act) {
+    match permits(Knowledge::from_number(k), n, book, held, act) {
         Permit::Denied(why) => ByteReading::Fails(Refusal::NotPermitted(at, why)),
         Permit::Given => outcomes_of(k, act),
     }
@@ -84,6 +84,6 @@ pub(crate) fn read_byte(
     }
     match Act::of_byte(byte) {
         Named::Nothing => ByteReading::Fails(Refusal::NoAct(at)),
-        Named::One(act) => read_act(n, book, question.team, k, at, act),
+        Named::One(act) => read_act(n, book, question.team, question.held, k, at, act),
     }
 }

@@ -66,8 +66,8 @@ fn walk(
     standing.ended(at)
 }
 
-// Whether the bytes are those of a plan that works for this question, or the first refusal: 6 to 12,
-// then 16 before any byte is read, then the first fault in reading order.
+// Whether the bytes are those of a plan that works for this question, or the first refusal: 6 to 12
+// with 31 after 11, then 16 before any byte is read, then the first fault in reading order.
 pub fn check(book: &[u8], question: Question, make: &[u8], learn: &[u8], plan: &[u8]) -> CheckAnswer
     ensures { λ r. ⌜ Checks (now (book .entry)) question (goalOf (now (make .entry)) (now (learn .entry))) (now (plan .entry)) r ⌝ }
 {

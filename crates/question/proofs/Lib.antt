@@ -1,5 +1,6 @@
 -- The laws of questions, in this order: what the book's rules permit and why not, the system and the start, a book with rules closed, the tests on a
--- question, its rows; that what `ask` gives is settled, how far the places of its refusals go, and what "cannot" means for a secret.
+-- question, its rows; that what `ask` gives is settled, how far the places of its refusals go, what "cannot" means for a secret; and the same question
+-- with other settings held.
 pub mod PermitLaws
 pub mod WhyLaws
 pub mod SystemLaws
@@ -10,3 +11,4 @@ pub mod AskLaws
 pub mod Unique
 pub mod Places
 pub mod SecretLaws
+pub mod Holding

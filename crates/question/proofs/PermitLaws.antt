@@ -1,13 +1,14 @@
--- What the rules of a book say of an act: it may be done exactly where paper 01 says so, and else the reason is one of three.
+-- What the rules of a book say of an act: it may be done exactly where paper 01 says so, and else the reason is one of four.
 use mathlib.Core.Path.{_≡_, refl, sym, ap, _∙_}
-use mathlib.Core.Bool.{Bool, true, false, _&&_, cond}
+use mathlib.Core.Bool.{Bool, true, false, not, _&&_, cond}
 use mathlib.Core.List.{List}
 use Prim.Native.Nat.{ℕ, _≤_}
 use lib.Dec.{eqb, leb}
 use lib.ListN.{drop}
 use borrow.Author.Tests.{eq-eqb, ne-eqb, le-leb}
+use Rattle.ground.specs.Digits.{bit}
 use Rattle.ground.proofs.Bools.{and-false, and-true}
-use Rattle.refusal.specs.declared.Why.the-variants.{KnownSetting, NotKnown}
+use Rattle.refusal.specs.declared.Why.the-variants.{KnownSetting, NotKnown, HeldSetting}
 use Rattle.book_block.specs.Rule.{rule, rulePlace}
 use Rattle.book_block.specs.declared.rule.Right.{Right}
 use Rattle.book_block.specs.declared.rule.Right.the-variants.{Look as look-rule, Set as set-rule}
@@ -21,7 +22,7 @@ use Rattle.knowledge.proofs.JudgementLaws.{judgement-take}
 use Rattle.plan.specs.Plans.{given}
 use Rattle.plan.specs.declared.Permit.{Permit}
 use Rattle.plan.specs.declared.Permit.the-variants.{Denied}
-use Rattle.question.specs.Permitted.{byRule, byLook, permitted}
+use Rattle.question.specs.Permitted.{byRule, byLook, bySet, permitted}
 
 given-rule : (j : Judgement) → given (byRule j) ≡ holds j
 given-rule TrueAtAll = refl
@@ -32,14 +33,20 @@ given-look : (b : Bool) (said : Permit) → given (byLook b said) ≡ given said
 given-look true said = sym (and-true (given said))
 given-look false said = sym (and-false (given said))
 
-module _ (n : ℕ) (book : List ℕ) (d : ℕ → ℕ) (i q : ℕ) where
-  -- "set a setting false or true, where its set rule for that post is known to hold"
-  pub set-given : (b : Bool) → given (permitted n book d (Set i q b)) ≡ known n d (rule book i q set-rule)
+given-set : (b : Bool) (said : Permit) → given (bySet b said) ≡ given said && not b
+given-set true said = sym (and-false (given said))
+given-set false said = sym (and-true (given said))
+
+module _ (n : ℕ) (book : List ℕ) (held : ℕ) (d : ℕ → ℕ) (i q : ℕ) where
+  -- "set a setting false or true, where its set rule for that post is known to hold", and the setting is not held
+  pub set-given : (b : Bool) → given (permitted n book held d (Set i q b)) ≡ known n d (rule book i q set-rule) && not (bit held i)
   unfolding permitted known
-  set-given b = given-rule (judgement n (nowSide d) (rule book i q set-rule))
+  set-given b =
+      given-set (bit held i) (byRule (judgement n (nowSide d) (rule book i q set-rule)))
+      ∙ ap (λ (b : Bool). b && not (bit held i)) (given-rule (judgement n (nowSide d) (rule book i q set-rule)))
 
   -- "look, where the look rule is known to hold and the digit is 0"
-  pub look-given : given (permitted n book d (Look i q)) ≡ known n d (rule book i q look-rule) && eqb (d i) 0
+  pub look-given : given (permitted n book held d (Look i q)) ≡ known n d (rule book i q look-rule) && eqb (d i) 0
   unfolding permitted known
   look-given =
       given-look (eqb (d i) 0) (byRule (judgement n (nowSide d) (rule book i q look-rule)))
@@ -53,13 +60,17 @@ rule-judged n book d i q right few place e =
     rw (le-leb n 7 few, place) at e ∙ sym (judgement-take n (nowSide d) (drop (rulePlace book i q right) book) few)
 
 -- what `permits` has found, of up to seven settings
-module _ {n : ℕ} (few : n ≤ 7) (book : List ℕ) (d : ℕ → ℕ) (i q : ℕ) where
+module _ {n : ℕ} (few : n ≤ 7) (book : List ℕ) (held : ℕ) (d : ℕ → ℕ) (i q : ℕ) where
   abbrev says : Act → Permit
-  says a = cond (leb n 7) (permitted n book d a) (Denied NotKnown)
+  says a = cond (leb n 7) (permitted n book held d a) (Denied NotKnown)
 
-  pub set-says : (b : Bool) {r : Permit} → r ≡ byRule (judgement n (nowSide d) (rule book i q set-rule)) → r ≡ says (Set i q b)
+  pub set-says : (b : Bool) {r : Permit} → bit held i ≡ false → r ≡ byRule (judgement n (nowSide d) (rule book i q set-rule)) → r ≡ says (Set i q b)
   unfolding permitted
-  set-says b e = rw (le-leb n 7 few) e
+  set-says b free e = rw (le-leb n 7 few, free) e
+
+  pub set-of-held : (b : Bool) → bit held i ≡ true → Denied HeldSetting ≡ says (Set i q b)
+  unfolding permitted
+  set-of-held b on = rw (le-leb n 7 few, on)
 
   pub look-says : {r : Permit} → d i ≡ 0 → r ≡ byRule (judgement n (nowSide d) (rule book i q look-rule)) → r ≡ says (Look i q)
   unfolding permitted

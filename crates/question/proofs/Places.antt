@@ -17,7 +17,7 @@ pub question-places : (book : List ℕ) (q : Question) (goal : Goal) → PlacesB
 unfolding questionRows
 question-places book q goal =
     places-append 9 (bookRows book) (ownRows book q goal) (book-places book)
-    (λ _. ((λ i g. omega arith), λ _. ((λ i g. omega arith), λ _. ((λ i g. omega arith), λ _. tt))))
+    (λ _. ((λ i g. omega arith), λ _. ((λ i g. omega arith), λ _. ((λ i g. omega arith), λ _. ((λ i g. omega arith), λ _. tt)))))
 
 pub question-place-small : (book : List ℕ) (q : Question) (goal : Goal) (r : Refusal) → First (questionRows book q goal) r → place r < 9
 question-place-small book q goal r f = first-place-below 9 (questionRows book q goal) (question-places book q goal) f

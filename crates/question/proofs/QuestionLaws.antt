@@ -1,4 +1,4 @@
--- The tests on a question, against what refusals 10 to 12 deny: by the bits of the masks, and table by table.
+-- The tests on a question, against what refusals 10 to 12 and 31 deny: by the bits of the masks, and table by table.
 use mathlib.Core.Path.{_≡_, sym, ap, _∙_, subst}
 use mathlib.Core.Logic.{inl, inr}
 use mathlib.Core.List.{List}
@@ -19,7 +19,7 @@ use Rattle.ground.proofs.HighBits.{high-bit, shift-none}
 use Rattle.ground.proofs.HighBits as High
 use Rattle.ground.proofs.Table.{truth-take}
 use Rattle.knowledge.specs.Goal.{learnTable}
-use Rattle.question.specs.Rows.{TeamFits, KnownFits, LearnWithin}
+use Rattle.question.specs.Rows.{TeamFits, KnownFits, HeldFits, LearnWithin}
 
 -- a test tells what it is equivalent to
 pub tells-by : {A : Type 0} (t : Bool) → (T t → A) → (A → T t) → Tells t A
@@ -65,6 +65,12 @@ known-tells n known values hk hv z =
     (λ i l. bit-or known values i ∙ T-iff (bit known i || bit values i) (bit known i)
     (λ t. elim (or-out (bit known i) (bit values i) t) [ inl x ↦ x | inr x ↦ f .valued i x ])
     (λ t. or-left (bit known i) (bit values i) t)))
+
+pub held-tells : (n held : ℕ) → held < 256 → Tells (eqb (held / 2 ^ n) 0) (HeldFits n held)
+held-tells n held h =
+    tells-eqb (held / 2 ^ n) 0
+    (λ e. record { settings = bits-low n held (shift-none held n e) })
+    (λ f. div-eq-of-lt (low-bits 8 n held h (f .settings)))
 
 -- ---- tables
 

@@ -3,14 +3,14 @@ use mathlib.Core.Path.{sym, subst}
 use mathlib.Core.List.{List, [], _∷_}
 use Prim.Native.Nat.{ℕ}
 use Rattle.refusal.specs.declared.Refusal.{Refusal}
-use Rattle.refusal.specs.declared.Refusal.the-variants.{Team, Known, Goal as WrongGoal}
+use Rattle.refusal.specs.declared.Refusal.the-variants.{Team, Known, Goal as WrongGoal, Held}
 use Rattle.refusal.specs.Order.{Row, when, First, Clear}
 use Rattle.refusal.proofs.OrderLaws.{first-when, first-past, first-left, first-right, clear-append, clear-past, clear-none}
 use Rattle.book_sound.specs.Sound.{Sound}
 use Rattle.book_sound.specs.Rows.{settingsOf, postsOf, bookRows}
 use Rattle.book_sound.proofs.SoundLaws.{sound-settings, sound-posts, sound-clear}
 use Rattle.knowledge.specs.Goal.{Goal}
-use Rattle.question.specs.Rows.{TeamFits, KnownFits, GoalFits, questionRows}
+use Rattle.question.specs.Rows.{TeamFits, KnownFits, HeldFits, GoalFits, questionRows}
 use Rattle.question.specs.Asks.{ValidQuestion}
 use Rattle.question.specs.declared.Question.{Question}
 
@@ -20,6 +20,7 @@ module _ (book : List ℕ) (q : Question) (goal : Goal) where
   ownRows =
       when (TeamFits (postsOf book) (q .team) → ⊥) Team
       ∷ when (KnownFits (settingsOf book) (q .known) (q .values) → ⊥) Known
+      ∷ when (HeldFits (settingsOf book) (q .held) → ⊥) Held
       ∷ when (GoalFits (settingsOf book) goal → ⊥) WrongGoal
       ∷ []
 
@@ -38,6 +39,9 @@ module _ (book : List ℕ) (q : Question) (goal : Goal) where
     known-in : KnownFits n (q .known) (q .values) → KnownFits (settingsOf book) (q .known) (q .values)
     known-in t = subst (λ (n : ℕ). KnownFits n (q .known) (q .values)) (sym (sound-settings s)) t
 
+    held-in : HeldFits n (q .held) → HeldFits (settingsOf book) (q .held)
+    held-in t = subst (λ (n : ℕ). HeldFits n (q .held)) (sym (sound-settings s)) t
+
     goal-in : GoalFits n goal → GoalFits (settingsOf book) goal
     goal-in t = subst (λ (n : ℕ). GoalFits n goal) (sym (sound-settings s)) t
 
@@ -50,17 +54,26 @@ module _ (book : List ℕ) (q : Question) (goal : Goal) where
           later (first-past (team-in team) (first-when (λ k. f (subst (λ (n : ℕ). KnownFits n (q .known) (q .values)) (sound-settings s) k))))
 
       module _ (known : KnownFits n (q .known) (q .values)) where
-        pub goal-row : (GoalFits n goal → ⊥) → First (questionRows book q goal) WrongGoal
-        goal-row f =
+        pub held-row : (HeldFits n (q .held) → ⊥) → First (questionRows book q goal) Held
+        held-row f =
             later
             (first-past (team-in team)
-            (first-past (known-in known) (first-when (λ h. f (subst (λ (n : ℕ). GoalFits n goal) (sound-settings s) h)))))
+            (first-past (known-in known) (first-when (λ h. f (subst (λ (n : ℕ). HeldFits n (q .held)) (sound-settings s) h)))))
 
-        fits-clear : GoalFits n goal → Clear (questionRows book q goal)
-        unfolding questionRows
-        fits-clear h =
-            clear-append (sound-clear s) (clear-past (team-in team) (clear-past (known-in known) (clear-past (goal-in h) clear-none)))
+        module _ (held : HeldFits n (q .held)) where
+          pub goal-row : (GoalFits n goal → ⊥) → First (questionRows book q goal) WrongGoal
+          goal-row f =
+              later
+              (first-past (team-in team)
+              (first-past (known-in known)
+              (first-past (held-in held) (first-when (λ h. f (subst (λ (n : ℕ). GoalFits n goal) (sound-settings s) h))))))
+
+          pub fits-clear : GoalFits n goal → Clear (questionRows book q goal)
+          unfolding questionRows
+          fits-clear h =
+              clear-append (sound-clear s)
+              (clear-past (team-in team) (clear-past (known-in known) (clear-past (held-in held) (clear-past (goal-in h) clear-none))))
 
 -- a valid question meets none
 pub question-clear : {book : List ℕ} {q : Question} {goal : Goal} {n m : ℕ} → ValidQuestion book q goal n m → Clear (questionRows book q goal)
-question-clear {book} {q} {goal} v = fits-clear book q goal (v .sound) (v .team) (v .known) (v .goal)
+question-clear {book} {q} {goal} v = fits-clear book q goal (v .sound) (v .team) (v .known) (v .held) (v .goal)

@@ -36,14 +36,14 @@ use Rattle.question.proofs.QuestionLaws.{low-bits, bits-low}
 module _ (n : ℕ) (book : List ℕ) (q : Question) (goal : Goal) (byte : q .team < 256) where
   offer : (k : ℕ) (a : Act) → T (may (systemOf n book q goal) k a) → T (ltb (settingOf a) n && bit (q .team) (postOf a))
   unfolding offered systemOf
-  offer k a m = and-left (offered n (q .team) a) (given (permitted n book (digit 7 k) a)) m
+  offer k a m = and-left (offered n (q .team) a) (given (permitted n book (q .held) (digit 7 k) a)) m
 
   digit-nought : (k i p : ℕ) → T (may (systemOf n book q goal) k (Look i p)) → digit 7 k i ≡ 0
   unfolding systemOf
   digit-nought k i p m =
-      let h = and-right (offered n (q .team) (Look i p)) (given (permitted n book (digit 7 k) (Look i p))) m in
+      let h = and-right (offered n (q .team) (Look i p)) (given (permitted n book (q .held) (digit 7 k) (Look i p))) m in
       eqb→eq (digit 7 k i) 0
-      (and-right (known n (digit 7 k) (rule book i p look-rule)) (eqb (digit 7 k i) 0) (rw (look-given n book (digit 7 k) i p) at h))
+      (and-right (known n (digit 7 k) (rule book i p look-rule)) (eqb (digit 7 k i) 0) (rw (look-given n book (q .held) (digit 7 k) i p) at h))
 
   -- whatever the team's byte is
   pub team-lawful : Lawful n (systemOf n book q goal)

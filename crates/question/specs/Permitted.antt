@@ -1,10 +1,11 @@
--- "Acts, by a post of the team": which of them the rules of a book permit, by what the team knows, and why not the others. d i is the digit
--- of setting i (knowledge/specs/Fits).
+-- "Acts, by a post of the team": which of them the rules of a book permit, by what the team knows and which settings are held, and why not the
+-- others. d i is the digit of setting i (knowledge/specs/Fits), and bit i of `held` tells whether it is held.
 use mathlib.Core.Bool.{Bool, true, false}
 use mathlib.Core.List.{List}
 use Prim.Native.Nat.{ℕ}
 use lib.Dec.{eqb}
-use Rattle.refusal.specs.declared.Why.the-variants.{KnownSetting, SurelyFalse, NotKnown}
+use Rattle.ground.specs.Digits.{bit}
+use Rattle.refusal.specs.declared.Why.the-variants.{KnownSetting, SurelyFalse, NotKnown, HeldSetting}
 use Rattle.book_block.specs.Rule.{rule}
 use Rattle.book_block.specs.declared.rule.Right.the-variants.{Look as look-rule, Set as set-rule}
 use Rattle.knowledge_acts.specs.declared.act.Act.{Act}
@@ -27,8 +28,13 @@ abbrev pub byLook : Bool → Permit → Permit
 byLook false said = Denied KnownSetting
 byLook true said = said
 
+-- a set: is its setting held, and else what its rule says; "A plan that sets a held setting gets 18, second number 3, judged first"
+abbrev pub bySet : Bool → Permit → Permit
+bySet true said = Denied HeldSetting
+bySet false said = said
+
 -- "set a setting false or true, where its set rule for that post is known to hold; look, where the look rule is known to hold
--- and the digit is 0"
-unfoldable pub permitted : ℕ → List ℕ → (ℕ → ℕ) → Act → Permit
-permitted n book d (Set i q b) = byRule (judgement n (nowSide d) (rule book i q set-rule))
-permitted n book d (Look i q) = byLook (eqb (d i) 0) (byRule (judgement n (nowSide d) (rule book i q look-rule)))
+-- and the digit is 0". "settings held, which no set act may touch though looks may"
+unfoldable pub permitted : ℕ → List ℕ → ℕ → (ℕ → ℕ) → Act → Permit
+permitted n book held d (Set i q b) = bySet (bit held i) (byRule (judgement n (nowSide d) (rule book i q set-rule)))
+permitted n book held d (Look i q) = byLook (eqb (d i) 0) (byRule (judgement n (nowSide d) (rule book i q look-rule)))

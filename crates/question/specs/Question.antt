@@ -1,4 +1,4 @@
--- A question: "a book of rights: settings, posts, look and set rules, a team, what it knows, and a goal". It fixes the acts that the team may do at
+-- A question: "a book of rights: settings, posts, look and set rules, a team, what it knows, and a goal", and "a third mask: settings held". It fixes the acts that the team may do at
 -- each knowledge number, and the knowledge numbers at which the goal is settled: a system of plans. Here alone a book meets plans.
 use mathlib.Core.Path.{_≡_}
 use mathlib.Core.Bool.{true}
@@ -13,11 +13,11 @@ use Rattle.plan.specs.Plans.{System}
 use Rattle.question.specs.Permitted.{permitted}
 use Rattle.question.specs.declared.Question.{Question}
 
--- the system of a question over n settings: "Acts, by a post of the team", where the book's rules permit them, and the goal
+-- the system of a question over n settings: "Acts, by a post of the team", where the book's rules and the held settings permit them, and the goal
 unfoldable pub systemOf : ℕ → List ℕ → Question → Goal → System
 systemOf n book q goal = record {
   offers = offered n (q .team);
-  permits = λ k a. permitted n book (digit 7 k) a;
+  permits = λ k a. permitted n book (q .held) (digit 7 k) a;
   goal = goalSettled n goal;
 }
 

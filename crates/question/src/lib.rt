@@ -1,5 +1,5 @@
-// A question to the finder or to the plan check: who asks, what they know, the goal, and which of refusals
-// 6 to 12 it meets. Here a book meets plans: its specs say which acts the book's rules permit and which
+// A question to the finder or to the plan check: who asks, what they know, which settings are held, the
+// goal, and which of refusals 6 to 12 and 31 it meets. Here a book meets plans: its specs say which acts the book's rules permit and which
 // system of plans the question fixes. It writes nothing.
 mod permit;
 
@@ -10,18 +10,20 @@ use refusal::Refusal;
 ghost use Prim.Native.Nat.{_≤_};
 ghost use Rattle.ground.specs.Tells.{Tells};
 ghost use Rattle.knowledge.specs.Goal.{goalOf};
-ghost use Rattle.question.specs.Rows.{TeamFits, KnownFits, LearnWithin, GoalFits};
+ghost use Rattle.question.specs.Rows.{TeamFits, KnownFits, HeldFits, LearnWithin, GoalFits};
 ghost use Rattle.question.specs.Asks.{Asks};
 
 // The most learn formulas: "Learn formulas in a goal: 0 to 4".
 const LEARN_MOST: usize = 4;
 
-// Who asks and what they know: bit q of `team` for the post with index q, bit i of `known` for
-// setting i, and bit i of `values` where it is known to be true.
+// Who asks, what they know and what is held: bit q of `team` for the post with index q, bit i of `known`
+// for setting i, bit i of `values` where it is known to be true, and bit i of `held` where no set act may
+// touch it, though looks may.
 pub struct Question {
     pub team: u8,
     pub known: u8,
     pub values: u8,
+    pub held: u8,
 }
 
 // Whether a question is valid.
@@ -52,6 +54,14 @@ fn known_fits(n: u8, known: u8, values: u8) -> bool
         return false;
     }
     known | values == known
+}
+
+// Whether only settings of the n are held.
+fn held_fits(n: u8, held: u8) -> bool
+    requires { ⌜ n ≤ 7 ⌝ }
+    ensures { λ r. ⌜ Tells r (HeldFits n held) ⌝ }
+{
+    held >> n == 0
 }
 
 // Whether the make table and the learn tables are whole and have no bit past 2^n.
@@ -88,7 +98,7 @@ fn learn_within(n: u8, learn: &[u8]) -> bool
     true
 }
 
-// The book's numbers of settings and posts, or the first of refusals 6 to 12.
+// The book's numbers of settings and posts, or the first of refusals 6 to 12, with 31 between 11 and 12.
 pub fn ask(book: &[u8], question: Question, make: &[u8], learn: &[u8]) -> Asked
     ensures { λ r. ⌜ Asks (now (book .entry)) question (goalOf (now (make .entry)) (now (learn .entry))) r ⌝ }
 {
@@ -100,6 +110,9 @@ pub fn ask(book: &[u8], question: Question, make: &[u8], learn: &[u8]) -> Asked
             }
             if !known_fits(settings, question.known, question.values) {
                 return Asked::Not(Refusal::Known);
+            }
+            if !held_fits(settings, question.held) {
+                return Asked::Not(Refusal::Held);
             }
             if !goal_fits(settings, make, learn) {
                 return Asked::Not(Refusal::Goal);

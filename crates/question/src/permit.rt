@@ -1,6 +1,7 @@
-// Whether the rules of a book permit an act where a team knows so much.
+// Whether the rules of a book permit an act where a team knows so much and these settings are held.
 use book_block::Right;
 use book_block::rule_at;
+use ground::bit_of;
 use knowledge::Judgement;
 use knowledge::Knowledge;
 use knowledge_acts::Act;
@@ -38,10 +39,10 @@ fn by_rule(state: Knowledge, n: u8, book: &[u8], setting: u8, post: u8, right: R
     }
 }
 
-// Whether the book's rules permit the act where this is known, and else why not. Of more than seven
-// settings nothing is known.
-pub fn permits(state: Knowledge, n: u8, book: &[u8], act: Act) -> Permit
-    ensures { λ r. ⌜ r ≡ cond (leb n 7) (permitted n (now (book .entry)) (digitIn (state .digits)) act) (Denied NotKnown) ⌝ }
+// Whether the book's rules permit the act where this is known and no held setting may be set, and else
+// why not. Of more than seven settings nothing is known.
+pub fn permits(state: Knowledge, n: u8, book: &[u8], held: u8, act: Act) -> Permit
+    ensures { λ r. ⌜ r ≡ cond (leb n 7) (permitted n (now (book .entry)) held (digitIn (state .digits)) act) (Denied NotKnown) ⌝ }
 {
     if Knowledge::MOST < n as usize {
         return Permit::Denied(Why::NotKnown);
@@ -51,7 +52,12 @@ pub fn permits(state: Knowledge, n: u8, book: &[u8], act: Act) -> Permit
             setting,
             post,
             value: _,
-        } => by_rule(state, n, book, setting, post, Right::Set),
+        } => {
+            if bit_of(held, setting) {
+                return Permit::Denied(Why::HeldSetting);
+            }
+            by_rule(state, n, book, setting, post, Right::Set)
+        }
         Act::Look { setting, post } => {
             if state.digit(setting) != 0 {
                 return Permit::Denied(Why::KnownSetting);

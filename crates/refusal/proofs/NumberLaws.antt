@@ -8,8 +8,8 @@ use Rattle.refusal.specs.declared.Refusal.{Refusal}
 use Rattle.refusal.specs.declared.Refusal.the-variants.{FormulaLength, StrayByte, LetterPast, NotSentence, Settings, BookLength, Check, Head}
 use Rattle.refusal.specs.declared.Refusal.the-variants.{StrayBit, Team, Known, Goal, RankRoom, PlanRoom, Room, PlanLength, NoAct, NotPermitted}
 use Rattle.refusal.specs.declared.Refusal.the-variants.{NotSettled, TooSoon, LeftOver, Malformed, Twice, SheetLength, SheetSettings}
-use Rattle.refusal.specs.declared.Refusal.the-variants.{Shift, NoRecord, NotAllowed, Disagrees, SalvageHead}
-use Rattle.refusal.specs.declared.Why.the-variants.{KnownSetting, SurelyFalse, NotKnown}
+use Rattle.refusal.specs.declared.Refusal.the-variants.{Shift, NoRecord, NotAllowed, Disagrees, SalvageHead, Held}
+use Rattle.refusal.specs.declared.Why.the-variants.{KnownSetting, SurelyFalse, NotKnown, HeldSetting}
 use Rattle.refusal.specs.declared.Numbers.{Numbers}
 use Rattle.refusal.specs.Refusals.{numbers, number, second}
 
@@ -36,6 +36,7 @@ every i =
     ∷ NotPermitted i KnownSetting
     ∷ NotPermitted i SurelyFalse
     ∷ NotPermitted i NotKnown
+    ∷ NotPermitted i HeldSetting
     ∷ NotSettled i
     ∷ TooSoon i
     ∷ LeftOver i
@@ -48,6 +49,7 @@ every i =
     ∷ NotAllowed i
     ∷ Disagrees i
     ∷ SalvageHead
+    ∷ Held
     ∷ []
 
 -- the first of some refusals with this number and second number
@@ -82,6 +84,7 @@ each (NoAct i) = (refl, tt, tt, tt)
 each (NotPermitted i KnownSetting) = (refl, tt, tt, tt)
 each (NotPermitted i SurelyFalse) = (refl, tt, tt, tt)
 each (NotPermitted i NotKnown) = (refl, tt, tt, tt)
+each (NotPermitted i HeldSetting) = (refl, tt, tt, tt)
 each (NotSettled i) = (refl, tt, tt, tt)
 each (TooSoon i) = (refl, tt, tt, tt)
 each (LeftOver i) = (refl, tt, tt, tt)
@@ -94,6 +97,7 @@ each (NoRecord i) = (refl, tt, tt, tt)
 each (NotAllowed i) = (refl, tt, tt, tt)
 each (Disagrees i) = (refl, tt, tt, tt)
 each SalvageHead = (refl, tt, tt, tt)
+each Held = (refl, tt, tt, tt)
 
 pub named-back : (r : Refusal) → named (numbers r) ≡ r
 named-back r = each r .0

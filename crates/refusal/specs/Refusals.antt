@@ -5,16 +5,17 @@ use Rattle.refusal.specs.declared.Refusal.{Refusal}
 use Rattle.refusal.specs.declared.Refusal.the-variants.{FormulaLength, StrayByte, LetterPast, NotSentence, Settings, BookLength, Check, Head}
 use Rattle.refusal.specs.declared.Refusal.the-variants.{StrayBit, Team, Known, Goal, RankRoom, PlanRoom, Room, PlanLength, NoAct, NotPermitted}
 use Rattle.refusal.specs.declared.Refusal.the-variants.{NotSettled, TooSoon, LeftOver, Malformed, Twice, SheetLength, SheetSettings}
-use Rattle.refusal.specs.declared.Refusal.the-variants.{Shift, NoRecord, NotAllowed, Disagrees, SalvageHead}
+use Rattle.refusal.specs.declared.Refusal.the-variants.{Shift, NoRecord, NotAllowed, Disagrees, SalvageHead, Held}
 use Rattle.refusal.specs.declared.Why.{Why}
-use Rattle.refusal.specs.declared.Why.the-variants.{KnownSetting, SurelyFalse, NotKnown}
+use Rattle.refusal.specs.declared.Why.the-variants.{KnownSetting, SurelyFalse, NotKnown, HeldSetting}
 use Rattle.refusal.specs.declared.Numbers.{Numbers}
 
--- "0 for a look at a known setting, 1 surely false, 2 not known"
+-- "0 for a look at a known setting, 1 surely false, 2 not known"; "A plan that sets a held setting gets 18, second number 3"
 abbrev pub secondOf : Why → ℕ
 secondOf KnownSetting = 0
 secondOf SurelyFalse = 1
 secondOf NotKnown = 2
+secondOf HeldSetting = 3
 
 -- "a number and a place", and no second number
 abbrev pub numbered : ℕ → ℕ → Numbers
@@ -56,6 +57,7 @@ numbers (NoRecord index) = numbered 27 index
 numbers (NotAllowed index) = numbered 28 index
 numbers (Disagrees index) = numbered 29 index
 numbers SalvageHead = numbered 30 0
+numbers Held = numbered 31 0
 
 -- the number that a refusal gives
 abbrev pub number : Refusal → ℕ

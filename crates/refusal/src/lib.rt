@@ -5,7 +5,8 @@ ghost use mathlib.Core.Path.{_≡_};
 ghost use Prim.Native.Nat.{suc};
 ghost use Rattle.refusal.specs.Refusals.{secondOf, numbered, seconded, numbers};
 
-// Why an act is not permitted: the second number of 18, in the order in which they are judged.
+// Why an act is not permitted: the second number of 18. A set of a held setting, 3, is judged first, and
+// the others in the order of their numbers.
 pub enum Why {
     // 0: a look at a known setting.
     KnownSetting,
@@ -13,6 +14,8 @@ pub enum Why {
     SurelyFalse,
     // 2: nobody in the team knows whether its rule holds.
     NotKnown,
+    // 3: a set of a held setting.
+    HeldSetting,
 }
 
 impl Why {
@@ -24,6 +27,7 @@ impl Why {
             Why::KnownSetting => 1,
             Why::SurelyFalse => 2,
             Why::NotKnown => 3,
+            Why::HeldSetting => 4,
         }
     }
 }
@@ -90,6 +94,8 @@ pub enum Refusal {
     Disagrees(usize),
     // 30: the head block of a book to be salvaged fails its check, or 8.
     SalvageHead,
+    // 31: a held setting past n.
+    Held,
 }
 
 // The numbers that a refusal gives: "a refusal gives a number and a place", and 18 "carries a second number".
@@ -159,6 +165,7 @@ impl Refusal {
             Refusal::NotAllowed(index) => numbered(28, index),
             Refusal::Disagrees(index) => numbered(29, index),
             Refusal::SalvageHead => numbered(30, 0),
+            Refusal::Held => numbered(31, 0),
         }
     }
 }

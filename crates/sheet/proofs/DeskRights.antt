@@ -97,4 +97,5 @@ module _ {sheet : Sheet} {d : Desk} (h : OnDesk sheet d) where
         posts = h .asked .team;
         settings-known = h .asked .known;
         settings-true = h .asked .values;
+        settings-held = h .asked .held;
       }

@@ -82,7 +82,9 @@ module _ {sheet : Sheet} {R R′ : List ℕ} {q q′ : Question} {goal goal′ :
       let t : q .team ≡ q′ .team = mask-one (q .team) (q′ .team) (λ p. a .posts p ∙ sym (b .posts p)) in
       let k : q .known ≡ q′ .known = mask-one (q .known) (q′ .known) (λ i. a .settings-known i ∙ sym (b .settings-known i)) in
       let v : q .values ≡ q′ .values = mask-one (q .values) (q′ .values) (λ i. a .settings-true i ∙ sym (b .settings-true i)) in
-      let e : _≡_ {A = Question} (record { team = q .team; known = q .known; values = q .values }) (record { team = q′ .team; known = q′ .known; values = q′ .values }) = cc in
+      let o : q .held ≡ q′ .held = mask-one (q .held) (q′ .held) (λ i. a .settings-held i ∙ sym (b .settings-held i)) in
+      let e : _≡_ {A = Question} (record { team = q .team; known = q .known; values = q .values; held = q .held })
+      (record { team = q′ .team; known = q′ .known; values = q′ .values; held = q′ .held }) = cc in
       e
 
   pub same-system : systemOf (sheet .size .settings) (sheetBook sheet R) q goal ≡ systemOf (sheet .size .settings) (sheetBook sheet R′) q′ goal′

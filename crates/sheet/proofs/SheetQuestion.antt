@@ -31,26 +31,26 @@ use Rattle.plan.proofs.Written.{written-works, written-height}
 use Rattle.plan.proofs.Accepted.{written-size}
 use Rattle.knowledge.specs.Goal.{Goal, learnTable}
 use Rattle.question.specs.Question.{systemOf}
-use Rattle.question.specs.Rows.{TeamFits, KnownFits, GoalFits}
+use Rattle.question.specs.Rows.{TeamFits, KnownFits, HeldFits, GoalFits}
 use Rattle.question.specs.Asks.{ValidQuestion}
 use Rattle.question.specs.declared.Question.{Question}
 use Rattle.question.proofs.SystemLaws.{lawful}
 use Rattle.sheet_words.specs.Words.{member}
-use Rattle.sheet_question.specs.Asked.{Known, knownSettings, knownTrue}
+use Rattle.sheet_question.specs.Asked.{Known, HeldLine, left-out, holding, knownSettings, knownTrue, heldSettings}
 use Rattle.sheet_question.specs.Desk.{TablesOf}
 use Rattle.sheet_reading.specs.Sheet.{Sheet}
 use Rattle.ground.proofs.Table.{zero-at, zero-truth}
-use Rattle.sheet_reading.specs.Grammar.{PostsFit, KnownFit, WellFormed}
+use Rattle.sheet_reading.specs.Grammar.{NamesFit, KnownFit, HeldFit, WellFormed}
 use Rattle.sheet.specs.Answer.{SheetAsks, sheetBook}
 
 -- ---- what is named
 
-post-below : (m : ℕ) (ps : List ℕ) (q : ℕ) → PostsFit m ps → T (member q ps) → q < m
+name-below : (m : ℕ) (ps : List ℕ) (q : ℕ) → NamesFit m ps → T (member q ps) → q < m
 unfolding member
-post-below m [] q f t = absurd t
-post-below m (p ∷ ps) q f t = elim (or-out (eqb p q) (member q ps) t) [
+name-below m [] q f t = absurd t
+name-below m (p ∷ ps) q f t = elim (or-out (eqb p q) (member q ps) t) [
   | inl e ↦ (let s : p ≡ q = eqb→eq p q e in omega (arith, f .0))
-  | inr u ↦ post-below m ps q (f .1) u
+  | inr u ↦ name-below m ps q (f .1) u
 ]
 
 setting-below : (n : ℕ) (ks : List Known) (i : ℕ) → KnownFit n ks → T (member i (knownSettings ks)) → i < n
@@ -60,6 +60,11 @@ setting-below n (k ∷ ks) i f t = elim (or-out (eqb (k .setting) i) (member i (
   | inl e ↦ (let s : k .setting ≡ i = eqb→eq (k .setting) i e in omega (arith, f .0))
   | inr u ↦ setting-below n ks i (f .1) u
 ]
+
+held-below : (n : ℕ) (x : HeldLine) (i : ℕ) → HeldFit n x → T (member i (heldSettings x)) → i < n
+unfolding member
+held-below n left-out i f t = absurd t
+held-below n (holding names) i f t = name-below n names i f t
 
 someone-named : (ps : List ℕ) → 1 ≤ length ps → (q : ℕ) × T (member q ps)
 unfolding member
@@ -105,13 +110,18 @@ module _ {sheet : Sheet} {rights : List ℕ} {q : Question} {goal : Goal} (w : W
     someone = λ e.
         let x = someone-named (sheet .asked .team) (w .well-asked .someone) in
         both (bit (q .team) (x .0)) (subst T (sym (a .posts (x .0))) (x .1)) (false→T (ap (λ (t : ℕ). bit t (x .0)) e ∙ bit-of-zero (x .0)));
-    posts = λ p t. post-below (sheet .size .posts) (sheet .asked .team) p (w .well-asked .team) (subst T (a .posts p) t);
+    posts = λ p t. name-below (sheet .size .posts) (sheet .asked .team) p (w .well-asked .team) (subst T (a .posts p) t);
   }
 
   asked-known : KnownFits (sheet .size .settings) (q .known) (q .values)
   asked-known = record {
     settings = λ i t. setting-below (sheet .size .settings) (sheet .asked .known) i (w .well-asked .known) (subst T (a .settings-known i) t);
     valued = λ i t. subst T (sym (a .settings-known i)) (true-known (sheet .asked .known) i (subst T (a .settings-true i) t));
+  }
+
+  asked-held : HeldFits (sheet .size .settings) (q .held)
+  asked-held = record {
+    settings = λ i t. held-below (sheet .size .settings) (sheet .asked .held) i (w .well-asked .held) (subst T (a .settings-held i) t);
   }
 
   asked-goal : GoalFits (sheet .size .settings) goal
@@ -146,7 +156,7 @@ module _ {sheet : Sheet} {rights : List ℕ} {q : Question} {goal : Goal} (w : W
   }
 
   pub asked-valid : ValidQuestion (sheetBook sheet rights) q goal (sheet .size .settings) (sheet .size .posts)
-  asked-valid = record { sound = written-sound asked-writable; team = asked-team; known = asked-known; goal = asked-goal }
+  asked-valid = record { sound = written-sound asked-writable; team = asked-team; known = asked-known; held = asked-held; goal = asked-goal }
 
   pub asked-lawful : Lawful (sheet .size .settings) (systemOf (sheet .size .settings) (sheetBook sheet rights) q goal)
   asked-lawful = lawful asked-valid

@@ -21,7 +21,7 @@ use Rattle.question.specs.Question.{systemOf, startOf}
 use Rattle.question.specs.declared.Question.{Question}
 use Rattle.sheet_words.specs.Words.{member}
 use Rattle.sheet_rules.specs.Rules.{ruleText}
-use Rattle.sheet_question.specs.Asked.{knownSettings, knownTrue}
+use Rattle.sheet_question.specs.Asked.{knownSettings, knownTrue, heldSettings}
 use Rattle.sheet_question.specs.Desk.{TablesOf}
 use Rattle.sheet_reading.specs.Sheet.{Sheet}
 use Rattle.sheet_reading.specs.Reading.{Meaning, refused, stated, sheetMeaning}
@@ -38,6 +38,7 @@ pub record SheetAsks (sheet : Sheet) (rights : List ℕ) (q : Question) (goal : 
   pub posts : (p : ℕ) → bit (q .team) p ≡ member p (sheet .asked .team)
   pub settings-known : (i : ℕ) → bit (q .known) i ≡ member i (knownSettings (sheet .asked .known))
   pub settings-true : (i : ℕ) → bit (q .values) i ≡ member i (knownTrue (sheet .asked .known))
+  pub settings-held : (i : ℕ) → bit (q .held) i ≡ member i (heldSettings (sheet .asked .held))
 
 -- the book of a sheet's size with these rights
 abbrev pub sheetBook : Sheet → List ℕ → List ℕ

@@ -28,7 +28,7 @@ unfoldable pub bookIn : Desk → List ℕ
 bookIn d = bookOf (d .rules .settings) (d .rules .posts) (rightsIn d)
 
 abbrev pub questionIn : Desk → Question
-questionIn d = record { team = d .asked .team; known = d .asked .known; values = d .asked .values }
+questionIn d = record { team = d .asked .team; known = d .asked .known; values = d .asked .values; held = d .asked .held }
 
 abbrev pub goalIn : Desk → Goal
 goalIn d = goalOf (d .asked .make) (learnIn d)

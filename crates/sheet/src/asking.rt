@@ -49,6 +49,7 @@ fn find(desk: Desk, plan: &mut [u8]) -> Answer
         team: asked.team,
         known: asked.known,
         values: asked.values,
+        held: asked.held,
     };
     let make = asked.make;
     let learn = asked.learn;

@@ -14,7 +14,7 @@ use Rattle.ground.proofs.Bools.{or-left, or-right, or-out, both, false→T}
 use Rattle.ground.proofs.Bits.{bit-of-zero}
 use Rattle.book_sound.specs.Sound.{Sound}
 use Rattle.knowledge.specs.Goal.{Goal, goalOf, learnTable}
-use Rattle.question.specs.Rows.{TeamFits, KnownFits, GoalFits}
+use Rattle.question.specs.Rows.{TeamFits, KnownFits, HeldFits, GoalFits}
 use Rattle.question.specs.Asks.{ValidQuestion}
 use Rattle.question.specs.declared.Question.{Question}
 use Rattle.sheet_words.specs.Words.{member}
@@ -76,6 +76,9 @@ module _ {n m : ℕ} {a : Asked} {q : Question} {goal : Goal} (fits : AskedFits 
     valued = λ i t. subst T (sym (x .settings-known i)) (true-known (a .known) i (subst T (x .settings-true i) t));
   }
 
+  asked-held : HeldFits n (q .held)
+  asked-held = record { settings = λ i t. fits .held i (subst T (x .settings-held i) t) }
+
   asked-goal : GoalFits n goal
   asked-goal =
       let size : length (goal .learn) ≡ 16 * length (a .asks) = tables-length n (a .asks) (goal .learn) (x .learnt) in
@@ -88,7 +91,7 @@ module _ {n m : ℕ} {a : Asked} {q : Question} {goal : Goal} (fits : AskedFits 
       }
 
   pub asked-valid : {book : List ℕ} → Sound book n m → ValidQuestion book q goal n m
-  asked-valid s = record { sound = s; team = asked-team; known = asked-known; goal = asked-goal }
+  asked-valid s = record { sound = s; team = asked-team; known = asked-known; held = asked-held; goal = asked-goal }
 
 -- ---- it is one alone
 
@@ -105,11 +108,13 @@ module _ {n : ℕ} {a : Asked} {q q′ : Question} {goal goal′ : Goal} (x : Qu
       let t : q .team ≡ q′ .team = mask-one (q .team) (q′ .team) (λ p. x .posts p ∙ sym (y .posts p)) in
       let k : q .known ≡ q′ .known = mask-one (q .known) (q′ .known) (λ i. x .settings-known i ∙ sym (y .settings-known i)) in
       let v : q .values ≡ q′ .values = mask-one (q .values) (q′ .values) (λ i. x .settings-true i ∙ sym (y .settings-true i)) in
-      let e : _≡_ {A = Question} (record { team = q .team; known = q .known; values = q .values }) (record { team = q′ .team; known = q′ .known; values = q′ .values }) = cc in
+      let o : q .held ≡ q′ .held = mask-one (q .held) (q′ .held) (λ i. x .settings-held i ∙ sym (y .settings-held i)) in
+      let e : _≡_ {A = Question} (record { team = q .team; known = q .known; values = q .values; held = q .held })
+      (record { team = q′ .team; known = q′ .known; values = q′ .values; held = q′ .held }) = cc in
       e
 
 -- ---- the question on the desk
 
 pub desk-asks : {n : ℕ} {a : Asked} {d : AskedDesk} → AskedOnDesk n a d → QuestionAsks n a (questionIn d) (goalIn d)
 unfolding learnIn
-desk-asks h = record { made = h .make; learnt = h .learn; posts = h .team; settings-known = h .known; settings-true = h .values }
+desk-asks h = record { made = h .make; learnt = h .learn; posts = h .team; settings-known = h .known; settings-true = h .values; settings-held = h .held }

@@ -23,7 +23,7 @@ use Rattle.question.specs.Question.{systemOf, startOf}
 use Rattle.question.specs.declared.Question.{Question}
 use Rattle.finder.specs.Finds.{RanksFilled}
 use Rattle.sheet_words.specs.Words.{member}
-use Rattle.sheet_question.specs.Asked.{Asked, knownSettings, knownTrue}
+use Rattle.sheet_question.specs.Asked.{Asked, knownSettings, knownTrue, heldSettings}
 use Rattle.sheet_question.specs.Desk.{TablesOf}
 use Rattle.sheet_question.specs.Question.{QuestionMeaning, refused, asked, questionMeaning}
 
@@ -34,6 +34,7 @@ pub record QuestionAsks (n : ℕ) (a : Asked) (q : Question) (goal : Goal) : Typ
   pub posts : (p : ℕ) → bit (q .team) p ≡ member p (a .team)
   pub settings-known : (i : ℕ) → bit (q .known) i ≡ member i (knownSettings (a .known))
   pub settings-true : (i : ℕ) → bit (q .values) i ≡ member i (knownTrue (a .known))
+  pub settings-held : (i : ℕ) → bit (q .held) i ≡ member i (heldSettings (a .held))
 
 -- the answer to it, with the room for what is printed before and after, and the length of all of it: "reach" with the least height and the plan
 -- written, or "cannot"

@@ -17,7 +17,7 @@ learnIn d = take (16 * d .asks) (d .learn)
 
 -- what is asked on the desk
 abbrev pub questionIn : AskedDesk → Question
-questionIn d = record { team = d .team; known = d .known; values = d .values }
+questionIn d = record { team = d .team; known = d .known; values = d .values; held = d .held }
 
 abbrev pub goalIn : AskedDesk → Goal
 goalIn d = goalOf (d .make) (learnIn d)

@@ -32,6 +32,7 @@ fn find(book: &[u8], asked: AskedDesk, ranks: &mut [u8], plan: &mut [u8]) -> Ans
         team: asked.team,
         known: asked.known,
         values: asked.values,
+        held: asked.held,
     };
     let make = asked.make;
     let learn = asked.learn;

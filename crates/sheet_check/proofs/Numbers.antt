@@ -35,11 +35,12 @@ use Rattle.sheet_words.specs.Words.{split, newline, begins, twice, passedOver}
 use Rattle.sheet_words.specs.Steps.{fault, next, unless, unlessAnswered, unlessRefused, namesStep}
 use Rattle.sheet_rules.proofs.FormulaLaws.{formula-number}
 use Rattle.sheet_question.specs.Asked.{Asked, nothingAsked, knownSettings}
-use Rattle.sheet_question.specs.Forms.{isTeam, teamOf, isKnown, knownOf}
-use Rattle.sheet_question.specs.LineSteps.{AskedStep, withTeam, withKnown, withMake, withAsk, teamStep, knownStep, makeStep, askStep, dueStep, unlessPassed, lineStep}
+use Rattle.sheet_question.specs.Forms.{isTeam, teamOf, isKnown, knownOf, isHeld, heldOf}
+use Rattle.sheet_question.specs.LineSteps.{AskedStep, withTeam, withKnown, withHeld, withMake, withAsk, teamStep, knownStep, heldStep, makeStep, askStep}
+use Rattle.sheet_question.specs.LineSteps.{heldOr, heldOrMake, dueStep, unlessPassed, lineStep}
 use Rattle.sheet_question.specs.Question.{QuestionMeaning, refused, asked, ending, askedFrom, questionMeaning}
 use Rattle.sheet_question.specs.declared.desk.Due.{Due}
-use Rattle.sheet_question.specs.declared.desk.Due.the-variants.{Team, Known, Make, Asks}
+use Rattle.sheet_question.specs.declared.desk.Due.the-variants.{Team, Known, Held, Make, Asks}
 use Rattle.sheet_question.proofs.Fits.{asked-fits}
 use Rattle.sheet_question.proofs.ReadLaws.{after, asked-after, too-long, not-long}
 use Rattle.sheet_ask.proofs.AskedQuestion.{asked-valid}
@@ -85,12 +86,23 @@ own-names L form names later h =
     own-unless form (Malformed L) _ (inr (omega arith, omega arith)) (own-unless (not (twice (λ i. false) names)) (Twice L) later (inr (omega arith, omega arith)) h)
 
 module _ (passes : Bool) (n m : ℕ) where
-  own-due : (L : ℕ) (due : Due) (a : Asked) (line : List ℕ) → OfStep (dueStep n m L due a line)
-  unfolding teamStep knownStep makeStep askStep
-  own-due L Team a line = own-names L (isTeam m line) (teamOf line) (next (Known, withTeam a line)) tt
-  own-due L Known a line = own-names L (isKnown n line) (knownSettings (knownOf line)) (next (Make, withKnown a line)) tt
-  own-due L Make a line =
+  own-held : (b : Bool) (x y : AskedStep) → OfStep x → OfStep y → OfStep (heldOr b x y)
+  own-held true x y h k = h
+  own-held false x y h k = k
+
+  own-make : (L : ℕ) (a : Asked) (line : List ℕ) → OfStep (makeStep n L a line)
+  unfolding makeStep
+  own-make L a line =
       own-unless (begins (bytes "make ") line) (Malformed L) _ (inr (omega arith, omega arith)) (own-refused n (drop 5 line) (next (Asks, withMake a (drop 5 line))) tt)
+
+  own-due : (L : ℕ) (due : Due) (a : Asked) (line : List ℕ) → OfStep (dueStep n m L due a line)
+  unfolding teamStep knownStep heldStep heldOrMake askStep
+  own-due L Team a line = own-names L (isTeam m line) (teamOf line) (next (Known, withTeam a line)) tt
+  own-due L Known a line = own-names L (isKnown n line) (knownSettings (knownOf line)) (next (Held, withKnown a line)) tt
+  own-due L Held a line =
+      own-held (begins (bytes "held") line) _ (makeStep n L a line)
+      (own-names L (isHeld n line) (heldOf line) (next (Make, withHeld a line)) tt) (own-make L a line)
+  own-due L Make a line = own-make L a line
   own-due L Asks a line =
       own-unless (begins (bytes "ask ") line && ltb (length (a .asks)) 4) (Malformed L) _ (inr (omega arith, omega arith))
       (own-refused n (drop 4 line) (next (Asks, withAsk a (drop 4 line))) tt)
@@ -110,6 +122,7 @@ module _ (passes : Bool) (n m : ℕ) where
   own-end : (L : ℕ) (due : Due) (a : Asked) (rest : List ℕ) → OfMeaning (ending due a rest L)
   own-end L Team a rest = inr (omega arith, omega arith)
   own-end L Known a rest = inr (omega arith, omega arith)
+  own-end L Held a rest = inr (omega arith, omega arith)
   own-end L Make a rest = inr (omega arith, omega arith)
   own-end L Asks a [] = tt
   own-end L Asks a (c ∷ rest) = inr (omega arith, omega arith)

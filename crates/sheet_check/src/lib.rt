@@ -42,6 +42,7 @@ fn judge(book: &[u8], asked: AskedDesk, plan: &[u8]) -> CheckAnswer
         team: asked.team,
         known: asked.known,
         values: asked.values,
+        held: asked.held,
     };
     let make = asked.make;
     let learn = asked.learn;

@@ -37,6 +37,7 @@ fn found(book: &[u8], asked: AskedDesk) -> PlainAnswer
         team: asked.team,
         known: asked.known,
         values: asked.values,
+        held: asked.held,
     };
     let make = asked.make;
     let learn = asked.learn;

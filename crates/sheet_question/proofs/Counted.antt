@@ -21,11 +21,12 @@ use Rattle.sheet_words.specs.Words.{split, newline, begins, passedOver, twice}
 use Rattle.sheet_words.specs.Steps.{fault, next, unless, unlessAnswered, unlessRefused, namesStep}
 use Rattle.sheet_words.proofs.Split.{split-length}
 use Rattle.sheet_question.specs.Asked.{Asked, nothingAsked, knownSettings}
-use Rattle.sheet_question.specs.Forms.{isTeam, teamOf, isKnown, knownOf}
-use Rattle.sheet_question.specs.LineSteps.{AskedStep, withTeam, withKnown, withMake, withAsk, teamStep, knownStep, makeStep, askStep, dueStep, unlessPassed, lineStep}
+use Rattle.sheet_question.specs.Forms.{isTeam, teamOf, isKnown, knownOf, isHeld, heldOf}
+use Rattle.sheet_question.specs.LineSteps.{AskedStep, withTeam, withKnown, withHeld, withMake, withAsk, teamStep, knownStep, heldStep, makeStep, askStep}
+use Rattle.sheet_question.specs.LineSteps.{heldOr, heldOrMake, dueStep, unlessPassed, lineStep}
 use Rattle.sheet_question.specs.Question.{QuestionMeaning, refused, asked, ending, askedFrom, questionMeaning}
 use Rattle.sheet_question.specs.declared.desk.Due.{Due}
-use Rattle.sheet_question.specs.declared.desk.Due.the-variants.{Team, Known, Make, Asks}
+use Rattle.sheet_question.specs.declared.desk.Due.the-variants.{Team, Known, Held, Make, Asks}
 use Rattle.sheet_question.proofs.ReadLaws.{after, asked-after, too-long, not-long}
 
 -- ---- counted on
@@ -60,14 +61,26 @@ on-names : (before L : ℕ) (form : Bool) (names : List ℕ) (x y : AskedStep) �
 on-names before L form names x y h =
     on-unless form (Malformed L) (Malformed (before + L)) _ _ refl (on-unless (not (twice (λ i. false) names)) (Twice L) (Twice (before + L)) x y refl h)
 
-on-due : (n m before L : ℕ) (due : Due) (a : Asked) (line : List ℕ) → StepOn (dueStep n m L due a line) (dueStep n m (before + L) due a line)
-unfolding teamStep knownStep makeStep askStep
-on-due n m before L Team a line = on-names before L (isTeam m line) (teamOf line) (next (Known, withTeam a line)) (next (Known, withTeam a line)) (refl, refl)
-on-due n m before L Known a line =
-    on-names before L (isKnown n line) (knownSettings (knownOf line)) (next (Make, withKnown a line)) (next (Make, withKnown a line)) (refl, refl)
-on-due n m before L Make a line =
+on-held : (b : Bool) (x y v w : AskedStep) → StepOn x y → StepOn v w → StepOn (heldOr b x v) (heldOr b y w)
+on-held true x y v w h k = h
+on-held false x y v w h k = k
+
+on-make : (n before L : ℕ) (a : Asked) (line : List ℕ) → StepOn (makeStep n L a line) (makeStep n (before + L) a line)
+unfolding makeStep
+on-make n before L a line =
     on-unless (begins (bytes "make ") line) (Malformed L) (Malformed (before + L)) _ _ refl
     (on-refused n (drop 5 line) (next (Asks, withMake a (drop 5 line))) (next (Asks, withMake a (drop 5 line))) (refl, refl))
+
+on-due : (n m before L : ℕ) (due : Due) (a : Asked) (line : List ℕ) → StepOn (dueStep n m L due a line) (dueStep n m (before + L) due a line)
+unfolding teamStep knownStep heldStep heldOrMake askStep
+on-due n m before L Team a line = on-names before L (isTeam m line) (teamOf line) (next (Known, withTeam a line)) (next (Known, withTeam a line)) (refl, refl)
+on-due n m before L Known a line =
+    on-names before L (isKnown n line) (knownSettings (knownOf line)) (next (Held, withKnown a line)) (next (Held, withKnown a line)) (refl, refl)
+on-due n m before L Held a line =
+    on-held (begins (bytes "held") line) _ _ (makeStep n L a line) (makeStep n (before + L) a line)
+    (on-names before L (isHeld n line) (heldOf line) (next (Make, withHeld a line)) (next (Make, withHeld a line)) (refl, refl))
+    (on-make n before L a line)
+on-due n m before L Make a line = on-make n before L a line
 on-due n m before L Asks a line =
     on-unless (begins (bytes "ask ") line && ltb (length (a .asks)) 4) (Malformed L) (Malformed (before + L)) _ _ refl
     (on-refused n (drop 4 line) (next (Asks, withAsk a (drop 4 line))) (next (Asks, withAsk a (drop 4 line))) (refl, refl))
@@ -83,6 +96,7 @@ on-line passes n m before L due a line = by-passed (passes && passedOver line)
 on-end : (before L : ℕ) (due : Due) (a : Asked) (rest : List ℕ) → CountedOn before (ending due a rest L) (ending due a rest (before + L))
 on-end before L Team a rest = (refl, refl)
 on-end before L Known a rest = (refl, refl)
+on-end before L Held a rest = (refl, refl)
 on-end before L Make a rest = (refl, refl)
 on-end before L Asks a [] = refl
 on-end before L Asks a (c ∷ rest) = (refl, refl)
@@ -118,6 +132,7 @@ module _ (passes : Bool) (n m : ℕ) where
   end-most : (L : ℕ) (due : Due) (a : Asked) (rest : List ℕ) → LineMost (L + 1) (ending due a rest L)
   end-most L Team a rest = omega arith
   end-most L Known a rest = omega arith
+  end-most L Held a rest = omega arith
   end-most L Make a rest = omega arith
   end-most L Asks a [] = tt
   end-most L Asks a (c ∷ rest) = omega arith

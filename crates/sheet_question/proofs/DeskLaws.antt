@@ -1,4 +1,4 @@
--- The desk after the lines `team`, `known`, `make` and `ask`: each changes its own part.
+-- The desk after the lines `team`, `known`, `held`, `make` and `ask`: each changes its own part.
 use mathlib.Core.Path.{_≡_, refl, sym, ap, _∙_, subst}
 use mathlib.Core.Logic.{_⊎_, inl, inr}
 use mathlib.Core.Bool.{Bool, true, false, not, cond}
@@ -12,10 +12,10 @@ use Rattle.formula.specs.Read.{Accepts}
 use Rattle.sheet_words.specs.Words.{member, isFalse, indexOf, indexes, trueIndexes}
 use Rattle.sheet_question.specs.Asked.{Asked, knownSettings, knownTrue}
 use Rattle.sheet_question.specs.Desk.{TablesOf, AskedOnDesk}
-use Rattle.sheet_question.specs.Places.{teamDesk, knownDesk, makeDesk, learnDesk}
+use Rattle.sheet_question.specs.Places.{teamDesk, knownDesk, heldDesk, makeDesk, learnDesk}
 use Rattle.sheet_question.specs.declared.desk.AskedDesk.{AskedDesk}
-use Rattle.sheet_question.specs.Forms.{teamOf, knownBy, knownOf}
-use Rattle.sheet_question.specs.LineSteps.{withTeam, withKnown, withMake, withAsk}
+use Rattle.sheet_question.specs.Forms.{teamOf, knownBy, knownOf, heldOf}
+use Rattle.sheet_question.specs.LineSteps.{withTeam, withKnown, withHeld, withMake, withAsk}
 
 pub getD-sets-other : (l : List ℕ) (i : ℕ) (vs : List ℕ) (j : ℕ) → (j < i) ⊎ (i + length vs ≤ j) → getD (sets l i vs) j 0 ≡ getD l j 0
 getD-sets-other l i [] j h = refl
@@ -49,6 +49,7 @@ module _ (n : ℕ) (a : Asked) (d : AskedDesk) (o : AskedOnDesk n a d) where
     team = m;
     known = o .known;
     values = o .values;
+    held = o .held;
     make = o .make;
     asks = o .asks;
     asks-most = o .asks-most;
@@ -64,6 +65,22 @@ module _ (n : ℕ) (a : Asked) (d : AskedDesk) (o : AskedOnDesk n a d) where
     team = o .team;
     known = m;
     values = v;
+    held = o .held;
+    make = o .make;
+    asks = o .asks;
+    asks-most = o .asks-most;
+    learn-size = o .learn-size;
+    learn = o .learn;
+    learn-rest = o .learn-rest;
+  }
+
+  pub holds-held : (line : List ℕ) (mask : ℕ) → ((i : ℕ) → bit mask i ≡ member i (heldOf line)) → AskedOnDesk n (withHeld a line) (heldDesk d mask)
+  unfolding withHeld
+  holds-held line mask m = record {
+    team = o .team;
+    known = o .known;
+    values = o .values;
+    held = m;
     make = o .make;
     asks = o .asks;
     asks-most = o .asks-most;
@@ -78,6 +95,7 @@ module _ (n : ℕ) (a : Asked) (d : AskedDesk) (o : AskedOnDesk n a d) where
     team = o .team;
     known = o .known;
     values = o .values;
+    held = o .held;
     make = x;
     asks = o .asks;
     asks-most = o .asks-most;
@@ -102,6 +120,7 @@ module _ (n : ℕ) (a : Asked) (d : AskedDesk) (o : AskedOnDesk n a d) where
       team = o .team;
       known = o .known;
       values = o .values;
+      held = o .held;
       make = o .make;
       asks = sym (length-append (a .asks) (F ∷ []) ∙ omega (arith, o .asks));
       asks-most = omega arith;

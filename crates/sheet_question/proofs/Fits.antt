@@ -1,4 +1,5 @@
--- What a question names is there: a post at least, posts of the m alone, settings of the n alone. So refusals 10 to 12 deny nothing of it. Line by line.
+-- What a question names is there: a post at least, posts of the m alone, settings of the n alone. So refusals 10 to 12 and 31 deny nothing of it. Line by
+-- line.
 use mathlib.Core.Path.{_≡_, sym, _∙_, subst}
 use mathlib.Core.Logic.{inl, inr}
 use mathlib.Core.Bool.{Bool, true, false, not, _&&_, _||_}
@@ -18,12 +19,13 @@ use Rattle.sheet_words.specs.Words.{split, newline, space, begins, passedOver, 
 use Rattle.sheet_words.specs.Steps.{fault, next, unless, unlessAnswered, unlessRefused, namesStep}
 use Rattle.sheet_words.proofs.Split.{some-piece}
 use Rattle.sheet_words.proofs.NameForms.{three, bare-word}
-use Rattle.sheet_question.specs.Asked.{Asked, nothingAsked, knownSettings}
-use Rattle.sheet_question.specs.Forms.{nameWords, isNames, isTeam, teamOf, isKnown, knownOf}
-use Rattle.sheet_question.specs.LineSteps.{AskedStep, withTeam, withKnown, withMake, withAsk, teamStep, knownStep, makeStep, askStep, dueStep, unlessPassed, lineStep}
+use Rattle.sheet_question.specs.Asked.{Asked, nothingAsked, knownSettings, heldSettings}
+use Rattle.sheet_question.specs.Forms.{nameWords, isNames, isTeam, teamOf, isKnown, knownOf, isHeld, heldOf}
+use Rattle.sheet_question.specs.LineSteps.{AskedStep, withTeam, withKnown, withHeld, withMake, withAsk, teamStep, knownStep, heldStep, makeStep, askStep}
+use Rattle.sheet_question.specs.LineSteps.{heldOr, heldOrMake, dueStep, unlessPassed, lineStep}
 use Rattle.sheet_question.specs.Question.{QuestionMeaning, refused, asked, ending, askedFrom, questionMeaning}
 use Rattle.sheet_question.specs.declared.desk.Due.{Due}
-use Rattle.sheet_question.specs.declared.desk.Due.the-variants.{Team, Known, Make, Asks}
+use Rattle.sheet_question.specs.declared.desk.Due.the-variants.{Team, Known, Held, Make, Asks}
 use Rattle.sheet_question.proofs.DeskLaws.{known-settings}
 use Rattle.sheet_question.proofs.NameTurns.{inside}
 use Rattle.sheet_question.proofs.ReadLaws.{after, asked-after, too-long, not-long}
@@ -33,6 +35,7 @@ pub record AskedFits (n m : ℕ) (a : Asked) : Type 0 where
   pub someone : (q : ℕ) × T (member q (a .team))
   pub team : (q : ℕ) → T (member q (a .team)) → q < m
   pub known : (i : ℕ) → T (member i (knownSettings (a .known))) → i < n
+  pub held : (i : ℕ) → T (member i (heldSettings (a .held))) → i < n
   pub asks-most : length (a .asks) ≤ 4
 
 -- ---- a line of names
@@ -74,11 +77,20 @@ TeamFits m a = ((q : ℕ) × T (member q (a .team))) × ((q : ℕ) → T (member
 abbrev KnownFits : ℕ → Asked → Type 0
 KnownFits n a = (i : ℕ) → T (member i (knownSettings (a .known))) → i < n
 
+-- what holds from the start on: nothing is held and nothing asked
+abbrev Begun : ℕ → Asked → Type 0
+Begun n a = (length (a .asks) ≤ 4) × ((i : ℕ) → T (member i (heldSettings (a .held))) → i < n)
+
+begun-first : (n : ℕ) → Begun n nothingAsked
+unfolding member
+begun-first n = (omega arith, λ i none. absurd none)
+
 abbrev SoFar : ℕ → ℕ → Due → Asked → Type 0
-SoFar n m Team a = length (a .asks) ≤ 4
-SoFar n m Known a = (length (a .asks) ≤ 4) × TeamFits m a
-SoFar n m Make a = (length (a .asks) ≤ 4) × (TeamFits m a × KnownFits n a)
-SoFar n m Asks a = (length (a .asks) ≤ 4) × (TeamFits m a × KnownFits n a)
+SoFar n m Team a = Begun n a
+SoFar n m Known a = Begun n a × TeamFits m a
+SoFar n m Held a = Begun n a × TeamFits m a × KnownFits n a
+SoFar n m Make a = Begun n a × TeamFits m a × KnownFits n a
+SoFar n m Asks a = Begun n a × TeamFits m a × KnownFits n a
 
 team-fits : (m : ℕ) (a : Asked) (line : List ℕ) → T (isTeam m line) → TeamFits m (withTeam a line)
 unfolding isTeam withTeam teamOf indexes member
@@ -97,14 +109,20 @@ known-fits n a line h i t =
     named-below true 97 n (nameWords (bytes "known") line) i (names-parts (bytes "known") true true 97 n line h .1)
     (subst (λ (is : List ℕ). T (member i is)) (known-settings (nameWords (bytes "known") line)) t)
 
--- the line `known` leaves the team and the formulas, and `team` leaves the formulas
-team-kept : (m : ℕ) (a : Asked) (line : List ℕ) → (length (a .asks) ≤ 4) × TeamFits m a → (length (withKnown a line .asks) ≤ 4) × TeamFits m (withKnown a line)
-unfolding withKnown
-team-kept m a line h = h
+-- the line `held` leaves the team, what is known and the formulas
+held-fits : (n m : ℕ) (a : Asked) (line : List ℕ) → T (isHeld n line) → SoFar n m Held a → SoFar n m Make (withHeld a line)
+unfolding isHeld withHeld heldOf
+held-fits n m a line h ((asks, none), team, known) =
+    ((asks, λ i t. named-below false 97 n (nameWords (bytes "held") line) i (names-parts (bytes "held") true false 97 n line h .1) t), team, known)
 
-asks-kept : (a : Asked) (line : List ℕ) → length (a .asks) ≤ 4 → length (withTeam a line .asks) ≤ 4
+-- the line `known` leaves the team, what is held and the formulas, and `team` the last two
+team-kept : (n m : ℕ) (a : Asked) (line : List ℕ) → SoFar n m Known a → SoFar n m Known (withKnown a line)
+unfolding withKnown
+team-kept n m a line h = h
+
+begun-kept : (n : ℕ) (a : Asked) (line : List ℕ) → Begun n a → Begun n (withTeam a line)
 unfolding withTeam
-asks-kept a line h = h
+begun-kept n a line h = h
 
 -- one formula more, where there are fewer than four
 one-more : (a : Asked) (F : List ℕ) → T (ltb (length (a .asks)) 4) → length (a .asks ++ (F ∷ [])) ≤ 4
@@ -132,16 +150,29 @@ module _ (n m : ℕ) where
   fits-names : (L : ℕ) (form : Bool) (names : List ℕ) (later : AskedStep) → (T form → StepFits n m later) → StepFits n m (namesStep L form names later)
   fits-names L form names later h = fits-unless form (Malformed L) _ (λ f. fits-unless (not (twice (λ i. false) names)) (Twice L) later (λ t. h f))
 
-  fits-due : (L : ℕ) (due : Due) (a : Asked) (line : List ℕ) → SoFar n m due a → StepFits n m (dueStep n m L due a line)
-  unfolding teamStep knownStep makeStep askStep withMake withAsk
-  fits-due L Team a line h = fits-names L (isTeam m line) (teamOf line) (next (Known, withTeam a line)) (λ f. (asks-kept a line h, team-fits m a line f))
-  fits-due L Known a line h =
-      fits-names L (isKnown n line) (knownSettings (knownOf line)) (next (Make, withKnown a line)) (λ f. (let k = team-kept m a line h in (k .0, (k .1, known-fits n a line f))))
-  fits-due L Make a line h =
+  fits-held : (b : Bool) (x y : AskedStep) → StepFits n m x → StepFits n m y → StepFits n m (heldOr b x y)
+  fits-held true x y h k = h
+  fits-held false x y h k = k
+
+  fits-make : (L : ℕ) (a : Asked) (line : List ℕ) → SoFar n m Make a → StepFits n m (makeStep n L a line)
+  unfolding makeStep withMake
+  fits-make L a line h =
       fits-unless (begins (bytes "make ") line) (Malformed L) _ (λ f. fits-refused n (drop 5 line) (next (Asks, withMake a (drop 5 line))) h)
+
+  fits-due : (L : ℕ) (due : Due) (a : Asked) (line : List ℕ) → SoFar n m due a → StepFits n m (dueStep n m L due a line)
+  unfolding teamStep knownStep heldStep heldOrMake askStep withAsk
+  fits-due L Team a line h = fits-names L (isTeam m line) (teamOf line) (next (Known, withTeam a line)) (λ f. (begun-kept n a line h, team-fits m a line f))
+  fits-due L Known a line h =
+      fits-names L (isKnown n line) (knownSettings (knownOf line)) (next (Held, withKnown a line))
+      (λ f. (let k = team-kept n m a line h in (k .0, k .1, known-fits n a line f)))
+  fits-due L Held a line h =
+      fits-held (begins (bytes "held") line) _ (makeStep n L a line)
+      (fits-names L (isHeld n line) (heldOf line) (next (Make, withHeld a line)) (λ f. held-fits n m a line f h))
+      (fits-make L a line h)
+  fits-due L Make a line h = fits-make L a line h
   fits-due L Asks a line h =
       fits-unless (begins (bytes "ask ") line && ltb (length (a .asks)) 4) (Malformed L) _
-      (λ f. fits-refused n (drop 4 line) (next (Asks, withAsk a (drop 4 line))) (one-more a (drop 4 line) (and-right (begins (bytes "ask ") line) (ltb (length (a .asks)) 4) f), h .1))
+      (λ f. fits-refused n (drop 4 line) (next (Asks, withAsk a (drop 4 line))) ((one-more a (drop 4 line) (and-right (begins (bytes "ask ") line) (ltb (length (a .asks)) 4) f), h .0 .1), h .1, h .2))
 
   fits-line : (passes : Bool) (L : ℕ) (due : Due) (a : Asked) (line : List ℕ) → SoFar n m due a → StepFits n m (lineStep passes n m L due a line)
   unfolding lineStep
@@ -160,8 +191,9 @@ module _ (n m : ℕ) where
   fits-end : (L : ℕ) (due : Due) (a : Asked) (rest : List ℕ) → SoFar n m due a → MeaningFits (ending due a rest L)
   fits-end L Team a rest h = tt
   fits-end L Known a rest h = tt
+  fits-end L Held a rest h = tt
   fits-end L Make a rest h = tt
-  fits-end L Asks a [] h = record { someone = h .1 .0 .0; team = h .1 .0 .1; known = h .1 .1; asks-most = h .0 }
+  fits-end L Asks a [] h = record { someone = h .1 .0; team = h .1 .1; known = h .2; held = h .0 .1; asks-most = h .0 .0 }
   fits-end L Asks a (c ∷ rest) h = tt
 
   fits-after : (passes : Bool) (L : ℕ) (pieces : List (List ℕ)) (x : AskedStep) → ((d : Due) (b : Asked) → SoFar n m d b → MeaningFits (askedFrom passes n m (suc L) d b pieces))
@@ -180,7 +212,7 @@ module _ (n m : ℕ) where
   pub asked-fits : (before : ℕ) (passes : Bool) (s : List ℕ) (a : Asked) → questionMeaning before passes n m s ≡ asked a → AskedFits n m a
   asked-fits before passes s a e = elim (lt-or-ge 65536 (length s)) [
     | inl h ↦ absurd (not-both (sym (too-long before passes n m s h) ∙ e))
-    | inr h ↦ subst MeaningFits (sym (not-long before passes n m s h) ∙ e) (fits-from passes (suc before) Team nothingAsked (split newline s) (omega arith))
+    | inr h ↦ subst MeaningFits (sym (not-long before passes n m s h) ∙ e) (fits-from passes (suc before) Team nothingAsked (split newline s) (begun-first n))
   ]
     where
       not-both : {r : Refusal} {line : ℕ} → refused r line ≡ asked a → ⊥

@@ -22,17 +22,17 @@ use Rattle.sheet_words.proofs.NameLaws.{few-enough, names-stray, names-of, stra
 use Rattle.sheet_question.specs.Asked.{Asked, knownSettings}
 use Rattle.sheet_words.specs.Steps.{fault, next, unless, namesStep}
 use Rattle.sheet_question.specs.Desk.{AskedOnDesk, Steps}
-use Rattle.sheet_question.specs.Places.{teamDesk, knownDesk}
-use Rattle.sheet_question.specs.Forms.{nameWords, isNames, isTeam, teamOf, isKnown, knownOf}
+use Rattle.sheet_question.specs.Places.{teamDesk, knownDesk, heldDesk}
+use Rattle.sheet_question.specs.Forms.{nameWords, isNames, isTeam, teamOf, isKnown, knownOf, isHeld, heldOf}
 use Rattle.sheet_question.specs.Names.{NamesTaken}
-use Rattle.sheet_question.specs.LineSteps.{AskedStep, withTeam, withKnown, teamStep, knownStep}
-use Rattle.sheet_question.specs.declared.desk.Due.the-variants.{Known, Make}
+use Rattle.sheet_question.specs.LineSteps.{AskedStep, withTeam, withKnown, withHeld, teamStep, knownStep, heldStep}
+use Rattle.sheet_question.specs.declared.desk.Due.the-variants.{Known, Held, Make}
 use Rattle.sheet_question.specs.declared.desk.AskedDesk.{AskedDesk}
 use Rattle.sheet_question.specs.declared.desk.Taken.the-variants.{Next}
 use Rattle.sheet_question.specs.declared.names.Named.{Named}
 use Rattle.sheet_question.specs.declared.names.Named.the-variants.{As, Not}
 use Rattle.sheet_question.proofs.Turns.{taken}
-use Rattle.sheet_question.proofs.DeskLaws.{known-settings, known-true, holds-team, holds-known}
+use Rattle.sheet_question.proofs.DeskLaws.{known-settings, known-true, holds-team, holds-known, holds-held}
 
 -- a byte that is there
 pub inside : (line : List ℕ) (i : ℕ) → getD line i 0 ≡ 32 → i < length line
@@ -120,7 +120,7 @@ module _ (L : ℕ) (form : Bool) (first : ℕ) (words : List (List ℕ)) (r : Na
     pub names-once : marks .twice ≡ false → NamesTaken L form first words (As marks)
     names-once f = (by-twice false f, of-names form first words r n e .1)
 
--- ---- `team` and `known`
+-- ---- `team`, `known` and `held`
 
 module _ (n L : ℕ) (a : Asked) (d : AskedDesk) (h : AskedOnDesk n a d) (line : List ℕ) (r : Named) where
   module _ (m : ℕ) (k : NamesTaken L (isNames (bytes "team") false false 49 m line) 49 (nameWords (bytes "team") line) r) where
@@ -151,13 +151,26 @@ module _ (n L : ℕ) (a : Asked) (d : AskedDesk) (h : AskedOnDesk n a d) (line :
 
     pub known-not : (why : Refusal) → r ≡ Not why → knownStep m L a line ≡ fault why
     unfolding knownStep
-    known-not why e = known-step (next (Make, withKnown a line)) ∙ known-as e (next (Make, withKnown a line))
+    known-not why e = known-step (next (Held, withKnown a line)) ∙ known-as e (next (Held, withKnown a line))
 
-    pub known-taken : (marks : Marks) → r ≡ As marks → Steps n (knownStep m L a line) (Next Make) (knownDesk d (marks .named) (marks .values))
+    pub known-taken : (marks : Marks) → r ≡ As marks → Steps n (knownStep m L a line) (Next Held) (knownDesk d (marks .named) (marks .values))
     unfolding knownStep knownOf
     known-taken marks e =
         let x = known-as e in
-        taken n (known-step (next (Make, withKnown a line)) ∙ x .0 (next (Make, withKnown a line)))
+        taken n (known-step (next (Held, withKnown a line)) ∙ x .0 (next (Held, withKnown a line)))
         (holds-known n a d h line (marks .named) (marks .values)
         (λ i. x .1 .named i ∙ ap (member i) (sym settings-named))
         (λ i. x .1 .values i ∙ ap (member i) (sym (known-true (nameWords (bytes "known") line)))))
+
+  module _ (m : ℕ) (k : NamesTaken L (isNames (bytes "held") true false 97 m line) 97 (nameWords (bytes "held") line) r) where
+    held-as : {x : Named} → r ≡ x → NamesTaken L (isHeld m line) 97 (nameWords (bytes "held") line) x
+    unfolding isHeld
+    held-as {x} e = subst (NamesTaken L (isNames (bytes "held") true false 97 m line) 97 (nameWords (bytes "held") line)) e k
+
+    pub held-not : (why : Refusal) → r ≡ Not why → heldStep m L a line ≡ fault why
+    unfolding heldStep heldOf
+    held-not why e = held-as e (next (Make, withHeld a line))
+
+    pub held-taken : (marks : Marks) → r ≡ As marks → Steps n (heldStep m L a line) (Next Make) (heldDesk d (marks .named))
+    unfolding heldStep heldOf
+    held-taken marks e = let x = held-as e in taken n (x .0 (next (Make, withHeld a line))) (holds-held n a d h line (marks .named) (x .1 .named))

@@ -20,7 +20,7 @@ use Rattle.sheet_question.specs.Asked.{Asked, nothingAsked}
 use Rattle.sheet_question.specs.LineSteps.{AskedStep, lineStep}
 use Rattle.sheet_question.specs.Desk.{AskedOnDesk, Steps}
 use Rattle.sheet_question.specs.declared.desk.Due.{Due}
-use Rattle.sheet_question.specs.declared.desk.Due.the-variants.{Team, Known, Make, Asks}
+use Rattle.sheet_question.specs.declared.desk.Due.the-variants.{Team, Known, Held, Make, Asks}
 use Rattle.sheet_question.specs.declared.desk.AskedDesk.{AskedDesk}
 use Rattle.sheet_question.specs.declared.desk.Taken.{Taken}
 use Rattle.sheet_question.specs.declared.desk.Taken.the-variants.{Next, No}
@@ -110,6 +110,7 @@ module _ (before : ℕ) (passes : Bool) (n m : ℕ) (s : List ℕ) where
 pub ended : (due : Due) (a : Asked) (rest : List ℕ) (L : ℕ) → (due ≡ Asks → ⊥) → ending due a rest L ≡ refused (Malformed L) L
 ended Team a rest L ne = refl
 ended Known a rest L ne = refl
+ended Held a rest L ne = refl
 ended Make a rest L ne = refl
 ended Asks a rest L ne = absurd (ne refl)
 

@@ -15,7 +15,7 @@ use Rattle.formula.proofs.Computed.{read-computed}
 use Rattle.sheet_words.specs.Words.{begins, passedOver}
 use Rattle.sheet_words.specs.Steps.{fault, next, unless, unlessAnswered, unlessRefused}
 use Rattle.sheet_question.specs.Asked.{Asked}
-use Rattle.sheet_question.specs.LineSteps.{AskedStep, withMake, withAsk, makeStep, askStep, dueStep, unlessPassed, lineStep}
+use Rattle.sheet_question.specs.LineSteps.{AskedStep, withMake, withAsk, heldStep, makeStep, askStep, heldOr, heldOrMake, dueStep, unlessPassed, lineStep}
 use Rattle.sheet_question.specs.declared.desk.Due.{Due}
 use Rattle.sheet_question.specs.declared.desk.Due.the-variants.{Asks}
 
@@ -42,6 +42,12 @@ module _ (n L : ℕ) (a : Asked) (line : List ℕ) where
       → askStep n L a line ≡ unless (b && c) (Malformed L) (unlessRefused n (drop 4 line) (next (Asks, withAsk a (drop 4 line))))
   unfolding askStep
   ask-by b c p q = ap₂ (λ (b c : Bool). unless (b && c) (Malformed L) (unlessRefused n (drop 4 line) (next (Asks, withAsk a (drop 4 line))))) p q
+
+  -- ---- `held`, or `make`
+
+  pub held-by : (b : Bool) → begins (bytes "held") line ≡ b → heldOrMake n L a line ≡ heldOr b (heldStep n L a line) (makeStep n L a line)
+  unfolding heldOrMake
+  held-by b p = ap (λ (b : Bool). heldOr b (heldStep n L a line) (makeStep n L a line)) p
 
 -- ---- a line that is passed over, and one that is not
 

@@ -55,10 +55,12 @@ module _ (n : ℕ) (asked : Asked) (a b : AskedDesk) (h : AskedOnDesk n asked a)
       let t : a .team ≡ b .team = mask-one (a .team) (b .team) (λ q. h .team q ∙ sym (k .team q)) in
       let w : a .known ≡ b .known = mask-one (a .known) (b .known) (λ i. h .known i ∙ sym (k .known i)) in
       let v : a .values ≡ b .values = mask-one (a .values) (b .values) (λ i. h .values i ∙ sym (k .values i)) in
+      let x : a .held ≡ b .held = mask-one (a .held) (b .held) (λ i. h .held i ∙ sym (k .held i)) in
       let g : a .make ≡ b .make = table-one (h .make) (k .make) in
       let c : a .asks ≡ b .asks = sym same-asks in
       let l : a .learn ≡ b .learn = same-learn in
-      let e : askedLaid (a .team) (a .known) (a .values) (a .make) (a .asks) (a .learn) ≡ askedLaid (b .team) (b .known) (b .values) (b .make) (b .asks) (b .learn) = cc in
+      let e : askedLaid (a .team) (a .known) (a .values) (a .held) (a .make) (a .asks) (a .learn)
+      ≡ askedLaid (b .team) (b .known) (b .values) (b .held) (b .make) (b .asks) (b .learn) = cc in
       e
 
 -- ---- what comes of a line

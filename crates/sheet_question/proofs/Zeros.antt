@@ -37,12 +37,13 @@ nought-accepts n h k = record {
   };
 }
 
-pub nothing-on-desk : (n : ℕ) → 1 ≤ n → n ≤ 7 → AskedOnDesk n nothingAsked (askedLaid 0 0 0 (replicate 16 0) 0 (replicate 64 0))
+pub nothing-on-desk : (n : ℕ) → 1 ≤ n → n ≤ 7 → AskedOnDesk n nothingAsked (askedLaid 0 0 0 0 (replicate 16 0) 0 (replicate 64 0))
 unfolding member knownSettings knownTrue
 nothing-on-desk n h k = record {
   team = bit-of-zero;
   known = bit-of-zero;
   values = bit-of-zero;
+  held = bit-of-zero;
   make = nought-accepts n h k;
   asks = refl;
   asks-most = omega arith;

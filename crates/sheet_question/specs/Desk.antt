@@ -7,7 +7,7 @@ use Rattle.ground.specs.Digits.{bit}
 use Rattle.formula.specs.Read.{Accepts}
 use Rattle.sheet_words.specs.Words.{member}
 use Rattle.sheet_words.specs.Steps.{fault, next}
-use Rattle.sheet_question.specs.Asked.{Asked, knownSettings, knownTrue}
+use Rattle.sheet_question.specs.Asked.{Asked, knownSettings, knownTrue, heldSettings}
 use Rattle.sheet_question.specs.LineSteps.{AskedStep}
 use Rattle.sheet_question.specs.declared.desk.AskedDesk.{AskedDesk}
 use Rattle.sheet_question.specs.declared.desk.Taken.{Taken}
@@ -23,6 +23,7 @@ pub record AskedOnDesk (n : ℕ) (asked : Asked) (d : AskedDesk) : Type 0 where
   pub team : (q : ℕ) → bit (d .team) q ≡ member q (asked .team)
   pub known : (i : ℕ) → bit (d .known) i ≡ member i (knownSettings (asked .known))
   pub values : (i : ℕ) → bit (d .values) i ≡ member i (knownTrue (asked .known))
+  pub held : (i : ℕ) → bit (d .held) i ≡ member i (heldSettings (asked .held))
   pub make : Accepts n (asked .make) (d .make)
   pub asks : d .asks ≡ length (asked .asks)
   pub asks-most : d .asks ≤ 4

@@ -1,4 +1,4 @@
--- The form of the lines that name things, `team` and `known`, and what a line of that form states.
+-- The form of the lines that name things, `team`, `known` and `held`, and what a line of that form states.
 use mathlib.Core.Bool.{Bool, false, true, not, _&&_, _||_, cond}
 use mathlib.Core.List.{List, [], _∷_}
 use Prim.Native.Nat.{ℕ, _+_}
@@ -36,3 +36,10 @@ knownBy (word ∷ words) = record { setting = indexOf (byte "a") word; value = n
 
 unfoldable pub knownOf : List ℕ → List Known
 knownOf line = knownBy (nameWords (bytes "known") line)
+
+-- "`held`, a line like `known` without `~`": with settings or alone, of n settings
+unfoldable pub isHeld : ℕ → List ℕ → Bool
+isHeld n line = isNames (bytes "held") true false (byte "a") n line
+
+unfoldable pub heldOf : List ℕ → List ℕ
+heldOf line = indexes (byte "a") (nameWords (bytes "held") line)

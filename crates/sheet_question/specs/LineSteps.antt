@@ -9,10 +9,10 @@ use Rattle.ground.specs.Text.{bytes}
 use Rattle.refusal.specs.declared.Refusal.the-variants.{Malformed}
 use Rattle.sheet_words.specs.Words.{begins, passedOver}
 use Rattle.sheet_words.specs.Steps.{Step, next, unless, unlessRefused, namesStep}
-use Rattle.sheet_question.specs.Asked.{Asked, teamAs, knownAs, makeAs, asksAs, knownSettings}
-use Rattle.sheet_question.specs.Forms.{isTeam, teamOf, isKnown, knownOf}
+use Rattle.sheet_question.specs.Asked.{Asked, holding, teamAs, knownAs, heldAs, makeAs, asksAs, knownSettings}
+use Rattle.sheet_question.specs.Forms.{isTeam, teamOf, isKnown, knownOf, isHeld, heldOf}
 use Rattle.sheet_question.specs.declared.desk.Due.{Due}
-use Rattle.sheet_question.specs.declared.desk.Due.the-variants.{Team, Known, Make, Asks}
+use Rattle.sheet_question.specs.declared.desk.Due.the-variants.{Team, Known, Held, Make, Asks}
 
 -- a step leaves what is due next, and what is asked so far
 abbrev pub AskedStep : Type 0
@@ -24,6 +24,9 @@ withTeam a line = teamAs a (teamOf line)
 
 unfoldable pub withKnown : Asked → List ℕ → Asked
 withKnown a line = knownAs a (knownOf line)
+
+unfoldable pub withHeld : Asked → List ℕ → Asked
+withHeld a line = heldAs a (holding (heldOf line))
 
 unfoldable pub withMake : Asked → List ℕ → Asked
 withMake a F = makeAs a F
@@ -37,7 +40,11 @@ teamStep m L a line = namesStep L (isTeam m line) (teamOf line) (next (Known, wi
 
 -- `known`: "23 [..] setting named twice"
 unfoldable pub knownStep : ℕ → ℕ → Asked → List ℕ → AskedStep
-knownStep n L a line = namesStep L (isKnown n line) (knownSettings (knownOf line)) (next (Make, withKnown a line))
+knownStep n L a line = namesStep L (isKnown n line) (knownSettings (knownOf line)) (next (Held, withKnown a line))
+
+-- `held`: "a setting named twice 23"; a setting may be both known and held
+unfoldable pub heldStep : ℕ → ℕ → Asked → List ℕ → AskedStep
+heldStep n L a line = namesStep L (isHeld n line) (heldOf line) (next (Make, withHeld a line))
 
 unfoldable pub makeStep : ℕ → ℕ → Asked → List ℕ → AskedStep
 makeStep n L a line = unless (begins (bytes "make ") line) (Malformed L) (unlessRefused n (drop 5 line) (next (Asks, withMake a (drop 5 line))))
@@ -47,10 +54,19 @@ unfoldable pub askStep : ℕ → ℕ → Asked → List ℕ → AskedStep
 askStep n L a line =
     unless (begins (bytes "ask ") line && ltb (length (a .asks)) 4) (Malformed L) (unlessRefused n (drop 4 line) (next (Asks, withAsk a (drop 4 line))))
 
+-- where the line `held` may come, "directly after" `known`, "optional": that line, by its first bytes, or the line `make F`
+abbrev pub heldOr : {A : Type 0} → Bool → Step A → Step A → Step A
+heldOr true held make = held
+heldOr false held make = make
+
+unfoldable pub heldOrMake : ℕ → ℕ → Asked → List ℕ → AskedStep
+heldOrMake n L a line = heldOr (begins (bytes "held") line) (heldStep n L a line) (makeStep n L a line)
+
 -- the line that is due
 abbrev pub dueStep : ℕ → ℕ → ℕ → Due → Asked → List ℕ → AskedStep
 dueStep n m L Team a line = teamStep m L a line
 dueStep n m L Known a line = knownStep n L a line
+dueStep n m L Held a line = heldOrMake n L a line
 dueStep n m L Make a line = makeStep n L a line
 dueStep n m L Asks a line = askStep n L a line
 

@@ -9,21 +9,25 @@ use Rattle.sheet_question.specs.declared.formulas.Place.{Place}
 use Rattle.sheet_question.specs.declared.formulas.Place.the-variants.{Make, Ask}
 
 -- the desk from what it holds
-abbrev pub askedLaid : ℕ → ℕ → ℕ → List ℕ → ℕ → List ℕ → AskedDesk
-askedLaid team known values make asks learn = record { team = team; known = known; values = values; make = make; asks = asks; learn = learn }
+abbrev pub askedLaid : ℕ → ℕ → ℕ → ℕ → List ℕ → ℕ → List ℕ → AskedDesk
+askedLaid team known values held make asks learn =
+    record { team = team; known = known; values = values; held = held; make = make; asks = asks; learn = learn }
 
 -- the desk with one part changed
 abbrev pub teamDesk : AskedDesk → ℕ → AskedDesk
-teamDesk a team = askedLaid team (a .known) (a .values) (a .make) (a .asks) (a .learn)
+teamDesk a team = askedLaid team (a .known) (a .values) (a .held) (a .make) (a .asks) (a .learn)
 
 abbrev pub knownDesk : AskedDesk → ℕ → ℕ → AskedDesk
-knownDesk a known values = askedLaid (a .team) known values (a .make) (a .asks) (a .learn)
+knownDesk a known values = askedLaid (a .team) known values (a .held) (a .make) (a .asks) (a .learn)
+
+abbrev pub heldDesk : AskedDesk → ℕ → AskedDesk
+heldDesk a held = askedLaid (a .team) (a .known) (a .values) held (a .make) (a .asks) (a .learn)
 
 abbrev pub makeDesk : AskedDesk → List ℕ → AskedDesk
-makeDesk a t = askedLaid (a .team) (a .known) (a .values) t (a .asks) (a .learn)
+makeDesk a t = askedLaid (a .team) (a .known) (a .values) (a .held) t (a .asks) (a .learn)
 
 unfoldable pub learnDesk : AskedDesk → List ℕ → AskedDesk
-learnDesk a t = askedLaid (a .team) (a .known) (a .values) (a .make) (a .asks + 1) (sets (a .learn) (16 * a .asks) t)
+learnDesk a t = askedLaid (a .team) (a .known) (a .values) (a .held) (a .make) (a .asks + 1) (sets (a .learn) (16 * a .asks) t)
 
 -- the desk with the table of a line's formula at its place, and the room for it
 abbrev pub placedDesk : Place → AskedDesk → List ℕ → AskedDesk

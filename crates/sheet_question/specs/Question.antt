@@ -12,7 +12,7 @@ use Rattle.sheet_words.specs.Steps.{fault, next}
 use Rattle.sheet_question.specs.Asked.{Asked, nothingAsked}
 use Rattle.sheet_question.specs.LineSteps.{lineStep}
 use Rattle.sheet_question.specs.declared.desk.Due.{Due}
-use Rattle.sheet_question.specs.declared.desk.Due.the-variants.{Team, Known, Make, Asks}
+use Rattle.sheet_question.specs.declared.desk.Due.the-variants.{Team, Known, Held, Make, Asks}
 
 -- a refusal and its line, which is what is printed as its place ("for a formula, the line"); or all that is asked
 pub data QuestionMeaning : Type 0 where
@@ -24,6 +24,7 @@ pub data QuestionMeaning : Type 0 where
 abbrev pub ending : Due → Asked → List ℕ → ℕ → QuestionMeaning
 ending Team a rest L = refused (Malformed L) L
 ending Known a rest L = refused (Malformed L) L
+ending Held a rest L = refused (Malformed L) L
 ending Make a rest L = refused (Malformed L) L
 ending Asks a [] L = asked a
 ending Asks a (c ∷ rest) L = refused (Malformed L) L

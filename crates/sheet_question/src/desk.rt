@@ -16,6 +16,8 @@ pub enum Due {
     Team,
     // What the team knows.
     Known,
+    // Which settings are held, or the make formula.
+    Held,
     // The make formula.
     Make,
     // A formula to learn, or the end.
@@ -25,10 +27,12 @@ pub enum Due {
 // What is asked. Any caller may make one: that it is a question's is what a contract says of it
 // (`AskedOnDesk`).
 pub struct AskedDesk {
-    // A bit for each post of the team, for each known setting, and for each of those that is true.
+    // A bit for each post of the team, for each known setting, for each of those that is true, and for
+    // each held setting.
     pub team: u8,
     pub known: u8,
     pub values: u8,
+    pub held: u8,
     pub make: [u8; TABLE],
     // How many formulas to learn there are, and their tables one after the other.
     pub asks: u8,
@@ -57,6 +61,7 @@ pub(crate) fn nothing_asked() -> AskedDesk
         team: 0,
         known: 0,
         values: 0,
+        held: 0,
         make: [0u8; TABLE],
         asks: 0,
         learn: [0u8; LEARN],

@@ -1,4 +1,4 @@
-// The lines of a question, `team` to `ask`: what they ask, or the first refusal, with its line. A text of
+// The lines of a question, `team` to `ask`, with `held` after `known`: what they ask, or the first refusal, with its line. A text of
 // any length and content is taken, with any numbers of settings and posts; nothing is written to what a
 // caller lends.
 mod desk;
@@ -73,6 +73,7 @@ fn ending(due: Due, desk: AskedDesk, rest: &[u8], number: usize) -> QuestionRead
     match due {
         Due::Team => refused(Refusal::Malformed(number), number),
         Due::Known => refused(Refusal::Malformed(number), number),
+        Due::Held => refused(Refusal::Malformed(number), number),
         Due::Make => refused(Refusal::Malformed(number), number),
         Due::Asks => {
             if rest.len() != 0 {

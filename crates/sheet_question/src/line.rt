@@ -7,6 +7,7 @@ use crate::desk::Turn;
 use crate::desk::at_fault;
 use crate::formulas::Place;
 use crate::formulas::formula_line;
+use crate::names::held_line;
 use crate::names::known_line;
 use crate::names::team_line;
 use refusal::Refusal;
@@ -18,7 +19,7 @@ ghost use Prim.Native.Nat.{_≤_};
 ghost use Rattle.sheet_words.specs.Words.{passedOver};
 ghost use Rattle.sheet_question.specs.Asked.{Asked};
 ghost use Rattle.sheet_question.specs.Desk.{AskedOnDesk, Steps};
-ghost use Rattle.sheet_question.specs.LineSteps.{makeStep, askStep, dueStep, lineStep};
+ghost use Rattle.sheet_question.specs.LineSteps.{makeStep, askStep, heldOrMake, dueStep, lineStep};
 
 // The line `make F`.
 fn make_line(settings: u8, desk: AskedDesk, line: &[u8], number: usize) -> Turn
@@ -44,6 +45,17 @@ fn ask_line(settings: u8, desk: AskedDesk, line: &[u8], number: usize) -> Turn
     formula_line(settings, desk, Place::Ask, &line[4..])
 }
 
+// The line `held`, or where it is left out the line `make F`.
+fn held_or_make(settings: u8, desk: AskedDesk, line: &[u8], number: usize) -> Turn
+    requires { ⌜ settings ≤ 7 ⌝ }
+    ensures { λ r. ⌜ ((a : Asked) → AskedOnDesk settings a desk → Steps settings (heldOrMake settings number a (now (line .entry))) (r .taken) (r .desk)) ⌝ }
+{
+    if begins(b"held", line) {
+        return held_line(settings, desk, line, number);
+    }
+    make_line(settings, desk, line, number)
+}
+
 // The line that is due.
 fn due_line(settings: u8, posts: u8, due: Due, desk: AskedDesk, line: &[u8], number: usize) -> Turn
     requires { ⌜ (settings ≤ 7) × (posts ≤ 8) × ((a : Asked) × AskedOnDesk settings a desk) ⌝ }
@@ -52,6 +64,7 @@ fn due_line(settings: u8, posts: u8, due: Due, desk: AskedDesk, line: &[u8], num
     match due {
         Due::Team => team_line(posts, desk, line, number),
         Due::Known => known_line(settings, desk, line, number),
+        Due::Held => held_or_make(settings, desk, line, number),
         Due::Make => make_line(settings, desk, line, number),
         Due::Asks => ask_line(settings, desk, line, number),
     }

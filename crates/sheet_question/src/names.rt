@@ -1,4 +1,4 @@
-// The lines that name things: `team G ..` and `known`.
+// The lines that name things: `team G ..`, `known` and `held`.
 use crate::desk::AskedDesk;
 use crate::desk::Due;
 use crate::desk::Taken;
@@ -16,7 +16,7 @@ ghost use Rattle.sheet_question.specs.Asked.{Asked};
 ghost use Rattle.sheet_question.specs.Desk.{AskedOnDesk, Steps};
 ghost use Rattle.sheet_question.specs.Forms.{isNames, nameWords};
 ghost use Rattle.sheet_question.specs.Names.{NamesTaken};
-ghost use Rattle.sheet_question.specs.LineSteps.{teamStep, knownStep};
+ghost use Rattle.sheet_question.specs.LineSteps.{teamStep, knownStep, heldStep};
 
 // What becomes of a line that is to name things.
 pub enum Named {
@@ -109,6 +109,25 @@ pub(crate) fn known_line(settings: u8, desk: AskedDesk, line: &[u8], number: usi
             let mut next = desk;
             next.known = marks.named;
             next.values = marks.values;
+            Turn {
+                taken: Taken::Next(Due::Held),
+                desk: next,
+            }
+        }
+    }
+}
+
+// The line `held`: the settings that no set act may touch.
+pub(crate) fn held_line(settings: u8, desk: AskedDesk, line: &[u8], number: usize) -> Turn
+    requires { ⌜ settings ≤ 7 ⌝ }
+    ensures { λ r. ⌜ ((n : ℕ) (a : Asked) → AskedOnDesk n a desk → Steps n (heldStep settings number a (now (line .entry))) (r .taken) (r .desk)) ⌝ }
+{
+    let named = names_line(b"held", true, false, b'a', settings, line, number);
+    match named {
+        Named::Not(why) => at_fault(why),
+        Named::As(marks) => {
+            let mut next = desk;
+            next.held = marks.named;
             Turn {
                 taken: Taken::Next(Due::Make),
                 desk: next,

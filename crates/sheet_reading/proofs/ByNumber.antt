@@ -21,7 +21,8 @@ use Rattle.sheet_reading.specs.Reading.{refused, sheetMeaning}
 use Rattle.sheet_reading.proofs.OnePass.{sizeStep, firstLine, after}
 use Rattle.sheet_reading.specs.Grammar.{ended, sizeText, ruleLines, rulesText, askedText, sheetText}
 use Rattle.sheet_reading.specs.Place.{allEnded, firstLines, MalformedAt}
-use Rattle.sheet_reading.specs.Faults.{Line, size-line, right-line, ask-line, linesOf, NamesTwice, FormulaRefused, SizeAbove}
+use Rattle.sheet_question.specs.Asked.{HeldLine, left-out, holding}
+use Rattle.sheet_reading.specs.Faults.{Line, size-line, right-line, ask-line, heldIn, linesOf, NamesTwice, FormulaRefused, SizeAbove}
 use Rattle.sheet_reading.specs.Faults.{above, again, in-formula, LineFault, Reaches, FaultAt, RefusedSheet, too-long, malformed, at-fault}
 use Rattle.sheet_reading.proofs.LineForms.{size-read, size-clear}
 use Rattle.sheet_reading.proofs.LineByLine.{split-ended, first-split}
@@ -112,9 +113,15 @@ module _ (w : Sheet) where
   asks-own [] = tt
   asks-own (F ∷ Fs) = (λ x. absurd x, asks-own Fs)
 
+  held-own : (x : HeldLine) (more : List Line) → Every OwnSize more → Every OwnSize (heldIn x ++ more)
+  unfolding heldIn
+  held-own left-out more h = h
+  held-own (holding names) more h = (λ x. absurd x, h)
+
   lines-own : Every OwnSize (linesOf w)
   unfolding linesOf
-  lines-own = (λ x. x, rights-own (w .rules) _ (λ x. absurd x, (λ x. absurd x, (λ x. absurd x, asks-own (w .asked .asks)))))
+  lines-own =
+      (λ x. x, rights-own (w .rules) _ (λ x. absurd x, (λ x. absurd x, held-own (w .asked .held) _ (λ x. absurd x, asks-own (w .asked .asks)))))
 
   own-there : (before : List Line) (line : Line) (behind : List Line) → Every OwnSize (before ++ line ∷ behind) → OwnSize line
   own-there [] line behind h = h .0

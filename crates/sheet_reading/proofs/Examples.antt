@@ -1,7 +1,7 @@
 -- Sheets computed: paper 01's own, and the refusals that are easy to get wrong. Each holds by computing the meaning.
 use mathlib.Core.Path.{_≡_, refl}
 use mathlib.Core.List.{[], _∷_}
-use mathlib.Core.Bool.{false}
+use mathlib.Core.Bool.{true, false}
 use Rattle.ground.specs.Text.{bytes}
 use Rattle.refusal.specs.declared.Refusal.the-variants.{FormulaLength, StrayByte, NotSentence, Malformed, Twice, SheetSettings}
 use Rattle.formula_grammar.specs.Signs.{isLetter, isSign, isStray, isPast}
@@ -15,9 +15,10 @@ use Rattle.sheet_rules.specs.Forms.{isSetting, isPost, isRule, ruleOf, isOfRule
 use Rattle.sheet_rules.specs.Steps.{sizeStep, ruleStep}
 use Rattle.sheet_rules.specs.Steps.{lineStep as rulesLine}
 use Rattle.sheet_rules.specs.Reading.{rulesFrom, sizeFrom, rulesRead}
-use Rattle.sheet_question.specs.Asked.{knownSettings}
-use Rattle.sheet_question.specs.Forms.{nameWords, isNames, isTeam, teamOf, isKnown, knownBy, knownOf}
-use Rattle.sheet_question.specs.LineSteps.{withTeam, withKnown, withMake, withAsk, teamStep, knownStep, makeStep, askStep, lineStep}
+use Rattle.sheet_question.specs.Asked.{left-out, holding, knownSettings}
+use Rattle.sheet_question.specs.Forms.{nameWords, isNames, isTeam, teamOf, isKnown, knownBy, knownOf, isHeld, heldOf}
+use Rattle.sheet_question.specs.LineSteps.{withTeam, withKnown, withHeld, withMake, withAsk, teamStep, knownStep, heldStep, makeStep, askStep}
+use Rattle.sheet_question.specs.LineSteps.{heldOrMake, lineStep}
 use Rattle.sheet_question.specs.Question.{askedFrom}
 use Rattle.sheet_reading.specs.Reading.{refused, stated, sheetMeaning}
 
@@ -29,7 +30,7 @@ pub sheets-computed :
           record { right = Set; setting = 0; post = 1; text = bytes "~c" } ∷ record { right = Set; setting = 1; post = 0; text = bytes "a" }
           ∷ record { right = Look; setting = 2; post = 1; text = bytes "1" } ∷ record { right = Set; setting = 2; post = 1; text = bytes "c" }
           ∷ [];
-      asked = record { team = 0 ∷ 1 ∷ []; known = []; make = bytes "b"; asks = [] };
+      asked = record { team = 0 ∷ 1 ∷ []; known = []; held = left-out; make = bytes "b"; asks = [] };
     }))
     -- "A sheet that ends early gets 22 one past its last line."
     × (sheetMeaning (bytes "") ≡ refused (Malformed 1) 1)
@@ -48,8 +49,15 @@ pub sheets-computed :
     × (sheetMeaning (bytes "size 1 1\nteam 1\nknown ~a\nmake a\n") ≡ stated (record {
       size = sizeOf 1 1;
       rules = [];
-      asked = record { team = 0 ∷ []; known = record { setting = 0; value = false } ∷ []; make = bytes "a"; asks = [] };
+      asked = record { team = 0 ∷ []; known = record { setting = 0; value = false } ∷ []; held = left-out; make = bytes "a"; asks = [] };
     }))
+    -- "`held`, a line like `known` without `~`, directly after it, optional"
+    × (sheetMeaning (bytes "size 1 1\nteam 1\nknown a\nheld a\nmake a\n") ≡ stated (record {
+      size = sizeOf 1 1;
+      rules = [];
+      asked = record { team = 0 ∷ []; known = record { setting = 0; value = true } ∷ []; held = holding (0 ∷ []); make = bytes "a"; asks = [] };
+    }))
+    × (sheetMeaning (bytes "size 1 1\nteam 1\nknown\nheld ~a\nmake a\n") ≡ refused (Malformed 4) 4)
     -- "a last line without it is malformed"
     × (sheetMeaning (bytes "size 1 1\nteam 1\nknown\nmake a") ≡ refused (Malformed 4) 4)
     -- "an empty F after its space is 1", "a blank in F is 2"
@@ -59,6 +67,6 @@ pub sheets-computed :
     × (sheetMeaning (bytes "size 1 1\nteam 1\nknown\nmake 1\nask a\nask a\nask a\nask a\nask a\n") ≡ refused (Malformed 9) 9)
 unfolding isLetter isSign isStray isPast isAtom step verdict sentenceAnswer foreignAnswer formulaAnswer sameRight concerns isStated
     knownSettings onto split begins among isSetting isPost isSize digitAt isRule ruleOf isFalse bare isName allNames indexOf indexes
-    nameWords isNames isTeam teamOf isKnown knownBy knownOf twice unlessRefused isOfRules withRule sizeStep ruleStep rulesLine rulesFrom sizeFrom
-    rulesRead withTeam withKnown withMake withAsk teamStep knownStep makeStep askStep lineStep askedFrom sheetMeaning
-sheets-computed = (refl, refl, refl, refl, refl, refl, refl, refl, refl, refl, refl, refl, refl, refl, refl)
+    nameWords isNames isTeam teamOf isKnown knownBy knownOf isHeld heldOf twice unlessRefused isOfRules withRule sizeStep ruleStep rulesLine rulesFrom sizeFrom
+    rulesRead withTeam withKnown withHeld withMake withAsk teamStep knownStep heldStep makeStep askStep heldOrMake lineStep askedFrom sheetMeaning
+sheets-computed = (refl, refl, refl, refl, refl, refl, refl, refl, refl, refl, refl, refl, refl, refl, refl, refl, refl)

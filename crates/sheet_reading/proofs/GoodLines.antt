@@ -1,5 +1,5 @@
 -- Each line that is taken adds its own text to the text of the lines before it, and keeps what they say well formed: by the form of the line.
-use mathlib.Core.Path.{_≡_, refl, sym, ap, _∙_}
+use mathlib.Core.Path.{_≡_, refl, sym, ap, _∙_, subst}
 use mathlib.Core.List.{List, [], _∷_, _++_, append-assoc, append-nil}
 use mathlib.Core.Bool.{Bool, true, false, not, _&&_}
 use Prim.Native.Nat.{ℕ, zero, suc, _+_, _<_}
@@ -16,15 +16,17 @@ use Rattle.sheet_words.specs.Steps.{next, unless, unlessRefused}
 use Rattle.sheet_rules.specs.Rules.{Rule, isStated}
 use Rattle.sheet_rules.specs.Forms.{isRule, ruleOf, isSize, digitAt}
 use Rattle.sheet_question.specs.Asked.{knownSettings}
-use Rattle.sheet_question.specs.Forms.{isTeam, teamOf, isKnown, knownOf}
+use Rattle.sheet_question.specs.Forms.{isTeam, teamOf, isKnown, knownOf, isHeld, heldOf}
+use Rattle.sheet_question.specs.LineSteps.{heldOr}
 use Rattle.sheet_reading.specs.Sheet.{Sheet, sized}
-use Rattle.sheet_reading.proofs.OnePass.{SheetStep, withRule, ruleStep, withTeam, withKnown, withMake, withAsk, sizeStep, teamStep, knownStep, makeStep, askStep, rightOrTeam, rightsStep, step}
+use Rattle.sheet_reading.proofs.OnePass.{SheetStep, withRule, ruleStep, withTeam, withKnown, withHeld, withMake, withAsk, sizeStep, teamStep, knownStep}
+use Rattle.sheet_reading.proofs.OnePass.{heldStep, makeStep, heldOrMake, askStep, rightOrTeam, rightsStep, step}
 use Rattle.sheet_question.specs.declared.desk.Due.{Due}
-use Rattle.sheet_question.specs.declared.desk.Due.the-variants.{Team, Known, Make, Asks}
-use Rattle.sheet_reading.specs.Grammar.{ended, sizeText, word, ruleLine, ruleLines, makeLine, askLines, rulesText, InLine, RulesFit, AsksFit, WellFormed}
+use Rattle.sheet_question.specs.declared.desk.Due.the-variants.{Team, Known, Held, Make, Asks}
+use Rattle.sheet_reading.specs.Grammar.{ended, sizeText, word, ruleLine, ruleLines, heldText, makeLine, askLines, rulesText, InLine, RulesFit, AsksFit, WellFormed}
 use Rattle.sheet_reading.proofs.LineForms.{begins-written, size-written, rule-written}
-use Rattle.sheet_reading.proofs.NameLines.{team-written, known-written}
-use Rattle.sheet_reading.proofs.SoFar.{toRights, toTeam, toKnown, soFar, Begun, Teamed, WellSoFar, made, Good, good-begins, good-form, good-unless, good-refused}
+use Rattle.sheet_reading.proofs.NameLines.{team-written, known-written, held-written}
+use Rattle.sheet_reading.proofs.SoFar.{toRights, toTeam, toKnown, toHeld, soFar, Begun, Teamed, WellSoFar, none-held, none-text, made, Good, good-begins, good-form, good-unless, good-refused}
 
 -- ---- each line keeps it
 
@@ -36,7 +38,7 @@ size-good line =
     good-form 1 (ended line) (isSize line) (unless (leb n 5) SheetSettings (next (Team, sized n m))) (λ h.
     let form = size-written line h in
     let good : Good 1 (ended line) (next (Team, sized n m)) = (
-      (record { settings-least = form .0 .0; settings-most = form .0 .1; posts-least = form .0 .2; posts-most = form .0 .3; rules = tt }, refl),
+      (record { settings-least = form .0 .0; settings-most = form .0 .1; posts-least = form .0 .2; posts-most = form .0 .3; rules = tt }, refl, refl),
       append-nil (ended (sizeText n m)) ∙ ap ended (sym (form .1)),
     ) in
     good-unless 1 (ended line) (leb n 5) SheetSettings (next (Team, sized n m)) (λ e. omega (arith, e)) (good-begins 1 (ended line) Team (sized n m) good) good)
@@ -73,6 +75,7 @@ rule-good L v right line b i h =
           rules = rules-fit-snoc (v .size .settings) (v .size .posts) (v .rules) r (b .0 .rules) (form .0, form .1, in-drop (length (word right) + 4) line i);
         },
         b .1,
+        b .2,
       ),
       ap (_++_ (ended (sizeText (v .size .settings) (v .size .posts)))) (rules-snoc (v .rules) r ∙ ap (λ (l : List ℕ). ruleLines (v .rules) ++ ended l) (sym (form .2)))
           ∙ sym (append-assoc (ended (sizeText (v .size .settings) (v .size .posts))) (ruleLines (v .rules)) (ended line)),
@@ -108,23 +111,48 @@ unfolding knownStep withKnown toKnown toTeam toRights
 known-good L v line begun =
     let s : List ℕ = toTeam v ++ ended line in
     let once? : Bool = not (twice (λ i. false) (knownSettings (knownOf line))) in
-    good-form L s (isKnown (v .size .settings) line) (unless once? (Twice L) (next (Make, withKnown v line))) (λ h.
+    good-form L s (isKnown (v .size .settings) line) (unless once? (Twice L) (next (Held, withKnown v line))) (λ h.
     let form = known-written (v .size .settings) line h in
-    let good : Good L s (next (Make, withKnown v line)) = ((begun, form .0), ap (λ (l : List ℕ). toTeam v ++ ended l) (sym (form .1))) in
-    good-unless L s once? (Twice L) (next (Make, withKnown v line)) (λ e. omega (arith, e)) (good-begins L s Make (withKnown v line) good) good)
+    let good : Good L s (next (Held, withKnown v line)) = ((begun, form .0), ap (λ (l : List ℕ). toTeam v ++ ended l) (sym (form .1))) in
+    good-unless L s once? (Twice L) (next (Held, withKnown v line)) (λ e. omega (arith, e)) (good-begins L s Held (withKnown v line) good) good)
 
-make-good : (L : ℕ) (v : Sheet) (line : List ℕ) → WellSoFar Make v → InLine line → Good L (toKnown v ++ ended line) (makeStep L v line)
-unfolding makeStep withMake toKnown toTeam toRights makeLine askLines
+make-good : (L : ℕ) (v : Sheet) (line : List ℕ) → WellSoFar Make v → InLine line → Good L (toHeld v ++ ended line) (makeStep L v line)
+unfolding makeStep withMake toHeld toKnown toTeam toRights makeLine askLines
 make-good L v line so i =
-    let s : List ℕ = toKnown v ++ ended line in
+    let s : List ℕ = toHeld v ++ ended line in
     let F : List ℕ = drop 5 line in
     good-form L s (begins (bytes "make ") line) (unlessRefused (v .size .settings) F (next (Asks, withMake v F))) (λ h.
     good-refused L s (v .size .settings) F Asks (withMake v F) (
       made v F so (in-drop 5 line i),
-      ap (λ (Fs : List (List ℕ)). (toKnown v ++ ended (bytes "make " ++ F)) ++ askLines Fs) (so .0 .0 .1)
-          ∙ append-nil (toKnown v ++ ended (bytes "make " ++ F))
-          ∙ ap (λ (l : List ℕ). toKnown v ++ ended l) (sym (begins-written (bytes "make ") line h)),
+      ap (λ (Fs : List (List ℕ)). (toHeld v ++ ended (bytes "make " ++ F)) ++ askLines Fs) (so .no-asks)
+          ∙ append-nil (toHeld v ++ ended (bytes "make " ++ F))
+          ∙ ap (λ (l : List ℕ). toHeld v ++ ended l) (sym (begins-written (bytes "make ") line h)),
     ))
+
+held-good : (L : ℕ) (v : Sheet) (line : List ℕ) → WellSoFar Held v → Good L (toKnown v ++ ended line) (heldStep L v line)
+unfolding heldStep withHeld toHeld toKnown toTeam toRights heldText
+held-good L v line so =
+    let s : List ℕ = toKnown v ++ ended line in
+    let once? : Bool = not (twice (λ i. false) (heldOf line)) in
+    good-form L s (isHeld (v .size .settings) line) (unless once? (Twice L) (next (Make, withHeld v line))) (λ h.
+    let form = held-written (v .size .settings) line h in
+    let free = none-held v so in
+    let good : Good L s (next (Make, withHeld v line)) = (
+      record { ruled = free .ruled; no-asks = free .no-asks; someone = free .someone; team = free .team; known = free .known; held = form .0 },
+      ap (λ (l : List ℕ). toKnown v ++ ended l) (sym (form .1)),
+    ) in
+    good-unless L s once? (Twice L) (next (Make, withHeld v line)) (λ e. omega (arith, e)) (good-begins L s Make (withHeld v line) good) good)
+
+-- the line `held`, or `make` where it is left out
+held-or-make-good : (L : ℕ) (v : Sheet) (line : List ℕ) → WellSoFar Held v → InLine line → Good L (toKnown v ++ ended line) (heldOrMake L v line)
+unfolding heldOrMake
+held-or-make-good L v line so i =
+    by-form (begins (bytes "held") line) (heldStep L v line) (makeStep L v line) (held-good L v line so)
+    (subst (λ (s : List ℕ). Good L (s ++ ended line) (makeStep L v line)) (none-text v so) (make-good L v line (none-held v so) i))
+  where
+    by-form : (b : Bool) (x y : SheetStep) → Good L (toKnown v ++ ended line) x → Good L (toKnown v ++ ended line) y → Good L (toKnown v ++ ended line) (heldOr b x y)
+    by-form true x y g h = g
+    by-form false x y g h = h
 
 asks-snoc : (Fs : List (List ℕ)) (F : List ℕ) → askLines (Fs ++ F ∷ []) ≡ askLines Fs ++ ended (bytes "ask " ++ F)
 unfolding askLines
@@ -136,9 +164,9 @@ asks-fit-snoc [] F h k = (k, tt)
 asks-fit-snoc (G ∷ Fs) F h k = (h .0, asks-fit-snoc Fs F (h .1) k)
 
 ask-good : (L : ℕ) (v : Sheet) (line : List ℕ) → WellFormed v → InLine line → Good L (soFar Asks v ++ ended line) (askStep L v line)
-unfolding askStep withAsk toKnown toTeam toRights
+unfolding askStep withAsk toHeld toKnown toTeam toRights
 ask-good L v line b i =
-    let before : List ℕ = toKnown v ++ ended (makeLine (v .asked .make)) in
+    let before : List ℕ = toHeld v ++ ended (makeLine (v .asked .make)) in
     let s : List ℕ = (before ++ askLines (v .asked .asks)) ++ ended line in
     let F : List ℕ = drop 4 line in
     good-form L s (begins (bytes "ask ") line && ltb (length (v .asked .asks)) 4) (unlessRefused (v .size .settings) F (next (Asks, withAsk v F))) (λ h.
@@ -150,6 +178,7 @@ ask-good L v line b i =
           someone = b .well-asked .someone;
           team = b .well-asked .team;
           known = b .well-asked .known;
+          held = b .well-asked .held;
           make = b .well-asked .make;
           asks = asks-fit-snoc (v .asked .asks) F (b .well-asked .asks) (in-drop 4 line i);
           asks-most = rw (length-append (v .asked .asks) (F ∷ [])) (omega arith);
@@ -165,5 +194,6 @@ ask-good L v line b i =
 pub step-good : (L : ℕ) (due : Due) (v : Sheet) (line : List ℕ) → WellSoFar due v → InLine line → Good L (soFar due v ++ ended line) (step L due v line)
 step-good L Team v line h i = rights-good L v line h i
 step-good L Known v line h i = known-good L v line h
+step-good L Held v line h i = held-or-make-good L v line h i
 step-good L Make v line h i = make-good L v line h i
 step-good L Asks v line h i = ask-good L v line h i

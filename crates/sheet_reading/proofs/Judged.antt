@@ -21,22 +21,24 @@ use Rattle.book_block.specs.declared.rule.Right.{Right}
 use Rattle.book_block.specs.declared.rule.Right.the-variants.{Look, Set}
 use Rattle.sheet_words.specs.Words.{split, newline, begins, twice}
 use Rattle.sheet_words.specs.Steps.{next, unless, unlessAnswered, unlessRefused}
+use Rattle.sheet_words.proofs.Split.{Clear}
 use Rattle.sheet_rules.specs.Rules.{Rule, isStated}
 use Rattle.sheet_rules.specs.Forms.{isRule, ruleOf, isSize}
-use Rattle.sheet_question.specs.Asked.{nothingAsked, teamAs, knownAs, asksAs, knownSettings}
-use Rattle.sheet_question.specs.Forms.{isTeam, isKnown}
+use Rattle.sheet_question.specs.Asked.{HeldLine, left-out, holding, nothingAsked, teamAs, knownAs, heldAs, asksAs, knownSettings}
+use Rattle.sheet_question.specs.Forms.{isTeam, isKnown, isHeld}
 use Rattle.sheet_reading.specs.Sheet.{Sheet, sized}
 use Rattle.sheet_reading.specs.Reading.{Meaning, refused, stated}
-use Rattle.sheet_reading.proofs.OnePass.{SheetStep, askedAs, withRule, ruleStep, withTeam, withKnown, withMake, withAsk, sizeStep, teamStep, knownStep}
-use Rattle.sheet_reading.proofs.OnePass.{makeStep, askStep, rightsStep, lines, firstLine, after}
-use Rattle.sheet_question.specs.declared.desk.Due.the-variants.{Team, Known, Make, Asks}
-use Rattle.sheet_reading.specs.Grammar.{ended, sizeText, word, ruleLine, ruleLines, teamLine, knownLine, makeLine, askLines, rulesText, askedText, sheetText, RulesFit, AsksFit, WellFormed}
-use Rattle.sheet_reading.specs.Faults.{Line, size-line, right-line, team-line, known-line, make-line, ask-line, linesOf}
+use Rattle.sheet_reading.proofs.OnePass.{SheetStep, askedAs, withRule, ruleStep, withTeam, withKnown, withHeld, withMake, withAsk, sizeStep, teamStep, knownStep}
+use Rattle.sheet_reading.proofs.OnePass.{heldStep, makeStep, heldOrMake, askStep, rightsStep, lines, firstLine, after}
+use Rattle.sheet_question.specs.declared.desk.Due.the-variants.{Team, Known, Held, Make, Asks}
+use Rattle.sheet_reading.specs.Grammar.{ended, sizeText, word, ruleLine, ruleLines, teamLine, knownLine, heldLine, heldText, makeLine, askLines}
+use Rattle.sheet_reading.specs.Grammar.{rulesText, askedText, sheetText, RulesFit, HeldFit, AsksFit, WellFormed}
+use Rattle.sheet_reading.specs.Faults.{Line, size-line, right-line, team-line, known-line, held-line, make-line, ask-line, heldIn, linesOf}
 use Rattle.sheet_reading.specs.Faults.{NamesTwice, FormulaRefused, Fault, above, again, in-formula, LineFault}
 use Rattle.sheet_reading.proofs.Named.{repeats-out, repeats-in, stated-out, stated-in}
 use Rattle.sheet_reading.proofs.FaultLaws.{refused-first, accepted-none, FirstFault, Turn, first-turn, faulty, onward, all-clean}
 use Rattle.sheet_reading.proofs.LineForms.{clear-append, size-read, size-clear, rule-read, rule-clear}
-use Rattle.sheet_reading.proofs.NameLines.{team-read, team-clear, known-read, known-clear}
+use Rattle.sheet_reading.proofs.NameLines.{team-read, team-clear, known-read, known-clear, held-read, held-clear}
 use Rattle.sheet_reading.proofs.LineByLine.{line-clear, lines-split, first-split}
 
 -- ---- what becomes of a well-formed sheet
@@ -79,8 +81,8 @@ ruled w rs = record { size = w .size; rules = rs; asked = nothingAsked }
 abbrev teamed : Sheet → Sheet
 teamed w = askedAs w (teamAs nothingAsked (w .asked .team))
 
-abbrev knowing : Sheet → Sheet
-knowing w = askedAs w (knownAs (teamAs nothingAsked (w .asked .team)) (w .asked .known))
+abbrev knowing : Sheet → HeldLine → Sheet
+knowing w x = askedAs w (heldAs (knownAs (teamAs nothingAsked (w .asked .team)) (w .asked .known)) x)
 
 abbrev asking : Sheet → List (List ℕ) → Sheet
 asking w Fs = askedAs w (asksAs (w .asked) Fs)
@@ -112,38 +114,64 @@ module _ (w : Sheet) (h : WellFormed w) where
       (judged-formula t (split newline (askLines Fs)) F (next (Asks, asking w (done ++ F ∷ []))) (λ r f. f) (λ x. x) (λ none.
       asks-judged Fs (done ++ F ∷ []) (suc L) (before ++ ask-line F ∷ []) (i .1) (append-assoc done (F ∷ []) Fs ∙ e) (onward t (λ x. x) (λ x. x) none))))
 
-  make-judged : (L : ℕ) (before : List Line) → Turn w L before (make-line (w .asked .make) ∷ map ask-line (w .asked .asks))
-      → Judged w (lines L Make (knowing w) (split newline (ended (makeLine (w .asked .make)) ++ askLines (w .asked .asks))))
+  -- the lines from `make` on
+  abbrev making : List Line
+  making = make-line (w .asked .make) ∷ map ask-line (w .asked .asks)
+
+  abbrev makeText : List ℕ
+  makeText = ended (makeLine (w .asked .make)) ++ askLines (w .asked .asks)
+
+  -- whether the line `held` came before it or not
+  make-judged : (x : HeldLine) → w .asked .held ≡ x → (L : ℕ) (before : List Line) → Turn w L before making
+      → Judged w (after L (split newline (askLines (w .asked .asks))) (makeStep L (knowing w x) (makeLine (w .asked .make))))
   unfolding makeStep begins withMake makeLine
-  make-judged L before t =
-      subst (Judged w)
-      (sym (lines-split L Make (knowing w) (makeLine (w .asked .make)) (askLines (w .asked .asks))
-      (clear-append 10 (bytes "make ") (w .asked .make) (omega arith) (line-clear (w .asked .make) (h .well-asked .make)))))
+  make-judged x e L before t =
+      subst (λ (x : HeldLine). Judged w (after L (split newline (askLines (w .asked .asks))) (makeStep L (knowing w x) (makeLine (w .asked .make))))) e
       (judged-formula t (split newline (askLines (w .asked .asks))) (w .asked .make) (next (Asks, asking w [])) (λ r f. f) (λ x. x) (λ none.
       asks-judged (w .asked .asks) [] (suc L) (before ++ make-line (w .asked .make) ∷ []) (h .well-asked .asks) refl (onward t (λ x. x) (λ x. x) none)))
 
-  known-judged : (L : ℕ) (before : List Line) → Turn w L before (known-line (w .asked .known) ∷ make-line (w .asked .make) ∷ map ask-line (w .asked .asks))
-      → Judged w (lines L Known (teamed w) (split newline (ended (knownLine (w .asked .known)) ++ (ended (makeLine (w .asked .make)) ++ askLines (w .asked .asks)))))
+  make-clear : Clear 10 (makeLine (w .asked .make))
+  unfolding makeLine
+  make-clear = clear-append 10 (bytes "make ") (w .asked .make) (omega arith) (line-clear (w .asked .make) (h .well-asked .make))
+
+  -- the line `held`, or `make` where it is left out
+  held-judged : (x : HeldLine) → w .asked .held ≡ x → HeldFit (w .size .settings) x → (L : ℕ) (before : List Line) → Turn w L before (heldIn x ++ making)
+      → Judged w (lines L Held (knowing w left-out) (split newline (heldText x ++ makeText)))
+  unfolding heldIn heldText heldOrMake heldStep withHeld begins heldLine makeLine
+  held-judged left-out e fit L before t =
+      subst (Judged w) (sym (lines-split L Held (knowing w left-out) (makeLine (w .asked .make)) (askLines (w .asked .asks)) make-clear)) (make-judged left-out e L before t)
+  held-judged (holding names) e fit L before t =
+      let form = held-read (w .size .settings) (h .ruled .settings-most) names fit in
+      subst (Judged w) (sym (lines-split L Held (knowing w left-out) (heldLine names) makeText (held-clear names)))
+      (rw (T→true (isHeld (w .size .settings) (heldLine names)) (form .0), form .1)
+      (judged-names t (split newline makeText) (twice (λ i. false) names) (next (Make, knowing w (holding names))) (repeats-out names) (repeats-in names) (λ once.
+      subst (Judged w) (sym (lines-split (suc L) Make (knowing w (holding names)) (makeLine (w .asked .make)) (askLines (w .asked .asks)) make-clear))
+      (make-judged (holding names) e (suc L) (before ++ held-line names ∷ []) (onward t (λ x. x) once (λ r x. x))))))
+
+  -- the lines from `held` on
+  abbrev later : List Line
+  later = heldIn (w .asked .held) ++ making
+
+  abbrev laterText : List ℕ
+  laterText = heldText (w .asked .held) ++ makeText
+
+  known-judged : (L : ℕ) (before : List Line) → Turn w L before (known-line (w .asked .known) ∷ later)
+      → Judged w (lines L Known (teamed w) (split newline (ended (knownLine (w .asked .known)) ++ laterText)))
   unfolding knownStep withKnown
   known-judged L before t =
-      let rest : List ℕ = ended (makeLine (w .asked .make)) ++ askLines (w .asked .asks) in
       let names : List ℕ = knownSettings (w .asked .known) in
       let form = known-read (w .size .settings) (h .ruled .settings-most) (w .asked .known) (h .well-asked .known) in
-      subst (Judged w) (sym (lines-split L Known (teamed w) (knownLine (w .asked .known)) rest (known-clear (w .asked .known))))
+      subst (Judged w) (sym (lines-split L Known (teamed w) (knownLine (w .asked .known)) laterText (known-clear (w .asked .known))))
       (rw (T→true (isKnown (w .size .settings) (knownLine (w .asked .known))) (form .0), form .1)
-      (judged-names t (split newline rest) (twice (λ i. false) names) (next (Make, knowing w)) (repeats-out names) (repeats-in names) (λ once.
-      make-judged (suc L) (before ++ known-line (w .asked .known) ∷ []) (onward t (λ x. x) once (λ r x. x)))))
+      (judged-names t (split newline laterText) (twice (λ i. false) names) (next (Held, knowing w left-out)) (repeats-out names) (repeats-in names) (λ once.
+      held-judged (w .asked .held) refl (h .well-asked .held) (suc L) (before ++ known-line (w .asked .known) ∷ []) (onward t (λ x. x) once (λ r x. x)))))
 
-  team-judged : (L : ℕ) (before : List Line)
-      → Turn w L before (team-line (w .asked .team) ∷ known-line (w .asked .known) ∷ make-line (w .asked .make) ∷ map ask-line (w .asked .asks))
+  team-judged : (L : ℕ) (before : List Line) → Turn w L before (team-line (w .asked .team) ∷ known-line (w .asked .known) ∷ later)
       → Judged w
-      (lines L Team (ruled w (w .rules))
-      (split newline
-      (ended (teamLine (w .asked .team))
-      ++ (ended (knownLine (w .asked .known)) ++ (ended (makeLine (w .asked .make)) ++ askLines (w .asked .asks))))))
+      (lines L Team (ruled w (w .rules)) (split newline (ended (teamLine (w .asked .team)) ++ (ended (knownLine (w .asked .known)) ++ laterText))))
   unfolding rightsStep isRule begins teamLine teamStep withTeam
   team-judged L before t =
-      let rest : List ℕ = ended (knownLine (w .asked .known)) ++ (ended (makeLine (w .asked .make)) ++ askLines (w .asked .asks)) in
+      let rest : List ℕ = ended (knownLine (w .asked .known)) ++ laterText in
       let names : List ℕ = w .asked .team in
       let form = team-read (w .size .posts) (h .ruled .posts-most) (w .asked .team) (h .well-asked .someone) (h .well-asked .team) in
       subst (Judged w) (sym (lines-split L Team (ruled w (w .rules)) (teamLine (w .asked .team)) rest (team-clear (w .asked .team))))
@@ -188,7 +216,7 @@ module _ (w : Sheet) (h : WellFormed w) where
       let form = size-read (w .size .settings) (w .size .posts) (h .ruled .settings-least, h .ruled .settings-most, h .ruled .posts-least, h .ruled .posts-most) in
       let rest : List ℕ = askedText (w .asked) in
       let whole : List ℕ = ruleLines (w .rules) ++ rest in
-      let behind : List Line = team-line (w .asked .team) ∷ known-line (w .asked .known) ∷ make-line (w .asked .make) ∷ map ask-line (w .asked .asks) in
+      let behind : List Line = team-line (w .asked .team) ∷ known-line (w .asked .known) ∷ later in
       subst (Judged w)
       (sym (ap (λ (s : List ℕ). firstLine (split newline s)) (append-assoc (ended line) (ruleLines (w .rules)) rest) ∙ first-split line whole (size-clear (w .size .settings) (w .size .posts))))
       (rw (T→true (isSize line) (form .0), form .1, form .2)

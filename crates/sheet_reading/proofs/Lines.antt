@@ -1,6 +1,6 @@
 -- The first lines of a text: what follows them, that a text which begins with them has the same, and that a sheet's text is its lines.
 use mathlib.Core.Path.{_≡_, refl, sym, ap, ap₂, _∙_}
-use mathlib.Core.List.{List, [], _∷_, _++_, append-assoc, map, map-append}
+use mathlib.Core.List.{List, [], _∷_, _++_, append-assoc, append-nil, map, map-append}
 use Prim.Native.Nat.{ℕ, zero, suc, _≤_, _<_}
 use native.Mathlib.Omega.{arith}
 use lib.ListN.{length, take, drop}
@@ -9,10 +9,11 @@ use Rattle.ground.specs.Text.{bytes}
 use Rattle.sheet_words.specs.Words.{split, newline}
 use Rattle.sheet_words.proofs.Split.{AllClear, joined, joined-split, split-clear}
 use Rattle.sheet_rules.specs.Rules.{Rule}
+use Rattle.sheet_question.specs.Asked.{HeldLine, left-out, holding}
 use Rattle.sheet_reading.specs.Sheet.{Sheet}
-use Rattle.sheet_reading.specs.Grammar.{ended, ruleLine, ruleLines, teamLine, knownLine, makeLine, askLines, rulesText, askedText, sheetText}
+use Rattle.sheet_reading.specs.Grammar.{ended, ruleLine, ruleLines, teamLine, knownLine, heldLine, heldText, makeLine, askLines, rulesText, askedText, sheetText}
 use Rattle.sheet_reading.specs.Place.{allEnded, firstLines}
-use Rattle.sheet_reading.specs.Faults.{size-line, right-line, ask-line, lineText, linesOf}
+use Rattle.sheet_reading.specs.Faults.{Line, size-line, right-line, team-line, known-line, make-line, ask-line, lineText, heldIn, linesOf}
 use Rattle.sheet_reading.proofs.LineByLine.{split-ended}
 
 pub ended-append : (p q : List (List ℕ)) → allEnded (p ++ q) ≡ allEnded p ++ allEnded q
@@ -68,15 +69,25 @@ unfolding askLines allEnded lineText
 asks-text [] = refl
 asks-text (F ∷ Fs) = ap (_++_ (ended (bytes "ask " ++ F))) (asks-text Fs)
 
+held-text : (x : HeldLine) → heldText x ≡ allEnded (map lineText (heldIn x))
+unfolding heldText heldIn allEnded lineText
+held-text left-out = refl
+held-text (holding names) = sym (append-nil (ended (heldLine names)))
+
+-- some lines, and then others
+lines-append : (xs ys : List Line) → allEnded (map lineText (xs ++ ys)) ≡ allEnded (map lineText xs) ++ allEnded (map lineText ys)
+lines-append xs ys = ap allEnded (map-append lineText xs ys) ∙ ended-append (map lineText xs) (map lineText ys)
+
 pub sheet-lines : (w : Sheet) → sheetText w ≡ allEnded (map lineText (linesOf w))
 unfolding sheetText rulesText askedText linesOf lineText allEnded
 sheet-lines w =
-    let asked : List (List ℕ) = teamLine (w .asked .team) ∷ knownLine (w .asked .known) ∷ makeLine (w .asked .make) ∷ map lineText (map ask-line (w .asked .asks)) in
+    let a = w .asked in
+    let making : List Line = make-line (a .make) ∷ map ask-line (a .asks) in
+    let asking : List Line = team-line (a .team) ∷ known-line (a .known) ∷ heldIn (a .held) ++ making in
     let head : List ℕ = ended (lineText (size-line (w .size))) in
-    let rights : List (List ℕ) = map lineText (map right-line (w .rules)) in
-    append-assoc head (ruleLines (w .rules)) (askedText (w .asked))
+    let make : ended (makeLine (a .make)) ++ askLines (a .asks) ≡ allEnded (map lineText making) = ap (_++_ (ended (makeLine (a .make)))) (asks-text (a .asks)) in
+    append-assoc head (ruleLines (w .rules)) (askedText a)
     ∙ ap (_++_ head)
     (ap₂ _++_ (rules-text (w .rules))
-    (ap (λ (t : List ℕ). ended (teamLine (w .asked .team)) ++ (ended (knownLine (w .asked .known)) ++ (ended (makeLine (w .asked .make)) ++ t))) (asks-text (w .asked .asks)))
-    ∙ sym (ended-append rights asked)
-    ∙ ap allEnded (sym (map-append lineText (map right-line (w .rules)) _)))
+    (ap (λ (t : List ℕ). ended (teamLine (a .team)) ++ (ended (knownLine (a .known)) ++ t)) (ap₂ _++_ (held-text (a .held)) make ∙ sym (lines-append (heldIn (a .held)) making)))
+    ∙ sym (lines-append (map right-line (w .rules)) asking))

@@ -3,7 +3,7 @@ use mathlib.Core.Path.{_≡_, refl, sym, ap, _∙_}
 use mathlib.Core.Logic.{inl, inr}
 use mathlib.Core.List.{List, [], _∷_, _++_, map}
 use mathlib.Core.Bool.{Bool, true, false, _&&_, _||_}
-use Prim.Native.Nat.{ℕ, suc, _+_, _≤_}
+use Prim.Native.Nat.{ℕ, suc, _+_, _≤_, _<_}
 use native.Mathlib.Numerals.{add-one}
 use native.Mathlib.Omega.{arith}
 use lib.Dec.{T, eqb, eqb→eq, not-T}
@@ -15,9 +15,10 @@ use Rattle.sheet_words.specs.Words.{space, split, begins, allNames, indexes}
 use Rattle.sheet_words.proofs.Split.{marked, Clear, some-piece, marked-some, joined-split, split-joined}
 use Rattle.sheet_words.proofs.NameForms.{three}
 use Rattle.sheet_question.specs.Asked.{Known}
-use Rattle.sheet_question.specs.Forms.{nameWords, isNames, isTeam, teamOf, isKnown, knownBy, knownOf}
-use Rattle.sheet_reading.specs.Grammar.{postsText, teamLine, knownWord, knownsText, knownLine, PostsFit, KnownFit}
-use Rattle.sheet_reading.proofs.WordForms.{postWord, posts-text, posts-clear, posts-written, posts-read, knowns-text, word-clear, knowns-clear, knowns-written, knowns-read}
+use Rattle.sheet_question.specs.Forms.{nameWords, isNames, isTeam, teamOf, isKnown, knownBy, knownOf, isHeld, heldOf}
+use Rattle.sheet_reading.specs.Grammar.{namesText, teamLine, knownWord, knownsText, knownLine, heldLine, NamesFit, KnownFit}
+use Rattle.sheet_reading.proofs.WordForms.{nameWord, names-marked, names-clear, names-unbroken, names-written, names-read}
+use Rattle.sheet_reading.proofs.WordForms.{knowns-text, word-clear, knowns-clear, knowns-written, knowns-read}
 use Rattle.sheet_reading.proofs.LineForms.{begins-written, there, clear-append}
 
 -- ---- what follows the word
@@ -51,6 +52,13 @@ names-parts w alone signed first count line h =
     let parts = three (begins w line) (Follows w alone line) (allNames signed first count (nameWords w line)) h in
     (parts .2, parts .1, begins-written w line (parts .0) ∙ ap (_++_ w) (sym (names-text w line alone (parts .1))))
 
+-- the names of a line, from the first on
+names-split : (first : ℕ) → 32 < first → (i : ℕ) (names : List ℕ) → split space ((first + i) ∷ namesText first names) ≡ map (nameWord first) (i ∷ names)
+names-split first l i names =
+    let clear = names-clear first l (i ∷ names) in
+    ap (λ (s : List ℕ). split space ((first + i) ∷ s)) (names-marked first names)
+    ∙ split-joined space (nameWord first i) (map (nameWord first) names) (clear .0) (clear .1)
+
 -- ---- `team G ..`
 
 -- a line that does not stand alone has a word at least
@@ -62,38 +70,32 @@ some-word w line h P f =
     let long = T→false (eqb (length line) (length w)) (not-T (eqb (length line) (length w)) (λ e. (let size = eqb→eq (length line) (length w) e in omega arith))) in
     rw long (some-piece space P f (drop (length w + 1) line))
 
-pub team-written : (m : ℕ) (line : List ℕ) → T (isTeam m line) → (1 ≤ length (teamOf line)) × PostsFit m (teamOf line) × (line ≡ teamLine (teamOf line))
+pub team-written : (m : ℕ) (line : List ℕ) → T (isTeam m line) → (1 ≤ length (teamOf line)) × NamesFit m (teamOf line) × (line ≡ teamLine (teamOf line))
 unfolding isTeam teamOf teamLine indexes
 team-written m line h =
     let words : List (List ℕ) = nameWords (bytes "team") line in
     let parts = names-parts (bytes "team") false false 49 m line h in
-    let names = posts-written m words (parts .0) in (
+    let names = names-written 49 m words (parts .0) in (
       some-word (bytes "team") line (parts .1) (λ q. 1 ≤ length (indexes 49 q)) some,
       names .0,
-      parts .2 ∙ ap (_++_ (bytes "team")) (sym (posts-text (indexes 49 words) ∙ ap (marked space) (names .1))),
+      parts .2 ∙ ap (_++_ (bytes "team")) (sym (names-marked 49 (indexes 49 words) ∙ ap (marked space) (names .1))),
     )
   where
     some : (p : List ℕ) (ps : List (List ℕ)) → 1 ≤ length (indexes 49 (p ∷ ps))
     some p ps = omega arith
 
-pub team-read : (m : ℕ) → m ≤ 8 → (qs : List ℕ) → 1 ≤ length qs → PostsFit m qs → T (isTeam m (teamLine qs)) × (teamOf (teamLine qs) ≡ qs)
-unfolding isTeam isNames teamOf teamLine nameWords postsText begins
+pub team-read : (m : ℕ) → m ≤ 8 → (qs : List ℕ) → 1 ≤ length qs → NamesFit m qs → T (isTeam m (teamLine qs)) × (teamOf (teamLine qs) ≡ qs)
+unfolding isTeam isNames teamOf teamLine nameWords namesText begins
 team-read m l [] some h = absurd (omega arith)
 team-read m l (q ∷ qs) some h =
-    let clear = posts-clear (q ∷ qs) in
-    let words : split space ((49 + q) ∷ postsText qs) ≡ map postWord (q ∷ qs) =
-    ap (λ (s : List ℕ). split space ((49 + q) ∷ s)) (posts-text qs) ∙ split-joined space (postWord q) (map postWord qs) (clear .0) (clear .1) in
+    let words = names-split 49 (omega arith) q qs in
     let size : ℕ = length (teamLine (q ∷ qs)) in
     let long = T→false (eqb size 4) (not-T (eqb size 4) (λ e. (let four-bytes = eqb→eq size 4 e in omega arith))) in
-    rw (long, words) (posts-read m l (q ∷ qs) h)
+    rw (long, words) (names-read 49 m (omega (arith, l)) (q ∷ qs) h)
 
 pub team-clear : (qs : List ℕ) → Clear 10 (teamLine qs)
-unfolding teamLine postsText
-team-clear qs = clear-append 10 (bytes "team") (postsText qs) (omega arith) (posts qs)
-  where
-    posts : (qs : List ℕ) → Clear 10 (postsText qs)
-    posts [] = tt
-    posts (q ∷ qs) = (omega arith, (omega arith, posts qs))
+unfolding teamLine
+team-clear qs = clear-append 10 (bytes "team") (namesText 49 qs) (omega arith) (names-unbroken 49 (omega arith) qs)
 
 -- ---- `known`, with settings or alone
 
@@ -124,3 +126,26 @@ known-clear ks = clear-append 10 (bytes "known") (knownsText ks) (omega arith) (
     knowns : (ks : List Known) → Clear 10 (knownsText ks)
     knowns [] = tt
     knowns (k ∷ ks) = (omega arith, clear-append 10 (knownWord k) (knownsText ks) (word-clear 10 (omega arith) k) (knowns ks))
+
+-- ---- `held`, with settings or alone
+
+pub held-written : (n : ℕ) (line : List ℕ) → T (isHeld n line) → NamesFit n (heldOf line) × (line ≡ heldLine (heldOf line))
+unfolding isHeld heldOf heldLine
+held-written n line h =
+    let words : List (List ℕ) = nameWords (bytes "held") line in
+    let parts = names-parts (bytes "held") true false 97 n line h in
+    let names = names-written 97 n words (parts .0) in
+    (names .0, parts .2 ∙ ap (_++_ (bytes "held")) (sym (names-marked 97 (indexes 97 words) ∙ ap (marked space) (names .1))))
+
+pub held-read : (n : ℕ) → n ≤ 7 → (names : List ℕ) → NamesFit n names → T (isHeld n (heldLine names)) × (heldOf (heldLine names) ≡ names)
+unfolding isHeld isNames heldOf heldLine namesText begins nameWords allNames indexes
+held-read n l [] h = (tt, refl)
+held-read n l (i ∷ names) h =
+    let words = names-split 97 (omega arith) i names in
+    let size : ℕ = length (heldLine (i ∷ names)) in
+    let long = T→false (eqb size 4) (not-T (eqb size 4) (λ e. (let four-bytes = eqb→eq size 4 e in omega arith))) in
+    rw (long, words) (names-read 97 n (omega (arith, l)) (i ∷ names) h)
+
+pub held-clear : (names : List ℕ) → Clear 10 (heldLine names)
+unfolding heldLine
+held-clear names = clear-append 10 (bytes "held") (namesText 97 names) (omega arith) (names-unbroken 97 (omega arith) names)

@@ -13,10 +13,11 @@ use Rattle.sheet_words.specs.Words.{begins}
 use Rattle.sheet_words.specs.Steps.{Step, fault, next, unless, unlessRefused, namesStep}
 use Rattle.sheet_rules.specs.Rules.{Rule, isStated}
 use Rattle.sheet_rules.specs.Forms.{isSize, digitAt, isRule, ruleOf}
-use Rattle.sheet_question.specs.Asked.{Asked, teamAs, knownAs, makeAs, asksAs, knownSettings}
-use Rattle.sheet_question.specs.Forms.{isTeam, teamOf, isKnown, knownOf}
+use Rattle.sheet_question.specs.Asked.{Asked, holding, teamAs, knownAs, heldAs, makeAs, asksAs, knownSettings}
+use Rattle.sheet_question.specs.Forms.{isTeam, teamOf, isKnown, knownOf, isHeld, heldOf}
+use Rattle.sheet_question.specs.LineSteps.{heldOr}
 use Rattle.sheet_question.specs.declared.desk.Due.{Due}
-use Rattle.sheet_question.specs.declared.desk.Due.the-variants.{Team, Known, Make, Asks}
+use Rattle.sheet_question.specs.declared.desk.Due.the-variants.{Team, Known, Held, Make, Asks}
 use Rattle.sheet_reading.specs.Sheet.{Sheet, sized}
 use Rattle.sheet_reading.specs.Reading.{Meaning, refused, stated}
 
@@ -42,6 +43,9 @@ withTeam v line = askedAs v (teamAs (v .asked) (teamOf line))
 unfoldable pub withKnown : Sheet → List ℕ → Sheet
 withKnown v line = askedAs v (knownAs (v .asked) (knownOf line))
 
+unfoldable pub withHeld : Sheet → List ℕ → Sheet
+withHeld v line = askedAs v (heldAs (v .asked) (holding (heldOf line)))
+
 unfoldable pub withMake : Sheet → List ℕ → Sheet
 withMake v F = askedAs v (makeAs (v .asked) F)
 
@@ -60,11 +64,17 @@ unfoldable pub teamStep : ℕ → Sheet → List ℕ → SheetStep
 teamStep L v line = namesStep L (isTeam (v .size .posts) line) (teamOf line) (next (Known, withTeam v line))
 
 unfoldable pub knownStep : ℕ → Sheet → List ℕ → SheetStep
-knownStep L v line = namesStep L (isKnown (v .size .settings) line) (knownSettings (knownOf line)) (next (Make, withKnown v line))
+knownStep L v line = namesStep L (isKnown (v .size .settings) line) (knownSettings (knownOf line)) (next (Held, withKnown v line))
+
+unfoldable pub heldStep : ℕ → Sheet → List ℕ → SheetStep
+heldStep L v line = namesStep L (isHeld (v .size .settings) line) (heldOf line) (next (Make, withHeld v line))
 
 unfoldable pub makeStep : ℕ → Sheet → List ℕ → SheetStep
 makeStep L v line =
     unless (begins (bytes "make ") line) (Malformed L) (unlessRefused (v .size .settings) (drop 5 line) (next (Asks, withMake v (drop 5 line))))
+
+unfoldable pub heldOrMake : ℕ → Sheet → List ℕ → SheetStep
+heldOrMake L v line = heldOr (begins (bytes "held") line) (heldStep L v line) (makeStep L v line)
 
 unfoldable pub askStep : ℕ → Sheet → List ℕ → SheetStep
 askStep L v line =
@@ -92,6 +102,7 @@ rightsStep L v line =
 abbrev pub step : ℕ → Due → Sheet → List ℕ → SheetStep
 step L Team v line = rightsStep L v line
 step L Known v line = knownStep L v line
+step L Held v line = heldOrMake L v line
 step L Make v line = makeStep L v line
 step L Asks v line = askStep L v line
 
@@ -101,6 +112,7 @@ step L Asks v line = askStep L v line
 abbrev pub ending : Due → Sheet → List ℕ → ℕ → Meaning
 ending Team v rest L = refused (Malformed L) L
 ending Known v rest L = refused (Malformed L) L
+ending Held v rest L = refused (Malformed L) L
 ending Make v rest L = refused (Malformed L) L
 ending Asks v [] L = stated v
 ending Asks v (c ∷ rest) L = refused (Malformed L) L

@@ -16,7 +16,7 @@ use Rattle.sheet_reading.specs.Sheet.{Sheet, sized}
 use Rattle.sheet_reading.specs.Reading.{Meaning, refused, stated}
 use Rattle.sheet_reading.proofs.OnePass.{SheetStep, sizeStep, step, ending, lines, firstLine, after, lines-after, first-after}
 use Rattle.sheet_question.specs.declared.desk.Due.{Due}
-use Rattle.sheet_question.specs.declared.desk.Due.the-variants.{Team, Known, Make, Asks}
+use Rattle.sheet_question.specs.declared.desk.Due.the-variants.{Team, Known, Held, Make, Asks}
 use Rattle.sheet_reading.specs.Grammar.{ended}
 use Rattle.sheet_reading.specs.Place.{BeginsSheet, allEnded}
 use Rattle.sheet_reading.proofs.LineByLine.{in-line, lines-split, first-split}
@@ -93,6 +93,7 @@ lines-placed [] rest K due v c h = by-due due v rest h
     by-due : (due : Due) (v : Sheet) (rest : List ℕ) → WellSoFar due v → Placed (soFar due v) (rest ∷ []) (λ s. lines K due v (split newline s)) K (ending due v rest K)
     by-due Team v rest h = at-last (soFar Team v) (λ s. lines K Team v (split newline s)) K (so-far-begins Team v h) rest
     by-due Known v rest h = at-last (soFar Known v) (λ s. lines K Known v (split newline s)) K (so-far-begins Known v h) rest
+    by-due Held v rest h = at-last (soFar Held v) (λ s. lines K Held v (split newline s)) K (so-far-begins Held v h) rest
     by-due Make v rest h = at-last (soFar Make v) (λ s. lines K Make v (split newline s)) K (so-far-begins Make v h) rest
     by-due Asks v [] h = tt
     by-due Asks v (x ∷ rest) h = at-last (soFar Asks v) (λ s. lines K Asks v (split newline s)) K (so-far-begins Asks v h) (x ∷ rest)
@@ -108,7 +109,7 @@ pub empty-begins : BeginsSheet []
 unfolding sized
 empty-begins =
     begins-less [] (soFar Team (sized 1 1))
-    (so-far-begins Team (sized 1 1) ((record { settings-least = omega arith; settings-most = omega arith; posts-least = omega arith; posts-most = omega arith; rules = tt }, refl)))
+    (so-far-begins Team (sized 1 1) ((record { settings-least = omega arith; settings-most = omega arith; posts-least = omega arith; posts-most = omega arith; rules = tt }, refl, refl)))
 
 first-placed : (line : List ℕ) (more : List (List ℕ)) → AllClear newline (line ∷ more) → Placed [] (line ∷ more) (λ s. firstLine (split newline s)) 1 (firstLine (line ∷ more))
 unfolding firstLine

@@ -1,6 +1,6 @@
 -- The text of the lines so far, by what is due, and what they say: from each such place a well-formed sheet goes on, with a team of one, `known`
--- alone and `make 0`.
-use mathlib.Core.Path.{_≡_, refl, sym, _∙_, subst}
+-- alone, no line `held` and `make 0`.
+use mathlib.Core.Path.{_≡_, refl, sym, ap, _∙_, subst}
 use mathlib.Core.Logic.{_⊎_, inl, inr}
 use mathlib.Core.List.{List, [], _∷_, _++_, append-assoc, append-nil}
 use mathlib.Core.Bool.{Bool, true, false}
@@ -17,13 +17,13 @@ use Rattle.formula.specs.declared.Answer.the-variants.{Accepted, Refused}
 use Rattle.formula.specs.Computed.{formulaAnswer}
 use Rattle.sheet_words.specs.Steps.{fault, next, unless, unlessAnswered, unlessRefused}
 use Rattle.sheet_rules.proofs.FormulaLaws.{formula-number}
-use Rattle.sheet_question.specs.Asked.{teamAs, knownAs}
+use Rattle.sheet_question.specs.Asked.{HeldLine, left-out, teamAs, knownAs}
 use Rattle.sheet_reading.specs.Sheet.{Sheet}
 use Rattle.sheet_reading.proofs.OnePass.{SheetStep, askedAs, withMake}
 use Rattle.sheet_question.specs.declared.desk.Due.{Due}
-use Rattle.sheet_question.specs.declared.desk.Due.the-variants.{Team, Known, Make, Asks}
-use Rattle.sheet_reading.specs.Grammar.{ended, teamLine, knownLine, makeLine, askLines, rulesText, askedText, sheetText}
-use Rattle.sheet_reading.specs.Grammar.{InLine, PostsFit, KnownFit, AsksFit, WellRuled, WellFormed}
+use Rattle.sheet_question.specs.declared.desk.Due.the-variants.{Team, Known, Held, Make, Asks}
+use Rattle.sheet_reading.specs.Grammar.{ended, teamLine, knownLine, heldText, makeLine, askLines, rulesText, askedText, sheetText}
+use Rattle.sheet_reading.specs.Grammar.{InLine, NamesFit, KnownFit, HeldFit, AsksFit, WellRuled, WellFormed}
 use Rattle.sheet_reading.specs.Place.{BeginsSheet}
 
 -- ---- the text of the lines so far, by what is due
@@ -37,44 +37,68 @@ toTeam v = toRights v ++ ended (teamLine (v .asked .team))
 unfoldable pub toKnown : Sheet → List ℕ
 toKnown v = toTeam v ++ ended (knownLine (v .asked .known))
 
+unfoldable pub toHeld : Sheet → List ℕ
+toHeld v = toKnown v ++ heldText (v .asked .held)
+
 abbrev pub soFar : Due → Sheet → List ℕ
 soFar Team v = toRights v
 soFar Known v = toTeam v
-soFar Make v = toKnown v
-soFar Asks v = (toKnown v ++ ended (makeLine (v .asked .make))) ++ askLines (v .asked .asks)
+soFar Held v = toKnown v
+soFar Make v = toHeld v
+soFar Asks v = (toHeld v ++ ended (makeLine (v .asked .make))) ++ askLines (v .asked .asks)
 
 -- ---- and what they say
 
--- well-formed rules, and nothing to learn yet
+-- well-formed rules, and nothing held or to learn yet
 abbrev pub Begun : Sheet → Type 0
-Begun v = WellRuled (v .size) (v .rules) × (v .asked .asks ≡ [])
+Begun v = WellRuled (v .size) (v .rules) × (v .asked .asks ≡ []) × (v .asked .held ≡ left-out)
 
 abbrev pub Teamed : Sheet → Type 0
-Teamed v = Begun v × (1 ≤ length (v .asked .team)) × PostsFit (v .size .posts) (v .asked .team)
+Teamed v = Begun v × (1 ≤ length (v .asked .team)) × NamesFit (v .size .posts) (v .asked .team)
+
+-- all but the make formula, and nothing to learn yet
+pub record ToMake (v : Sheet) : Type 0 where
+  pub ruled : WellRuled (v .size) (v .rules)
+  pub no-asks : v .asked .asks ≡ []
+  pub someone : 1 ≤ length (v .asked .team)
+  pub team : NamesFit (v .size .posts) (v .asked .team)
+  pub known : KnownFit (v .size .settings) (v .asked .known)
+  pub held : HeldFit (v .size .settings) (v .asked .held)
 
 abbrev pub WellSoFar : Due → Sheet → Type 0
 WellSoFar Team v = Begun v
 WellSoFar Known v = Teamed v
-WellSoFar Make v = Teamed v × KnownFit (v .size .settings) (v .asked .known)
+WellSoFar Held v = Teamed v × KnownFit (v .size .settings) (v .asked .known)
+WellSoFar Make v = ToMake v
 WellSoFar Asks v = WellFormed v
+
+-- where the line `held` may come it may be left out
+pub none-held : (v : Sheet) → WellSoFar Held v → ToMake v
+none-held v (((rules, asks, none), one, team), known) =
+    record { ruled = rules; no-asks = asks; someone = one; team = team; known = known; held = subst (HeldFit (v .size .settings)) (sym none) tt }
+
+pub none-text : (v : Sheet) → WellSoFar Held v → toHeld v ≡ toKnown v
+unfolding toHeld heldText
+none-text v (((rules, asks, none), one, team), known) = ap (λ (x : HeldLine). toKnown v ++ heldText x) none ∙ append-nil (toKnown v)
 
 -- with a make formula nothing is left that must come
 pub made : (v : Sheet) (F : List ℕ) → WellSoFar Make v → InLine F → WellFormed (withMake v F)
 unfolding withMake
-made v F (((b, none), one, team), known) i = record {
-  ruled = b;
+made v F so i = record {
+  ruled = so .ruled;
   well-asked = record {
-    someone = one;
-    team = team;
-    known = known;
+    someone = so .someone;
+    team = so .team;
+    known = so .known;
+    held = so .held;
     make = i;
-    asks = subst AsksFit (sym none) tt;
-    asks-most = rw none (omega arith);
+    asks = subst AsksFit (sym (so .no-asks)) tt;
+    asks-most = rw (so .no-asks) (omega arith);
   };
 }
 
 pub whole : (v : Sheet) → sheetText v ≡ soFar Asks v
-unfolding sheetText askedText toKnown toTeam toRights
+unfolding sheetText askedText toHeld toKnown toTeam toRights
 whole v = sym (simp append-assoc)
 
 -- ---- a well-formed sheet goes on
@@ -85,18 +109,21 @@ begins-less p q b = record { sheet = b .sheet; well-formed = b .well-formed; res
 asks-begin : (v : Sheet) → WellFormed v → BeginsSheet (soFar Asks v)
 asks-begin v h = record { sheet = v; well-formed = h; rest = []; written = whole v ∙ sym (append-nil (soFar Asks v)) }
 
-make-begins : (v : Sheet) → WellSoFar Make v → BeginsSheet (toKnown v)
-unfolding toKnown toTeam toRights withMake
+make-begins : (v : Sheet) → WellSoFar Make v → BeginsSheet (toHeld v)
+unfolding toHeld toKnown toTeam toRights withMake
 make-begins v h =
-    begins-less (toKnown v) (ended (makeLine (bytes "0")))
-    (begins-less (toKnown v ++ ended (makeLine (bytes "0"))) (askLines (v .asked .asks))
+    begins-less (toHeld v) (ended (makeLine (bytes "0")))
+    (begins-less (toHeld v ++ ended (makeLine (bytes "0"))) (askLines (v .asked .asks))
     (asks-begin (withMake v (bytes "0")) (made v (bytes "0") h (omega arith))))
+
+held-begins : (v : Sheet) → WellSoFar Held v → BeginsSheet (toKnown v)
+held-begins v h = subst BeginsSheet (none-text v h) (make-begins v (none-held v h))
 
 known-begins : (v : Sheet) → WellSoFar Known v → BeginsSheet (toTeam v)
 unfolding toKnown toTeam toRights
 known-begins v h =
     begins-less (toTeam v) (ended (knownLine []))
-    (make-begins (askedAs v (knownAs (v .asked) [])) (h, tt))
+    (held-begins (askedAs v (knownAs (v .asked) [])) (h, tt))
 
 rights-begin : (v : Sheet) → WellSoFar Team v → BeginsSheet (toRights v)
 unfolding toTeam toRights
@@ -107,6 +134,7 @@ rights-begin v h =
 pub so-far-begins : (due : Due) (v : Sheet) → WellSoFar due v → BeginsSheet (soFar due v)
 so-far-begins Team v h = rights-begin v h
 so-far-begins Known v h = known-begins v h
+so-far-begins Held v h = held-begins v h
 so-far-begins Make v h = make-begins v h
 so-far-begins Asks v h = asks-begin v h
 

@@ -14,7 +14,7 @@ use Rattle.sheet_reading.specs.Sheet.{Sheet}
 use Rattle.sheet_reading.specs.Reading.{Meaning, refused, stated, sheetMeaning}
 use Rattle.sheet_reading.proofs.OnePass.{SheetStep, sizeStep, step, ending, lines, firstLine, after, lines-after, first-after}
 use Rattle.sheet_question.specs.declared.desk.Due.{Due}
-use Rattle.sheet_question.specs.declared.desk.Due.the-variants.{Team, Known, Make, Asks}
+use Rattle.sheet_question.specs.declared.desk.Due.the-variants.{Team, Known, Held, Make, Asks}
 use Rattle.sheet_reading.specs.Grammar.{ended, sheetText, WellFormed}
 use Rattle.sheet_reading.specs.Place.{IsSheet}
 use Rattle.sheet_reading.proofs.TwoParts.{sheet-meaning}
@@ -31,6 +31,7 @@ Written s (stated w) = WellFormed w × (sheetText w ≡ s)
 ending-written : (due : Due) (v : Sheet) (rest : List ℕ) (L : ℕ) → WellSoFar due v → Written (soFar due v ++ rest) (ending due v rest L)
 ending-written Team v rest L h = tt
 ending-written Known v rest L h = tt
+ending-written Held v rest L h = tt
 ending-written Make v rest L h = tt
 ending-written Asks v [] L h = (h, whole v ∙ sym (append-nil (soFar Asks v)))
 ending-written Asks v (c ∷ rest) L h = tt

@@ -1,6 +1,6 @@
 -- The meaning that is put together from rules and question is the one of a single pass over the lines: line by line, a line of rules does in both what it
 -- does alone, and so does a line of the question.
-use mathlib.Core.Path.{_≡_, refl, sym, ap, _∙_}
+use mathlib.Core.Path.{_≡_, refl, sym, ap, ap₂, _∙_}
 use mathlib.Core.Logic.{inl, inr}
 use mathlib.Core.Bool.{Bool, true, false, not, _&&_, _||_, cond}
 use mathlib.Core.List.{List, [], _∷_}
@@ -25,20 +25,22 @@ use Rattle.sheet_rules.specs.Steps.{sizeStep as rulesSize, ruleStep as rulesRul
 use Rattle.sheet_rules.specs.Reading.{rulesFrom, afterSize, sizeFrom, rulesRead}
 use Rattle.sheet_rules.proofs.ReadLaws.{rules-line, rules-end}
 use Rattle.sheet_question.specs.Asked.{Asked, nothingAsked, knownSettings}
-use Rattle.sheet_question.specs.Forms.{isTeam, teamOf, isKnown, knownOf}
-use Rattle.sheet_question.specs.LineSteps.{AskedStep, dueStep}
-use Rattle.sheet_question.specs.LineSteps.{withTeam as askedTeam, withKnown as askedKnown, withMake as askedMake, withAsk as askedAsk}
-use Rattle.sheet_question.specs.LineSteps.{teamStep as askedTeamStep, knownStep as askedKnownStep, makeStep as askedMakeStep, askStep as askedAskStep}
+use Rattle.sheet_question.specs.Forms.{isTeam, teamOf, isKnown, knownOf, isHeld, heldOf}
+use Rattle.sheet_question.specs.LineSteps.{AskedStep, heldOr, dueStep}
+use Rattle.sheet_question.specs.LineSteps.{withTeam as askedTeam, withKnown as askedKnown, withHeld as askedHeld, withMake as askedMake, withAsk as askedAsk}
+use Rattle.sheet_question.specs.LineSteps.{teamStep as askedTeamStep, knownStep as askedKnownStep, heldStep as askedHeldStep}
+use Rattle.sheet_question.specs.LineSteps.{makeStep as askedMakeStep, askStep as askedAskStep, heldOrMake as askedHeldOrMake}
 use Rattle.sheet_question.specs.Question.{askedFrom}
 use Rattle.sheet_question.specs.Question.{ending as askedEnding}
 use Rattle.sheet_question.specs.declared.desk.Due.{Due}
-use Rattle.sheet_question.specs.declared.desk.Due.the-variants.{Team, Known, Make, Asks}
+use Rattle.sheet_question.specs.declared.desk.Due.the-variants.{Team, Known, Held, Make, Asks}
 use Rattle.sheet_question.proofs.ReadLaws.{asked-after}
 use Rattle.sheet_question.proofs.ReadLaws.{after as askedNext}
 use Rattle.sheet_question.proofs.StepLaws.{line-by}
 use Rattle.sheet_reading.specs.Sheet.{Sheet, sheetOf, sized}
 use Rattle.sheet_reading.specs.Reading.{refused, withQuestion, afterRules, sheetMeaning}
-use Rattle.sheet_reading.proofs.OnePass.{SheetStep, withRule, withTeam, withKnown, withMake, withAsk, sizeStep, ruleStep, teamStep, knownStep, makeStep, askStep, rightOrTeam, rightsStep, step}
+use Rattle.sheet_reading.proofs.OnePass.{SheetStep, withRule, withTeam, withKnown, withHeld, withMake, withAsk, sizeStep, ruleStep, teamStep, knownStep}
+use Rattle.sheet_reading.proofs.OnePass.{heldStep, makeStep, heldOrMake, askStep, rightOrTeam, rightsStep, step}
 use Rattle.sheet_reading.proofs.OnePass.{ending, lines, firstLine, after, lines-after, first-after}
 
 -- ---- a step, carried from a part to the sheet
@@ -83,7 +85,7 @@ module _ (rules : Rules) where
 
   known-same : (L : ℕ) (a : Asked) (line : List ℕ) → knownStep L (sheetOf rules a) line ≡ carried asks (askedKnownStep n L a line)
   unfolding knownStep askedKnownStep withKnown askedKnown
-  known-same L a line = sym (carried-names asks L (isKnown n line) (knownSettings (knownOf line)) (next (Make, askedKnown a line)))
+  known-same L a line = sym (carried-names asks L (isKnown n line) (knownSettings (knownOf line)) (next (Held, askedKnown a line)))
 
   make-same : (L : ℕ) (a : Asked) (line : List ℕ) → makeStep L (sheetOf rules a) line ≡ carried asks (askedMakeStep n L a line)
   unfolding makeStep askedMakeStep withMake askedMake
@@ -91,6 +93,16 @@ module _ (rules : Rules) where
       let later : AskedStep = next (Asks, askedMake a (drop 5 line)) in
       sym (carried-unless asks (begins (bytes "make ") line) (Malformed L) (unlessRefused n (drop 5 line) later)
       ∙ ap (unless (begins (bytes "make ") line) (Malformed L)) (carried-refused asks n (drop 5 line) later))
+
+  carried-held : (b : Bool) (x y : AskedStep) → carried asks (heldOr b x y) ≡ heldOr b (carried asks x) (carried asks y)
+  carried-held true x y = refl
+  carried-held false x y = refl
+
+  held-same : (L : ℕ) (a : Asked) (line : List ℕ) → heldOrMake L (sheetOf rules a) line ≡ carried asks (askedHeldOrMake n L a line)
+  unfolding heldOrMake askedHeldOrMake heldStep askedHeldStep withHeld askedHeld
+  held-same L a line =
+      ap₂ (heldOr (begins (bytes "held") line)) (sym (carried-names asks L (isHeld n line) (heldOf line) (next (Make, askedHeld a line)))) (make-same L a line)
+      ∙ sym (carried-held (begins (bytes "held") line) _ (askedMakeStep n L a line))
 
   ask-same : (L : ℕ) (a : Asked) (line : List ℕ) → askStep L (sheetOf rules a) line ≡ carried asks (askedAskStep n L a line)
   unfolding askStep askedAskStep withAsk askedAsk
@@ -103,6 +115,7 @@ module _ (rules : Rules) where
   abbrev Later : Due → Type 0
   Later Team = ⊥
   Later Known = Unit
+  Later Held = Unit
   Later Make = Unit
   Later Asks = Unit
 
@@ -122,12 +135,24 @@ module _ (rules : Rules) where
       by-answer Accepted = h
       by-answer (Refused r) = tt
 
+  later-held : (b : Bool) (x y : AskedStep) → LaterStep x → LaterStep y → LaterStep (heldOr b x y)
+  later-held true x y h k = h
+  later-held false x y h k = k
+
+  later-make : (L : ℕ) (a : Asked) (line : List ℕ) → LaterStep (askedMakeStep n L a line)
+  unfolding askedMakeStep
+  later-make L a line = later-unless (begins (bytes "make ") line) (Malformed L) _ (later-refused (drop 5 line) (next (Asks, askedMake a (drop 5 line))) tt)
+
   later-due : (L : ℕ) (due : Due) (a : Asked) (line : List ℕ) → LaterStep (dueStep n m L due a line)
-  unfolding askedTeamStep askedKnownStep askedMakeStep askedAskStep
+  unfolding askedTeamStep askedKnownStep askedHeldStep askedHeldOrMake askedAskStep
   later-due L Team a line = later-unless (isTeam m line) (Malformed L) _ (later-unless (not (twice (λ i. false) (teamOf line))) (Twice L) (next (Known, askedTeam a line)) tt)
   later-due L Known a line =
-      later-unless (isKnown n line) (Malformed L) _ (later-unless (not (twice (λ i. false) (knownSettings (knownOf line)))) (Twice L) (next (Make, askedKnown a line)) tt)
-  later-due L Make a line = later-unless (begins (bytes "make ") line) (Malformed L) _ (later-refused (drop 5 line) (next (Asks, askedMake a (drop 5 line))) tt)
+      later-unless (isKnown n line) (Malformed L) _ (later-unless (not (twice (λ i. false) (knownSettings (knownOf line)))) (Twice L) (next (Held, askedKnown a line)) tt)
+  later-due L Held a line =
+      later-held (begins (bytes "held") line) _ (askedMakeStep n L a line)
+      (later-unless (isHeld n line) (Malformed L) _ (later-unless (not (twice (λ i. false) (heldOf line))) (Twice L) (next (Make, askedHeld a line)) tt))
+      (later-make L a line)
+  later-due L Make a line = later-make L a line
   later-due L Asks a line =
       later-unless (begins (bytes "ask ") line && ltb (length (a .asks)) 4) (Malformed L) _ (later-refused (drop 4 line) (next (Asks, askedAsk a (drop 4 line))) tt)
 
@@ -138,6 +163,7 @@ module _ (rules : Rules) where
   ending-same : (L : ℕ) (due : Due) (a : Asked) (rest : List ℕ) → ending due (sheetOf rules a) rest L ≡ withQuestion rules (askedEnding due a rest L)
   ending-same L Team a rest = refl
   ending-same L Known a rest = refl
+  ending-same L Held a rest = refl
   ending-same L Make a rest = refl
   ending-same L Asks a [] = refl
   ending-same L Asks a (c ∷ rest) = refl
@@ -159,6 +185,7 @@ module _ (rules : Rules) where
   step-same : (L : ℕ) (due : Due) (a : Asked) (line : List ℕ) → Later due → step L due (sheetOf rules a) line ≡ carried asks (dueStep n m L due a line)
   step-same L Team a line h = absurd h
   step-same L Known a line h = known-same L a line
+  step-same L Held a line h = held-same L a line
   step-same L Make a line h = make-same L a line
   step-same L Asks a line h = ask-same L a line
 

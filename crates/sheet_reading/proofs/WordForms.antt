@@ -1,4 +1,4 @@
--- The words after `team` and `known`, both ways: a word that passes the test is the sign of what it names, and that sign names it again. By
+-- The words after `team`, `held` and `known`, both ways: a word that passes the test is the sign of what it names, and that sign names it again. By
 -- recursion over the words.
 use mathlib.Core.Path.{_≡_, refl, sym, ap, ap₂, _∙_}
 use mathlib.Core.Logic.{inl, inr}
@@ -14,40 +14,50 @@ use Rattle.sheet_words.proofs.Split.{marked, Clear, AllClear}
 use Rattle.sheet_words.proofs.NameForms.{three, among-in, bare-word, unsigned, signed, plain}
 use Rattle.sheet_question.specs.Asked.{Known}
 use Rattle.sheet_question.specs.Forms.{knownBy}
-use Rattle.sheet_reading.specs.Grammar.{postsText, knownWord, knownsText, PostsFit, KnownFit}
+use Rattle.sheet_reading.specs.Grammar.{namesText, knownWord, knownsText, NamesFit, KnownFit}
 
--- ---- the words of the line `team`
+-- ---- the words of the lines `team` and `held`: signs from `first` on
 
-abbrev pub postWord : ℕ → List ℕ
-postWord q = (49 + q) ∷ []
+abbrev pub nameWord : ℕ → ℕ → List ℕ
+nameWord first i = (first + i) ∷ []
 
-pub posts-text : (qs : List ℕ) → postsText qs ≡ marked space (map postWord qs)
-unfolding postsText
-posts-text [] = refl
-posts-text (q ∷ qs) = ap (λ (s : List ℕ). space ∷ (49 + q) ∷ s) (posts-text qs)
+pub names-marked : (first : ℕ) (names : List ℕ) → namesText first names ≡ marked space (map (nameWord first) names)
+unfolding namesText
+names-marked first [] = refl
+names-marked first (i ∷ names) = ap (λ (s : List ℕ). space ∷ (first + i) ∷ s) (names-marked first names)
 
-pub posts-clear : (qs : List ℕ) → AllClear space (map postWord qs)
-posts-clear [] = tt
-posts-clear (q ∷ qs) = (omega arith, posts-clear qs)
+pub names-clear : (first : ℕ) → 32 < first → (names : List ℕ) → AllClear space (map (nameWord first) names)
+names-clear first l [] = tt
+names-clear first l (i ∷ names) = (omega (arith, l), names-clear first l names)
 
-pub posts-written : (m : ℕ) (words : List (List ℕ)) → T (allNames false 49 m words) → PostsFit m (indexes 49 words) × (map postWord (indexes 49 words) ≡ words)
+pub names-unbroken : (first : ℕ) → 32 < first → (names : List ℕ) → Clear 10 (namesText first names)
+unfolding namesText
+names-unbroken first l [] = tt
+names-unbroken first l (i ∷ names) = (omega arith, (omega (arith, l), names-unbroken first l names))
+
+pub names-written : (first m : ℕ) (words : List (List ℕ)) → T (allNames false first m words)
+    → NamesFit m (indexes first words) × (map (nameWord first) (indexes first words) ≡ words)
 unfolding allNames indexes isName
-posts-written m [] h = (tt, refl)
-posts-written m (word ∷ words) h =
-    let here = and-left (isName false 49 m word) (allNames false 49 m words) h in
-    let more = posts-written m words (and-right (isName false 49 m word) (allNames false 49 m words) h) in
-    let sign = bare-word false 49 m word here in
-    let bare-is = unsigned word (three (not (isFalse word)) (eqb (length (bare word)) 1) (among 49 m (getD (bare word) 0 0)) here .0) in
+names-written first m [] h = (tt, refl)
+names-written first m (word ∷ words) h =
+    let here = and-left (isName false first m word) (allNames false first m words) h in
+    let more = names-written first m words (and-right (isName false first m word) (allNames false first m words) h) in
+    let sign = bare-word false first m word here in
+    let bare-is = unsigned word (three (not (isFalse word)) (eqb (length (bare word)) 1) (among first m (getD (bare word) 0 0)) here .0) in
     ((sign .1, more .0), ap₂ _∷_ (sym (sign .0) ∙ bare-is) (more .1))
 
-pub posts-read : (m : ℕ) → m ≤ 8 → (qs : List ℕ) → PostsFit m qs → T (allNames false 49 m (map postWord qs)) × (indexes 49 (map postWord qs) ≡ qs)
+-- all signs are below `~`
+pub names-read : (first m : ℕ) → first + m ≤ 126 → (names : List ℕ) → NamesFit m names
+    → T (allNames false first m (map (nameWord first) names)) × (indexes first (map (nameWord first) names) ≡ names)
 unfolding allNames indexes isName indexOf
-posts-read m l [] h = (tt, refl)
-posts-read m l (q ∷ qs) h =
-    let more = posts-read m l qs (h .1) in
-    let sign = plain (49 + q) (omega (arith, h .0)) in
-    rw (unsigned (postWord q) sign, T→false (isFalse (postWord q)) sign)
-    (and-in (among 49 m (49 + q)) (allNames false 49 m (map postWord qs)) (among-in 49 m (49 + q) (omega arith) (omega (arith, h .0))) (more .0), ap₂ _∷_ (omega arith) (more .1))
+names-read first m l [] h = (tt, refl)
+names-read first m l (i ∷ names) h =
+    let more = names-read first m l names (h .1) in
+    let sign = plain (first + i) (omega (arith, l, h .0)) in
+    rw (unsigned (nameWord first i) sign, T→false (isFalse (nameWord first i)) sign) (
+      and-in (among first m (first + i)) (allNames false first m (map (nameWord first) names)) (among-in first m (first + i) (omega arith) (omega (arith, h .0))) (more .0),
+      ap₂ _∷_ (omega arith) (more .1),
+    )
 
 -- ---- the words of the line `known`
 

@@ -12,9 +12,9 @@ use Rattle.refusal.specs.Order.{First}
 use Rattle.formula.specs.Read.{formulaRows}
 use Rattle.sheet_words.specs.Words.{split, newline}
 use Rattle.sheet_rules.specs.Rules.{Size, Rule}
-use Rattle.sheet_question.specs.Asked.{Known, knownSettings}
+use Rattle.sheet_question.specs.Asked.{Known, HeldLine, left-out, holding, knownSettings}
 use Rattle.sheet_reading.specs.Sheet.{Sheet}
-use Rattle.sheet_reading.specs.Grammar.{sizeText, ruleLine, teamLine, knownLine, makeLine}
+use Rattle.sheet_reading.specs.Grammar.{sizeText, ruleLine, teamLine, knownLine, heldLine, makeLine}
 use Rattle.sheet_reading.specs.Place.{BeginsSheet, firstLines, MalformedAt}
 
 -- ---- the lines of a sheet
@@ -25,6 +25,7 @@ pub data Line : Type 0 where
   right-line : Rule → Line
   team-line : List ℕ → Line
   known-line : List Known → Line
+  held-line : List ℕ → Line
   make-line : List ℕ → Line
   ask-line : List ℕ → Line
 
@@ -34,15 +35,22 @@ lineText (size-line size) = sizeText (size .settings) (size .posts)
 lineText (right-line r) = ruleLine r
 lineText (team-line posts) = teamLine posts
 lineText (known-line ks) = knownLine ks
+lineText (held-line settings) = heldLine settings
 lineText (make-line F) = makeLine F
 lineText (ask-line F) = bytes "ask " ++ F
+
+-- the line `held`, where it is there
+unfoldable pub heldIn : HeldLine → List Line
+heldIn left-out = []
+heldIn (holding settings) = held-line settings ∷ []
 
 -- the lines of a sheet, in order; `sheetText` is these, each with its byte 10 (proofs/Lines `sheet-lines`)
 unfoldable pub linesOf : Sheet → List Line
 linesOf w =
     size-line (w .size)
     ∷ map right-line (w .rules)
-    ++ team-line (w .asked .team) ∷ known-line (w .asked .known) ∷ make-line (w .asked .make) ∷ map ask-line (w .asked .asks)
+    ++ (team-line (w .asked .team) ∷ known-line (w .asked .known) ∷ heldIn (w .asked .held)
+    ++ make-line (w .asked .make) ∷ map ask-line (w .asked .asks))
 
 -- ---- what may be wrong with a well-formed line, after the lines `before`
 
@@ -52,6 +60,7 @@ LineStates r (size-line size) = ⊥
 LineStates r (right-line q) = (q .right ≡ r .right) × (q .setting ≡ r .setting) × (q .post ≡ r .post)
 LineStates r (team-line posts) = ⊥
 LineStates r (known-line ks) = ⊥
+LineStates r (held-line settings) = ⊥
 LineStates r (make-line F) = ⊥
 LineStates r (ask-line F) = ⊥
 
@@ -75,6 +84,7 @@ NamesTwice before (size-line size) = ⊥
 NamesTwice before (right-line r) = StatedIn r before
 NamesTwice before (team-line posts) = Repeats posts
 NamesTwice before (known-line ks) = Repeats (knownSettings ks)
+NamesTwice before (held-line settings) = Repeats settings
 NamesTwice before (make-line F) = ⊥
 NamesTwice before (ask-line F) = ⊥
 
@@ -84,6 +94,7 @@ FormulaRefused n (size-line size) r = ⊥
 FormulaRefused n (right-line q) r = First (formulaRows n (q .text)) r
 FormulaRefused n (team-line posts) r = ⊥
 FormulaRefused n (known-line ks) r = ⊥
+FormulaRefused n (held-line settings) r = ⊥
 FormulaRefused n (make-line F) r = First (formulaRows n F) r
 FormulaRefused n (ask-line F) r = First (formulaRows n F) r
 
@@ -93,6 +104,7 @@ SizeAbove (size-line size) = 5 < size .settings
 SizeAbove (right-line r) = ⊥
 SizeAbove (team-line posts) = ⊥
 SizeAbove (known-line ks) = ⊥
+SizeAbove (held-line settings) = ⊥
 SizeAbove (make-line F) = ⊥
 SizeAbove (ask-line F) = ⊥
 

@@ -10,7 +10,7 @@ use Rattle.book_block.specs.declared.rule.Right.{Right}
 use Rattle.book_block.specs.declared.rule.Right.the-variants.{Look, Set}
 use Rattle.sheet_words.specs.Words.{newline, space}
 use Rattle.sheet_rules.specs.Rules.{Size, Rule}
-use Rattle.sheet_question.specs.Asked.{Known, Asked}
+use Rattle.sheet_question.specs.Asked.{Known, HeldLine, left-out, holding, Asked}
 use Rattle.sheet_reading.specs.Sheet.{Sheet}
 
 -- "Lines [..] end in byte 10"
@@ -33,13 +33,14 @@ unfoldable pub ruleLines : List Rule → List ℕ
 ruleLines [] = []
 ruleLines (r ∷ rs) = ended (ruleLine r) ++ ruleLines rs
 
--- `team G ..`: "Words are split by one space"
-unfoldable pub postsText : List ℕ → List ℕ
-postsText [] = []
-postsText (q ∷ qs) = space ∷ (byte "1" + q) ∷ postsText qs
+-- names without `~`: "Words are split by one space", and the name with index i is the sign `first` + i
+unfoldable pub namesText : ℕ → List ℕ → List ℕ
+namesText first [] = []
+namesText first (i ∷ names) = space ∷ (first + i) ∷ namesText first names
 
+-- `team G ..`
 unfoldable pub teamLine : List ℕ → List ℕ
-teamLine posts = bytes "team" ++ postsText posts
+teamLine posts = bytes "team" ++ namesText (byte "1") posts
 
 -- "`known` with settings, `~` before a false one, or alone"
 unfoldable pub knownWord : Known → List ℕ
@@ -51,6 +52,14 @@ knownsText (k ∷ ks) = space ∷ (knownWord k ++ knownsText ks)
 
 unfoldable pub knownLine : List Known → List ℕ
 knownLine ks = bytes "known" ++ knownsText ks
+
+-- "`held`, a line like `known` without `~`, directly after it, optional"
+unfoldable pub heldLine : List ℕ → List ℕ
+heldLine settings = bytes "held" ++ namesText (byte "a") settings
+
+unfoldable pub heldText : HeldLine → List ℕ
+heldText left-out = []
+heldText (holding settings) = ended (heldLine settings)
 
 -- `make F` and `ask F`
 unfoldable pub makeLine : List ℕ → List ℕ
@@ -66,7 +75,8 @@ rulesText size rules = ended (sizeText (size .settings) (size .posts)) ++ ruleLi
 
 -- what is asked
 unfoldable pub askedText : Asked → List ℕ
-askedText a = ended (teamLine (a .team)) ++ (ended (knownLine (a .known)) ++ (ended (makeLine (a .make)) ++ askLines (a .asks)))
+askedText a =
+    ended (teamLine (a .team)) ++ (ended (knownLine (a .known)) ++ (heldText (a .held) ++ (ended (makeLine (a .make)) ++ askLines (a .asks))))
 
 -- the whole sheet
 unfoldable pub sheetText : Sheet → List ℕ
@@ -82,13 +92,17 @@ abbrev pub RulesFit : ℕ → ℕ → List Rule → Type 0
 RulesFit n m [] = Unit
 RulesFit n m (r ∷ rs) = ((r .setting < n) × (r .post < m) × InLine (r .text)) × RulesFit n m rs
 
-abbrev pub PostsFit : ℕ → List ℕ → Type 0
-PostsFit m [] = Unit
-PostsFit m (q ∷ qs) = (q < m) × PostsFit m qs
+abbrev pub NamesFit : ℕ → List ℕ → Type 0
+NamesFit m [] = Unit
+NamesFit m (q ∷ qs) = (q < m) × NamesFit m qs
 
 abbrev pub KnownFit : ℕ → List Known → Type 0
 KnownFit n [] = Unit
 KnownFit n (k ∷ ks) = (k .setting < n) × KnownFit n ks
+
+abbrev pub HeldFit : ℕ → HeldLine → Type 0
+HeldFit n left-out = Unit
+HeldFit n (holding settings) = NamesFit n settings
 
 abbrev pub AsksFit : List (List ℕ) → Type 0
 AsksFit [] = Unit
@@ -105,8 +119,9 @@ pub record WellRuled (size : Size) (rs : List Rule) : Type 0 where
 -- and what may be asked of them: "(one or more)", "up to four"
 pub record WellAsked (size : Size) (a : Asked) : Type 0 where
   pub someone : 1 ≤ length (a .team)
-  pub team : PostsFit (size .posts) (a .team)
+  pub team : NamesFit (size .posts) (a .team)
   pub known : KnownFit (size .settings) (a .known)
+  pub held : HeldFit (size .settings) (a .held)
   pub make : InLine (a .make)
   pub asks : AsksFit (a .asks)
   pub asks-most : length (a .asks) ≤ 4

@@ -1,5 +1,5 @@
 -- What a sheet states: rules, and what is asked of them. "In order: `size N M`; any count of `read P G F` and `write P G F`" are its rules
--- (sheet_rules/specs/Rules); "`team G ..`; `known` [..]; `make F`; up to four `ask F`" are what it asks (sheet_question/specs/Asked).
+-- (sheet_rules/specs/Rules); "`team G ..`; `known` [..]; `make F`; up to four `ask F`", with `held` after `known`, are what it asks (sheet_question/specs/Asked).
 use mathlib.Core.List.{List, []}
 use Prim.Native.Nat.{ℕ}
 use Rattle.sheet_rules.specs.Rules.{Size, Rule, Rules, sizeOf}

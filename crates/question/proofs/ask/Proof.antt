@@ -1,4 +1,4 @@
--- `ask` meets its contract: the book's refusals, then 10, 11 and 12.
+-- `ask` meets its contract: the book's refusals, then 10, 11, 31 and 12.
 use mathlib.Core.List.{List}
 use Prim.Native.Nat.{ℕ}
 use Rattle.ground.proofs.Answers.{told, untold}
@@ -6,8 +6,8 @@ use Rattle.book_sound.specs.Sound.{Sound}
 use Rattle.book_sound.proofs.SoundLaws.{judged-book, judged-refused}
 use Rattle.knowledge.specs.Goal.{Goal, goalOf}
 use Rattle.question.specs.declared.Question.{Question}
-use Rattle.question.specs.Rows.{TeamFits, KnownFits, GoalFits}
-use Rattle.question.proofs.RowLaws.{book-row, team-row, known-row, goal-row}
+use Rattle.question.specs.Rows.{TeamFits, KnownFits, HeldFits, GoalFits}
+use Rattle.question.proofs.RowLaws.{book-row, team-row, known-row, held-row, goal-row}
 use borrow.Author.Needs.{needs}
 use Rattle.question.proofs.ask.Statement.{statement}
 use Rattle.question.proofs.ask.Tie as tie
@@ -63,7 +63,17 @@ Known c =
 known : (c : tie.Else2) → Known (c .before)
 known c = told (Known (c .before)) (c .before .known-fits .result) (c .before .known-fits .ensures) (c .if2 .left)
 
--- what the third test tells: the goal fits
+-- past the third: what is held fits
+abbrev Held : tie.After-held-fits → Type 0
+Held c =
+    let after-known-told2 : tie.After-known-told2 = search in
+    let b = after-known-told2 in
+    HeldFits (settings b) (asked (answered b) .held)
+
+held : (c : tie.Else3) → Held (c .before)
+held c = told (Held (c .before)) (c .before .held-fits .result) (c .before .held-fits .ensures) (c .if3 .left)
+
+-- what the fourth test tells: the goal fits
 abbrev Fits : tie.After-goal-fits → Type 0
 Fits c =
     let after-known-told2 : tie.After-known-told2 = search in
@@ -104,40 +114,54 @@ returns-2 c =
     known-row (the-book s) (asked s) (wanted s) (sound b) (team e)
     (untold (Known (c .before)) (c .before .known-fits .result) (c .before .known-fits .ensures) (c .if2 .taken))
 
-goal-fits-requires : tie.Need-goal-fits-requires
-goal-fits-requires c κs = search needs
+held-fits-requires : tie.Need-held-fits-requires
+held-fits-requires c κs =
+    let after-known-told2 : tie.After-known-told2 = search in
+    sound after-known-told2 .settings .most
 
 returns-3 : tie.Need-returns-3
 returns-3 c =
     let else2 : tie.Else2 = search in
     let else1 : tie.Else1 = search in
     let after-known-told2 : tie.After-known-told2 = search in
-    let k = else2 in
-    let e = else1 in
     let b = after-known-told2 in
     let s = answered b in
-    goal-row (the-book s) (asked s) (wanted s) (sound b) (team e) (known k)
-    (untold (Fits (c .before)) (c .before .goal-fits .result) (c .before .goal-fits .ensures) (c .if3 .taken))
+    held-row (the-book s) (asked s) (wanted s) (sound b) (team else1) (known else2)
+    (untold (Held (c .before)) (c .before .held-fits .result) (c .before .held-fits .ensures) (c .if3 .taken))
+
+goal-fits-requires : tie.Need-goal-fits-requires
+goal-fits-requires c κs = search needs
 
 returns-4 : tie.Need-returns-4
 returns-4 c =
+    let else3 : tie.Else3 = search in
+    let else2 : tie.Else2 = search in
+    let else1 : tie.Else1 = search in
+    let after-known-told2 : tie.After-known-told2 = search in
+    let b = after-known-told2 in
+    let s = answered b in
+    goal-row (the-book s) (asked s) (wanted s) (sound b) (team else1) (known else2) (held else3)
+    (untold (Fits (c .before)) (c .before .goal-fits .result) (c .before .goal-fits .ensures) (c .if4 .taken))
+
+returns-5 : tie.Need-returns-5
+returns-5 c =
     let after-sound : tie.After-sound = search in
     let s = after-sound in
     let why = c .before .why .given in
     book-row (the-book s) (asked s) (wanted s) (judged-refused (the-book s) (s .sound .result) (why .0 .0) (s .sound .ensures) (why .1))
 
-returns-5 : tie.Need-returns-5
-returns-5 c =
+returns-6 : tie.Need-returns-6
+returns-6 c =
+    let else3 : tie.Else3 = search in
     let else2 : tie.Else2 = search in
     let else1 : tie.Else1 = search in
     let after-known-told2 : tie.After-known-told2 = search in
-    let k = else2 in
-    let e = else1 in
     record {
       sound = sound after-known-told2;
-      team = team e;
-      known = known k;
-      goal = told (Fits (c .before)) (c .before .goal-fits .result) (c .before .goal-fits .ensures) (c .if3 .left);
+      team = team else1;
+      known = known else2;
+      held = held else3;
+      goal = told (Fits (c .before)) (c .before .goal-fits .result) (c .before .goal-fits .ensures) (c .if4 .left);
     }
 
 pub ask-spec : {M : Type 1} → statement M
@@ -151,7 +175,9 @@ ask-spec =
     returns
     known-fits-requires
     returns-2
-    goal-fits-requires
+    held-fits-requires
     returns-3
+    goal-fits-requires
     returns-4
-    returns-5)
+    returns-5
+    returns-6)

@@ -37,15 +37,21 @@ enum-told-4 c = search needs
 refused-requires-4 : tie.Need-refused-requires-4
 refused-requires-4 c κs = search needs
 
+enum-told-5 : tie.Need-enum-told-5
+enum-told-5 c = search needs
+
+refused-requires-5 : tie.Need-refused-requires-5
+refused-requires-5 c κs = search needs
+
 returns : tie.Need-returns
 returns c =
     let start : tie.Start = search in
-    let enum-told4-point : tie.After-enum-told4 = search in
+    let enum-told5-point : tie.After-enum-told5 = search in
     let yes1 : tie.Then1 = search in
     let a = start .args in
-    λ n b l m h. refused-is n (c .refused4 .result .desk) (Malformed (a .number)) (a .number) l m
-    (ap (λ (x : Due). ending x b (a .rest .now) (a .number)) (enum-told4-point .enum-told4 .given .1)
-    ∙ ended-late b (a .rest .now) (a .number) (yes1 .if1 .taken)) (c .refused4 .ensures)
+    λ n b l m h. refused-is n (c .refused5 .result .desk) (Malformed (a .number)) (a .number) l m
+    (ap (λ (x : Due). ending x b (a .rest .now) (a .number)) (enum-told5-point .enum-told5 .given .1)
+    ∙ ended-late b (a .rest .now) (a .number) (yes1 .if1 .taken)) (c .refused5 .ensures)
 
 returns-2 : tie.Need-returns-2
 returns-2 c =
@@ -85,8 +91,19 @@ returns-5 c =
     let start : tie.Start = search in
     let enum-told4-point : tie.After-enum-told4 = search in
     let a = start .args in
+    λ n b l m h. refused-is n (c .refused4 .result .desk) (Malformed (a .number)) (a .number) l m
+    (ended (a .due) b (a .rest .now) (a .number)
+    (λ e.
+    let z : _≡_ {A = Due} Asks _ = sym e ∙ enum-told4-point .enum-told4 .given .1 in
+    let y : _≡_ {A = ℕ} 0 1 = cc in omega arith)) (c .refused4 .ensures)
+
+returns-6 : tie.Need-returns-6
+returns-6 c =
+    let start : tie.Start = search in
+    let enum-told5-point : tie.After-enum-told5 = search in
+    let a = start .args in
     λ n b l m h. subst (λ (o : QuestionMeaning). ReadsQuestion n o Stated (a .desk))
-    (sym (ap (λ (x : Due). ending x b (a .rest .now) (a .number)) (enum-told4-point .enum-told4 .given .1)
+    (sym (ap (λ (x : Due). ending x b (a .rest .now) (a .number)) (enum-told5-point .enum-told5 .given .1)
     ∙ ended-whole b (a .rest .now) (a .number) (c .if1 .left))) h
 
 pub ending-spec : {M : Type 1} → statement M
@@ -101,8 +118,11 @@ ending-spec =
     refused-requires-3
     enum-told-4
     refused-requires-4
+    enum-told-5
+    refused-requires-5
     returns
     returns-2
     returns-3
     returns-4
-    returns-5)
+    returns-5
+    returns-6)

@@ -22,7 +22,7 @@ returns c =
     let state : tie.After-from-number = search in
     let shown : tie.After-digit = search in
     let a = start .args in
-    look-known (a .n) (a .book .now) (a .team)
+    look-known (a .n) (a .book .now) (a .team) (a .held)
     (λ e. c .if1 .taken (digit-here (start .pre) (state .from-number .ensures) (shown .digit .ensures) ∙ e))
 
 look-at-requires : tie.Need-look-at-requires
@@ -67,8 +67,8 @@ returns-4 c =
     let start : tie.Start = search in
     let asked : tie.After-someone-may = search in
     let a = start .args in
-    nobody (untold (Someone (mayDo (a .n) (a .book .now) (a .team) (a .k)) (Look (a .i) 0)) (asked .someone-may .result) (asked .someone-may .ensures) (c .if4 .taken))
-    (λ q t. post-few (a .n) (a .book .now) (a .team) (a .k) (Look (a .i) 0) q (omega (arith, start .fits .team)) t)
+    nobody (untold (Someone (mayDo (a .n) (a .book .now) (a .team) (a .held) (a .k)) (Look (a .i) 0)) (asked .someone-may .result) (asked .someone-may .ensures) (c .if4 .taken))
+    (λ q t. post-few (a .n) (a .book .now) (a .team) (a .held) (a .k) (Look (a .i) 0) q (omega (arith, start .fits .team)) t)
 
 returns-5 : tie.Need-returns-5
 returns-5 c =
@@ -78,7 +78,7 @@ returns-5 c =
     let asked : tie.After-someone-may = search in
     let a = start .args in
     look-opens (no .look-at .ensures) (seen .look-at2 .ensures)
-    (told (Someone (mayDo (a .n) (a .book .now) (a .team) (a .k)) (Look (a .i) 0)) (asked .someone-may .result) (asked .someone-may .ensures) (c .if4 .left))
+    (told (Someone (mayDo (a .n) (a .book .now) (a .team) (a .held) (a .k)) (Look (a .i) 0)) (asked .someone-may .result) (asked .someone-may .ensures) (c .if4 .left))
 
 pub by-look-spec : {M : Type 1} → statement M
 by-look-spec =

@@ -40,8 +40,8 @@ returns-3 c =
     let start : tie.Start = search in
     let asked : tie.After-someone-may = search in
     let a = start .args in
-    nobody (untold (Someone (mayDo (a .n) (a .book .now) (a .team) (a .k)) (Set (a .i) 0 (a .value))) (asked .someone-may .result) (asked .someone-may .ensures) (c .if3 .taken))
-    (λ q t. post-few (a .n) (a .book .now) (a .team) (a .k) (Set (a .i) 0 (a .value)) q (omega (arith, start .fits .team)) t)
+    nobody (untold (Someone (mayDo (a .n) (a .book .now) (a .team) (a .held) (a .k)) (Set (a .i) 0 (a .value))) (asked .someone-may .result) (asked .someone-may .ensures) (c .if3 .taken))
+    (λ q t. post-few (a .n) (a .book .now) (a .team) (a .held) (a .k) (Set (a .i) 0 (a .value)) q (omega (arith, start .fits .team)) t)
 
 returns-4 : tie.Need-returns-4
 returns-4 c =
@@ -50,7 +50,7 @@ returns-4 c =
     let asked : tie.After-someone-may = search in
     let a = start .args in
     set-opens (a .value) (next .set-to .ensures)
-    (told (Someone (mayDo (a .n) (a .book .now) (a .team) (a .k)) (Set (a .i) 0 (a .value))) (asked .someone-may .result) (asked .someone-may .ensures) (c .if3 .left))
+    (told (Someone (mayDo (a .n) (a .book .now) (a .team) (a .held) (a .k)) (Set (a .i) 0 (a .value))) (asked .someone-may .result) (asked .someone-may .ensures) (c .if3 .left))
 
 pub by-set-spec : {M : Type 1} → statement M
 by-set-spec =

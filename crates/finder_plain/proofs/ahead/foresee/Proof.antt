@@ -22,14 +22,14 @@ returns c =
     let start : tie.Start = search in
     let known : tie.After-act = search in
     let a = start .args in
-    foresees-set (mayDo (a .n) (a .book .now) (a .team) (a .k)) (a .entries .now) (a .k) (a .h) (c .by-set .result) (known .act .given .1) (c .by-set .ensures)
+    foresees-set (mayDo (a .n) (a .book .now) (a .team) (a .held) (a .k)) (a .entries .now) (a .k) (a .h) (c .by-set .result) (known .act .given .1) (c .by-set .ensures)
 
 returns-2 : tie.Need-returns-2
 returns-2 c =
     let start : tie.Start = search in
     let known : tie.After-act2 = search in
     let a = start .args in
-    foresees-look (mayDo (a .n) (a .book .now) (a .team) (a .k)) (a .entries .now) (a .k) (a .h) (c .by-look .result) (known .act2 .given .1) (c .by-look .ensures)
+    foresees-look (mayDo (a .n) (a .book .now) (a .team) (a .held) (a .k)) (a .entries .now) (a .k) (a .h) (c .by-look .result) (known .act2 .given .1) (c .by-look .ensures)
 
 pub foresee-spec : {M : Type 1} → statement M
 foresee-spec =

@@ -211,7 +211,7 @@ abbrev Opened : (t : ℕ) → ByStart t → ℕ → ℕ → Type 0
 Opened t s x y = Opens (may (systemAt t s) (s .args .k)) (s .args .k) (s .args .act) x y
 
 ahead : (t : ℕ) (s : ByStart t) {r : Ahead} (e : Ahead) → r ≡ e
-    → Foresees (mayDo (s .args .n) (s .args .book .now) (s .args .question .team) (s .args .k)) (s .args .entries .now) (s .args .k) (s .args .act) (s .args .h) r
+    → Foresees (mayDo (s .args .n) (s .args .book .now) (s .args .question .team) (s .args .question .held) (s .args .k)) (s .args .entries .now) (s .args .k) (s .args .act) (s .args .h) r
     → Foresees (may (systemAt t s) (s .args .k)) (s .args .entries .now) (s .args .k) (s .args .act) (s .args .h) e
 ahead t s e f g =
     let a = s .args in

@@ -48,7 +48,7 @@ returns-2 c =
     let denied : tie.After-why = search in
     let a = start .args in
     act-forbidden (a .at) (a .k) (a .act) (sym (asked .offered .ensures) ∙ not-false _ (ours .if1 .left))
-    (permits-at (a .n) (a .book .now) (a .k) (a .act) (start .pre .0) (start .pre .1) (state .from-number .ensures) (judged .permits .ensures)
+    (permits-at (a .n) (a .book .now) (a .held) (a .k) (a .act) (start .pre .0) (start .pre .1) (state .from-number .ensures) (judged .permits .ensures)
     ∙ denied .why .given .1)
 
 returns-3 : tie.Need-returns-3
@@ -61,7 +61,7 @@ returns-3 c =
     let permitted : tie.After-enum-told = search in
     let a = start .args in
     act-done (a .at) (a .k) (a .act) (sym (asked .offered .ensures) ∙ not-false _ (ours .if1 .left))
-    (permits-at (a .n) (a .book .now) (a .k) (a .act) (start .pre .0) (start .pre .1) (state .from-number .ensures) (judged .permits .ensures)
+    (permits-at (a .n) (a .book .now) (a .held) (a .k) (a .act) (start .pre .0) (start .pre .1) (state .from-number .ensures) (judged .permits .ensures)
     ∙ permitted .enum-told .given .1)
     (c .outcomes-of .ensures)
 

@@ -22,11 +22,17 @@ known-line-requires c κs = let start : tie.Start = search in start .pre .0
 enum-told-3 : tie.Need-enum-told-3
 enum-told-3 c = search needs
 
-make-line-requires : tie.Need-make-line-requires
-make-line-requires c κs = search needs
+held-or-make-requires : tie.Need-held-or-make-requires
+held-or-make-requires c κs = let start : tie.Start = search in start .pre .0
 
 enum-told-4 : tie.Need-enum-told-4
 enum-told-4 c = search needs
+
+make-line-requires : tie.Need-make-line-requires
+make-line-requires c κs = search needs
+
+enum-told-5 : tie.Need-enum-told-5
+enum-told-5 c = search needs
 
 ask-line-requires : tie.Need-ask-line-requires
 ask-line-requires c κs = let start : tie.Start = search in start .pre .2
@@ -53,7 +59,7 @@ returns-3 c =
     let told : tie.After-enum-told3 = search in
     let x = start .args in
     λ a h. subst (λ (d : Due). Steps (x .settings) (dueStep (x .settings) (x .posts) (x .number) d a (x .line .now))
-    (c .make-line .result .taken) (c .make-line .result .desk)) (sym (told .enum-told3 .given .1)) (c .make-line .ensures a h)
+    (c .held-or-make .result .taken) (c .held-or-make .result .desk)) (sym (told .enum-told3 .given .1)) (c .held-or-make .ensures a h)
 
 returns-4 : tie.Need-returns-4
 returns-4 c =
@@ -61,7 +67,15 @@ returns-4 c =
     let told : tie.After-enum-told4 = search in
     let x = start .args in
     λ a h. subst (λ (d : Due). Steps (x .settings) (dueStep (x .settings) (x .posts) (x .number) d a (x .line .now))
-    (c .ask-line .result .taken) (c .ask-line .result .desk)) (sym (told .enum-told4 .given .1)) (c .ask-line .ensures a h)
+    (c .make-line .result .taken) (c .make-line .result .desk)) (sym (told .enum-told4 .given .1)) (c .make-line .ensures a h)
+
+returns-5 : tie.Need-returns-5
+returns-5 c =
+    let start : tie.Start = search in
+    let told : tie.After-enum-told5 = search in
+    let x = start .args in
+    λ a h. subst (λ (d : Due). Steps (x .settings) (dueStep (x .settings) (x .posts) (x .number) d a (x .line .now))
+    (c .ask-line .result .taken) (c .ask-line .result .desk)) (sym (told .enum-told5 .given .1)) (c .ask-line .ensures a h)
 
 pub due-line-spec : {M : Type 1} → statement M
 due-line-spec =
@@ -72,10 +86,13 @@ due-line-spec =
     enum-told-2
     known-line-requires
     enum-told-3
-    make-line-requires
+    held-or-make-requires
     enum-told-4
+    make-line-requires
+    enum-told-5
     ask-line-requires
     returns
     returns-2
     returns-3
-    returns-4)
+    returns-4
+    returns-5)
