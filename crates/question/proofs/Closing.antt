@@ -2,7 +2,7 @@
 -- valuation fits whatever is known.
 use mathlib.Core.Path.{_≡_, subst}
 use mathlib.Core.Logic.{_⊎_, inl, inr}
-use mathlib.Core.Bool.{_&&_}
+use mathlib.Core.Bool.{not, _&&_}
 use mathlib.Core.List.{List}
 use Prim.Native.Nat.{ℕ, _<_}
 use lib.Dec.{T, eqb, ltb, ltb→lt}
@@ -50,11 +50,16 @@ module _ {n m : ℕ} {book other : List ℕ} (closes : ClosesRules n m book othe
     | inr e ↦ absurd (closed-unknown n d (subst (λ (r : List ℕ). T (known n d r)) e t))
   ]
 
-  given-other : (d : ℕ → ℕ) (a : Act) → settingOf a < n → postOf a < m → T (given (permitted n book d a)) → T (given (permitted n other d a))
-  given-other d (Set i q b) hi hq t = rw (set-given n other d i q b) (known-other d i q set-rule hi hq (rw (set-given n book d i q b) at t))
-  given-other d (Look i q) hi hq t =
-      let h = rw (look-given n book d i q) at t in
-      rw (look-given n other d i q)
+  given-other : (held : ℕ) (d : ℕ → ℕ) (a : Act) → settingOf a < n → postOf a < m → T (given (permitted n book held d a)) → T (given (permitted n other held d a))
+  given-other held d (Set i q b) hi hq t =
+      let h = rw (set-given n book held d i q b) at t in
+      rw (set-given n other held d i q b)
+      (and-in (known n d (rule other i q set-rule)) (not (bit held i))
+      (known-other d i q set-rule hi hq (and-left (known n d (rule book i q set-rule)) (not (bit held i)) h))
+      (and-right (known n d (rule book i q set-rule)) (not (bit held i)) h))
+  given-other held d (Look i q) hi hq t =
+      let h = rw (look-given n book held d i q) at t in
+      rw (look-given n other held d i q)
       (and-in (known n d (rule other i q look-rule)) (eqb (d i) 0)
       (known-other d i q look-rule hi hq (and-left (known n d (rule book i q look-rule)) (eqb (d i) 0) h))
       (and-right (known n d (rule book i q look-rule)) (eqb (d i) 0) h))
@@ -64,11 +69,11 @@ module _ {n m : ℕ} {book other : List ℕ} (closes : ClosesRules n m book othe
   unfolding systemOf offered
   closing-permits q goal team = record {
     acts = λ k a t.
-        let offer : T (ltb (settingOf a) n && bit (q .team) (postOf a)) = and-left (offered n (q .team) a) (given (permitted n book (digit 7 k) a)) t in
-        and-in (offered n (q .team) a) (given (permitted n other (digit 7 k) a)) offer
-        (given-other (digit 7 k) a
+        let offer : T (ltb (settingOf a) n && bit (q .team) (postOf a)) = and-left (offered n (q .team) a) (given (permitted n book (q .held) (digit 7 k) a)) t in
+        and-in (offered n (q .team) a) (given (permitted n other (q .held) (digit 7 k) a)) offer
+        (given-other (q .held) (digit 7 k) a
         (ltb→lt (settingOf a) n (and-left (ltb (settingOf a) n) (bit (q .team) (postOf a)) offer))
         (team .posts (postOf a) (and-right (ltb (settingOf a) n) (bit (q .team) (postOf a)) offer))
-        (and-right (offered n (q .team) a) (given (permitted n book (digit 7 k) a)) t));
+        (and-right (offered n (q .team) a) (given (permitted n book (q .held) (digit 7 k) a)) t));
     goals = λ k g. g;
   }
