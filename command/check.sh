@@ -42,6 +42,7 @@ denied() {
     0) printf '%s' "'$1': the setting is already known there, and a plan does not look at it again" ;;
     1) printf '%s' "'$1': $(false_rule "$right")" ;;
     2) printf '%s' "'$1': nobody in the team knows there whether the rule of '$right' holds" ;;
+    3) printf '%s' "'$1': the setting is held, and no plan sets it" ;;
     *) printf '%s' "'$1' is not permitted there" ;;
     esac
 }

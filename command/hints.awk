@@ -46,7 +46,8 @@ function due(   w) {
     if (last == "size" || last == "read" || last == "write")
         return kind == "rules" ? "'read SETTING POST FORMULA' or 'write SETTING POST FORMULA', or the end" : "'read SETTING POST FORMULA', 'write SETTING POST FORMULA' or 'team POST ..'"
     if (last == "team") return "'known', with settings or alone"
-    if (last == "known") return "'make FORMULA'"
+    if (last == "known") return "'held SETTING ..' or 'make FORMULA'"
+    if (last == "held") return "'make FORMULA'"
     return asks < 4 ? "'ask FORMULA', or the end" : "the end, after four 'ask' lines"
 }
 
@@ -70,13 +71,13 @@ function past(text,   i, count, names, sign) {
         if (names[2] ~ /^[a-g]$/ && index("abcdefg", names[2]) > n) return "setting " names[2] " is past the size: the last of " n " is " letter(n)
         if (names[3] ~ /^[1-9]$/ && names[3] > m) return "post " names[3] " is past the size, which has " m
     }
-    if (text ~ /^(team|known) /) {
+    if (text ~ /^(team|known|held) /) {
         count = split(text, names, " ")
         for (i = 2; i <= count; i++) {
             sign = names[i]
             if (text ~ /^team / && sign ~ /^[1-9]$/ && sign > m) return "post " sign " is past the size, which has " m
             sub(/^~/, "", sign)
-            if (text ~ /^known / && sign ~ /^[a-g]$/ && index("abcdefg", sign) > n) return "setting " sign " is past the size: the last of " n " is " letter(n)
+            if (text ~ /^(known|held) / && sign ~ /^[a-g]$/ && index("abcdefg", sign) > n) return "setting " sign " is past the size: the last of " n " is " letter(n)
         }
     }
     return ""
@@ -92,6 +93,12 @@ function wrong(text,   i, count, names) {
     if (text == "team") return "a team has at least one post"
     if (text ~ /^team /) for (i = 2; i <= count; i++) if (names[i] !~ /^[1-8]$/) return "'" names[i] "' is no post"
     if (text ~ /^known /) for (i = 2; i <= count; i++) if (names[i] !~ /^~?[a-g]$/) return "'" names[i] "' is no setting"
+    if (text ~ /^held /) for (i = 2; i <= count; i++) {
+        if (names[i] ~ /^~[a-g]$/) return "a held setting is named without ~, whatever its value is"
+        if (names[i] !~ /^[a-g]$/) return "'" names[i] "' is no setting"
+    }
+    if (word(text) == "held" && held) return "line " held " is 'held' already: all held settings stand in one line"
+    if (word(text) == "held") return "'held' stands directly after 'known'"
     if (text == "make" || text == "ask") return "the formula is missing"
     return ""
 }
@@ -101,7 +108,7 @@ function strange(text,   count, names) {
     count = split(text, names, " ")
     if (names[1] ~ /^(reach|cannot|stop)$/ || text ~ /^[0-9]+ (look|set|stop)/) return "this is a plan's line; an act of a shift has no depth in front"
     if (names[1] ~ /^(size|read|write)$/) return "this is a line of rules"
-    if (names[1] ~ /^(team|known|make|ask)$/) return "this is a line of a question"
+    if (names[1] ~ /^(team|known|held|make|ask)$/) return "this is a line of a question"
     if (names[1] !~ /^(look|set)$/) return ""
     if (names[2] ~ /^[1-8]$/ && names[3] ~ /^[a-g]$/) return "the setting comes first, then the post"
     if (names[2] ~ /^[A-G]$/) return "settings are small letters"
@@ -130,14 +137,14 @@ function malformed(   text, at, what) {
     if (at > 0) hint("a tab in column " at ", where words are split by one space")
     if (unended && line == lines) hint("the last line has no byte 10 at its end")
     if ((kind == "sheet" || kind == "plan") && text ~ /^#/) hint("a " kind " has no comments; rules, questions and shifts may have lines that begin with #")
-    if (tolower(word(text)) ~ (kind == "shift" ? "^(look|set)$" : "^(size|read|write|team|known|make|ask|reach)$") && word(text) != tolower(word(text))) hint("capitals: the word is '" tolower(word(text)) "'")
+    if (tolower(word(text)) ~ (kind == "shift" ? "^(look|set)$" : "^(size|read|write|team|known|held|make|ask|reach)$") && word(text) != tolower(word(text))) hint("capitals: the word is '" tolower(word(text)) "'")
     if (text ~ /^ /) hint("a space before the first word")
     at = front(text) == 0 ? match(text, /  /) : 0
     if (at > 0) hint("two spaces in column " at ", where words are split by one")
     if (front(text) == 0 && text ~ / $/) hint("a space at the end of the line")
     what = past(text)
     if (what != "") hint(what)
-    if (text ~ /^(read|write|team|known) .*[A-G]/ && front(text) == 0) hint("capitals: settings are small letters")
+    if (text ~ /^(read|write|team|known|held) .*[A-G]/ && front(text) == 0) hint("capitals: settings are small letters")
     if (word(text) == "size" && kind == "question") hint("a question has no 'size' line: the book has the size")
     if (text ~ /^(read|write) / && kind == "question") hint("a question has no rights: the book has them")
     what = kind == "shift" ? strange(text) : wrong(text)
@@ -177,6 +184,7 @@ END {
         if (passed(all[i])) continue
         last = word(all[i])
         if (last == "ask") asks++
+        if (last == "held") held = i
         if (last == "size") { split(all[i], words, " "); n = words[2]; m = words[3] }
     }
     if (number == 22) malformed()
