@@ -35,6 +35,11 @@ hinted 'a capital in a formula' 'size 2 2\nread a 1 a&B\n' 'refused 2 2' 'column
 hinted 'a letter past the size' 'size 2 2\nread c 1 a\n' 'refused 22 2' 'setting c is past the size: the last of 2 is b'
 hinted 'a digit past the size' 'size 2 2\nteam 3\n' 'refused 22 2' 'post 3 is past the size, which has 2'
 hinted 'a letter past the size in a formula' 'size 2 2\nread a 1 a|c\n' 'refused 3 2' 'column 12: setting c is past the size'
+hinted 'a held setting with ~' 'size 2 2\nteam 1\nknown\nheld ~a\nmake a\n' 'refused 22 4' 'a held setting is named without ~'
+hinted 'a second held' 'size 2 2\nteam 1\nknown\nheld a\nheld b\nmake a\n' 'refused 22 5' "line 4 is 'held' already"
+hinted 'held before known' 'size 2 2\nteam 1\nheld a\nknown\nmake a\n' 'refused 22 3' "'held' stands directly after 'known'"
+hinted 'a held setting past the size' 'size 2 2\nteam 1\nknown\nheld c\nmake a\n' 'refused 22 4' 'setting c is past the size'
+hinted 'a held setting twice' 'size 2 2\nteam 1\nknown\nheld a b a\nmake a\n' 'refused 23 4' 'setting a is named twice'
 hinted 'the line that was due' 'size 2 2\nteam 1\nmake a\n' 'refused 22 3' "due here is 'known'"
 hinted 'a text that ends early' 'size 2 2\nteam 1\n' 'refused 22 3' "the text ends here; due is 'known'"
 hinted 'a right stated twice' 'size 2 2\nread a 1 1\nwrite a 1 1\nread a 1 0\n' 'refused 23 4' 'stated in line 2 already'

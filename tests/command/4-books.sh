@@ -30,6 +30,9 @@ expect 'a look that is not stated' 0 'reach 1
 1 stop' '' ask "$night" "$room/mode.question"
 expect 'a stored book, with that look closed' 1 'cannot' '' ask crates/program_ask/data/night.book "$room/mode.question"
 
+expect 'a set of a held setting' 1 'refused 18 4 3' "line 6: '1 set a 2 0': the setting is held, and no plan sets it" \
+    check "$night" books/night/sunday.question books/night/sunday-pocket.plan
+
 # a book is made, and never overwritten
 cp "$night" "$room/kept"
 expect 'a book that is there' 3 '' 'is there already' book books/night.rules "$room/kept"
