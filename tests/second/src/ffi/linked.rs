@@ -13,6 +13,7 @@ extern "C" {
         team: u8,
         known: u8,
         values: u8,
+        held: u8,
         make: *const u8,
         make_len: u64,
         learn: *const u8,
@@ -28,6 +29,7 @@ extern "C" {
         team: u8,
         known: u8,
         values: u8,
+        held: u8,
         make: *const u8,
         make_len: u64,
         learn: *const u8,
@@ -39,6 +41,7 @@ extern "C" {
         team: u8,
         known: u8,
         values: u8,
+        held: u8,
         make: *const u8,
         make_len: u64,
         learn: *const u8,
@@ -91,7 +94,7 @@ pub fn book_write(n: u64, m: u64, rights: &mut Room, book: &mut Room) -> u64 {
 
 pub fn find(
     book: &mut Room,
-    [team, known, values]: [u8; 3],
+    [team, known, values, held]: [u8; 4],
     make: &mut Room,
     learn: &mut Room,
     ranks: &mut Room,
@@ -104,6 +107,7 @@ pub fn find(
             team,
             known,
             values,
+            held,
             start(make),
             size(make),
             start(learn),
@@ -116,15 +120,26 @@ pub fn find(
     }
 }
 
-pub fn find_plain(book: &mut Room, [team, known, values]: [u8; 3], make: &mut Room, learn: &mut Room) -> u64 {
+pub fn find_plain(book: &mut Room, [team, known, values, held]: [u8; 4], make: &mut Room, learn: &mut Room) -> u64 {
     unsafe {
-        pj_find_plain(start(book), size(book), team, known, values, start(make), size(make), start(learn), size(learn))
+        pj_find_plain(
+            start(book),
+            size(book),
+            team,
+            known,
+            values,
+            held,
+            start(make),
+            size(make),
+            start(learn),
+            size(learn),
+        )
     }
 }
 
 pub fn plan_check(
     book: &mut Room,
-    [team, known, values]: [u8; 3],
+    [team, known, values, held]: [u8; 4],
     make: &mut Room,
     learn: &mut Room,
     plan: &mut Room,
@@ -136,6 +151,7 @@ pub fn plan_check(
             team,
             known,
             values,
+            held,
             start(make),
             size(make),
             start(learn),
