@@ -62,7 +62,7 @@ struct Found {
 }
 
 fn plain(asked: &Asked, ranks: &mut [u8], plan: &mut [u8]) -> u64 {
-    fast::find(&asked.book, asked.team, 0, 0, &asked.make, &[], ranks, plan)
+    fast::find(&asked.book, asked.team, 0, 0, 0, &asked.make, &[], ranks, plan)
 }
 
 fn timed(finder: Finder, asked: &Asked) -> Found {
@@ -169,7 +169,7 @@ fn shift_line(name: &str, times: &[Duration]) {
 
 fn plain_check(checked: &Checked) -> u64 {
     let Checked { book, team, known, values, make, plan } = checked;
-    fast_check::check(book, *team, *known, *values, make, &[], plan)
+    fast_check::check(book, [*team, *known, *values, 0], make, &[], plan)
 }
 
 /// The least of some turns for each check, the checks taking turns. Each says yes.

@@ -7,7 +7,7 @@ static pj_u8 rights[PJ_RIGHTS_MOST], book[PJ_BOOK_MOST], ranks[PJ_RANKS_MOST], p
 static int version_agrees(void) {
     const char *text = PJ_VERSION_TEXT;
     return text[0] == '0' + PJ_VERSION_FIRST && text[1] == '.' && text[2] == '0' + PJ_VERSION_SECOND && text[3] == 0 &&
-           PJ_VERSION == 203;
+           PJ_VERSION == 300;
 }
 
 // Each of the 112 rules of the widest book has bytes of its own among the rights, and the same at its place in the book.

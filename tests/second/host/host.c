@@ -54,12 +54,12 @@ static u64 call(u64 function, const u64 *number, u8 *const *room, const u64 *len
     case BOOK_READ: return pj_book_read(room[0], lent[0], room[1], lent[1]);
     case BOOK_WRITE: return pj_book_write(number[0], number[1], room[0], lent[0], room[1], lent[1]);
     case BOOK_SALVAGE: return pj_book_salvage(room[0], lent[0], room[1], lent[1]);
-    case FIND: return pj_find(room[0], lent[0], (u8)number[0], (u8)number[1], (u8)number[2], room[1], lent[1],
-                              room[2], lent[2], room[3], lent[3], room[4], lent[4]);
-    case FIND_PLAIN: return pj_find_plain(room[0], lent[0], (u8)number[0], (u8)number[1], (u8)number[2], room[1], lent[1],
-                                          room[2], lent[2]);
-    case PLAN_CHECK: return pj_plan_check(room[0], lent[0], (u8)number[0], (u8)number[1], (u8)number[2], room[1],
-                                          lent[1], room[2], lent[2], room[3], lent[3]);
+    case FIND: return pj_find(room[0], lent[0], (u8)number[0], (u8)number[1], (u8)number[2], (u8)number[3], room[1],
+                              lent[1], room[2], lent[2], room[3], lent[3], room[4], lent[4]);
+    case FIND_PLAIN: return pj_find_plain(room[0], lent[0], (u8)number[0], (u8)number[1], (u8)number[2], (u8)number[3],
+                                          room[1], lent[1], room[2], lent[2]);
+    case PLAN_CHECK: return pj_plan_check(room[0], lent[0], (u8)number[0], (u8)number[1], (u8)number[2],
+                                          (u8)number[3], room[1], lent[1], room[2], lent[2], room[3], lent[3]);
     case SHEET: return pj_sheet(room[0], lent[0], room[1], lent[1]);
     case RULES: return pj_rules(room[0], lent[0], room[1], lent[1]);
     case ASK: return pj_ask(room[0], lent[0], room[1], lent[1], room[2], lent[2], room[3], lent[3]);

@@ -37,12 +37,13 @@ pub fn test(subject: &mut Subject) {
     subject.group("looks at known settings, digit by digit", known_settings);
     subject.group("acts not permitted, at every digit and for each reason", not_permitted::every_digit);
     subject.group("rules of the setting acted on, at its every digit and for each reason", not_permitted::own_digit);
+    subject.group("acts on held settings, at every digit and for each reason", not_permitted::held);
     subject.group("as many looks open as there are settings", open_looks);
     subject.group("rows of sets with a fault at every place", rows);
     subject.group("32,640 bytes and more", longest);
     subject.group("random bytes", random_bytes);
     subject.group("damaged questions", questions);
-    for number in [6, 8, 10, 11, 12, 16] {
+    for number in [6, 8, 10, 11, 12, 16, 31] {
         subject.must_reach(number, 0..=0);
     }
     subject.must_reach(7, 0..=7);
@@ -54,7 +55,7 @@ pub fn test(subject: &mut Subject) {
     for number in [17, 19, 21] {
         subject.must_reach(number, PLAN_MOST as u32 - 1..=PLAN_MOST as u32 - 1);
     }
-    for second in 0..=2 {
+    for second in 0..=3 {
         subject.must_reach_second(18, second, 0..=PLACES as u32);
         subject.must_reach_second(18, second, PLAN_MOST as u32 - 1..=PLAN_MOST as u32 - 1);
     }
@@ -71,7 +72,7 @@ pub fn expect(group: &mut Group, question: &Question, plan: &[u8], expected: Res
     let mut make = Room::holding(&question.make, &[0, 1, 255], rng);
     let mut learn = Room::holding(&question.learn, &[0, 1, 255], rng);
     let mut lent_plan = Room::holding(plan, &[0, 1, 57, 58, 113], rng);
-    let masks = [question.team, question.known, question.values];
+    let masks = [question.team, question.known, question.values, question.held];
     let word = ffi::plan_check(&mut book, masks, &mut make, &mut learn, &mut lent_plan);
 
     let expected_word = expected.err().map_or(0, Refusal::word);
@@ -179,8 +180,8 @@ fn plain_check(group: &mut Group) {
 }
 
 fn compare_plain(group: &mut Group, question: &Question, plan: &[u8]) {
-    let Question { book, team, known, values, make, learn } = question;
-    let word = fast_check::check(book, *team, *known, *values, make, learn, plan);
+    let Question { book, team, known, values, held, make, learn } = question;
+    let word = fast_check::check(book, [*team, *known, *values, *held], make, learn, plan);
     let expected = check(question, plan).err().map_or(0, Refusal::word);
     group.case(word == expected, || {
         format!("plan {} {}: {}, not {}", shown(plan), shown_question(question), told(word), told(expected))
@@ -199,6 +200,9 @@ fn by_hand_plans(group: &mut Group) {
     let known = |place| Err(Refusal::at(18, place).with_second(0));
     let surely_false = |place| Err(Refusal::at(18, place).with_second(1));
     let not_known = |place| Err(Refusal::at(18, place).with_second(2));
+    let held = |place| Err(Refusal::at(18, place).with_second(3));
+    let p6_held = Question { held: 4, ..p6.clone() };
+    let reasons_held = Question { held: 3, ..reasons.clone() };
     let by_hand: &[(&Question, &[u8], Result<(), Refusal>)] = &[
         (&p6, &[130, 58, 65, 0, 18, 58, 65, 0], Ok(())),
         (&p6, &[130, 58, 65, 0, 18, 58, 65], refused(20, 7)),
@@ -243,11 +247,20 @@ fn by_hand_plans(group: &mut Group) {
         (&reasons, &[1, 9, 0], Ok(())),
         (&reasons, &[1, 9, 121, 0, 0], known(2)),
         (&reasons, &[1, 9, 113, 0, 0], known(2)),
+        (&p6_held, &[130, 58, 65, 0, 18, 58, 65, 0], held(4)),
+        (&p6_held, &[130, 58, 65, 0, 58, 65, 0], surely_false(4)),
+        (&p6_held, &[18, 58, 65, 0], held(0)),
+        (&p6_held, &[130, 58, 65, 0, 130, 58, 65, 0], known(4)),
+        (&reasons_held, &[57, 0], held(0)),
+        (&reasons_held, &[9, 0], held(0)),
+        (&reasons_held, &[113, 0, 0], not_known(0)),
+        (&reasons_held, &[121, 0, 0], surely_false(0)),
     ];
     let words = [
         (0, 0x112_0000_0004, "refused 18 4 0"),
         (1, 0x212_0000_0004, "refused 18 4 1"),
         (2, 0x312_0000_0004, "refused 18 4 2"),
+        (3, 0x412_0000_0004, "refused 18 4 3"),
     ];
     for (second, word, printed) in words {
         let refusal = Refusal::at(18, 4).with_second(second);
@@ -312,7 +325,7 @@ fn any_act(group: &mut Group) {
             compare(group, &question, &replaced(&plan, place, act.byte()));
         }
     }
-    for second in 0..=2 {
+    for second in 0..=3 {
         group.must_reach_second(18, second, 0..=ANY_ACT_PLACES);
     }
 }
@@ -440,9 +453,9 @@ pub fn always() -> Question {
 
 const NO: u8 = 1;
 const YES: u8 = 57;
-/// Acts that are not permitted, wherever sets of a lead, and refusal 18's second number: a look at a, sets of b, a look
-/// at c; a look at b, sets of c.
-const NEVER_PERMITTED: [(u8, u32); 7] = [(113, 0), (9, 1), (65, 1), (129, 1), (121, 2), (17, 2), (73, 2)];
+/// Acts that are not permitted, wherever sets of a lead, and refusal 18's second number where b is held: a look at a, a
+/// look at c; a look at b, sets of c; sets of b.
+const NEVER_PERMITTED: [(u8, u32); 7] = [(113, 0), (129, 1), (121, 2), (17, 2), (73, 2), (9, 3), (65, 3)];
 
 /// So many sets to either value, at random.
 fn row(rng: &mut Rng, count: usize) -> Vec<u8> {
@@ -451,7 +464,7 @@ fn row(rng: &mut Rng, count: usize) -> Vec<u8> {
 
 /// A row of sets, `place` bytes of it, and then each fault there is, with something after it or not.
 fn faults_at(group: &mut Group, place: usize) {
-    let question = always();
+    let question = Question { held: 2, ..always() };
     let sets = row(&mut group.rng, place);
     let count = if place + 6 < PLAN_MOST { group.rng.below(6) } else { 0 };
     let ending = row(&mut group.rng, count);

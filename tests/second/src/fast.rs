@@ -28,16 +28,17 @@ pub fn find(
     team: u8,
     known: u8,
     values: u8,
+    held: u8,
     make: &[u8],
     learn: &[u8],
     ranks: &mut [u8],
     plan: &mut [u8],
 ) -> u64 {
-    match sound(book, team, known, values, make, learn) {
+    match sound(book, [team, known, values, held], make, learn) {
         Err(word) => word,
         Ok(n) if ranks.len() < POWERS[n] => refused(13, 0),
         Ok(n) => {
-            let rights = Rights { n, team, book };
+            let rights = Rights { n, team, held, book };
             let may = rights.permissions();
             mark(n, make, learn, &mut ranks[..POWERS[n]]);
             spread(n, &may, &mut ranks[..POWERS[n]]);
@@ -92,8 +93,9 @@ fn past(n: usize) -> u128 {
     }
 }
 
-/// Refusals 6 to 12, or n.
-pub fn sound(book: &[u8], team: u8, known: u8, values: u8, make: &[u8], learn: &[u8]) -> Result<usize, u64> {
+/// Refusals 6 to 12 and 31, or n. The masks are team, known, values and held.
+pub fn sound(book: &[u8], masks: [u8; 4], make: &[u8], learn: &[u8]) -> Result<usize, u64> {
+    let [team, known, values, held] = masks;
     let (n, m) = sound_book(book)?;
     let past = past(n);
     if team == 0 || u32::from(team) >> m != 0 {
@@ -101,6 +103,9 @@ pub fn sound(book: &[u8], team: u8, known: u8, values: u8, make: &[u8], learn: &
     }
     if u32::from(known) >> n != 0 || values & !known != 0 {
         return Err(refused(11, 0));
+    }
+    if u32::from(held) >> n != 0 {
+        return Err(refused(31, 0));
     }
     let tables = make.len() == 16 && learn.len() % 16 == 0 && learn.len() <= 64;
     if !tables || number(make) & past != 0 || learn.chunks_exact(16).any(|table| number(table) & past != 0) {
@@ -122,6 +127,7 @@ struct May {
 struct Rights<'a> {
     n: usize,
     team: u8,
+    held: u8,
     book: &'a [u8],
 }
 
@@ -141,7 +147,8 @@ impl Rights<'_> {
             for post in self.posts() {
                 for (set, bits) in [(true, &mut may.set), (false, &mut may.look)] {
                     let rule = self.rule(setting, post, set);
-                    if rule != 0 {
+                    let held = set && self.held >> setting & 1 == 1;
+                    if rule != 0 && !held {
                         let holds = judged(self.n, rule);
                         for (bits, holds) in bits.iter_mut().zip(&holds[..THREES[self.n]]) {
                             *bits |= u8::from(holds & 1 != 0) << setting;

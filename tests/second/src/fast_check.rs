@@ -23,6 +23,7 @@ const SEEN: [u8; 2] = [3, 6];
 const KNOWN_SETTING: u64 = 0;
 const SURELY_FALSE: u64 = 1;
 const NOT_KNOWN: u64 = 2;
+const HELD_SETTING: u64 = 3;
 
 #[derive(Clone, Copy)]
 enum Side {
@@ -133,6 +134,7 @@ enum Reading {
 struct Asked<'a> {
     n: u8,
     team: u8,
+    held: u8,
     book: &'a [u8],
     make: &'a [u8],
     learn: &'a [u8],
@@ -150,6 +152,9 @@ impl Asked<'_> {
     /// Why the act is not permitted, if it is not.
     fn denied(&self, state: Knowledge, act: Act) -> Option<u64> {
         let look = matches!(act.kind, Kind::Look);
+        if !look && self.held >> act.setting & 1 == 1 {
+            return Some(HELD_SETTING);
+        }
         if look && state.digit(act.setting) != 0 {
             return Some(KNOWN_SETTING);
         }
@@ -207,13 +212,14 @@ impl Asked<'_> {
     }
 }
 
-/// The same arguments and the same word as the library's `pj_plan_check`.
-pub fn check(book: &[u8], team: u8, known: u8, values: u8, make: &[u8], learn: &[u8], plan: &[u8]) -> u64 {
-    match sound(book, team, known, values, make, learn) {
+/// The same arguments and the same word as the library's `pj_plan_check`; the masks are team, known, values and held.
+pub fn check(book: &[u8], masks: [u8; 4], make: &[u8], learn: &[u8], plan: &[u8]) -> u64 {
+    let [team, known, values, held] = masks;
+    match sound(book, masks, make, learn) {
         Err(word) => word,
         Ok(_) if plan.len() > PLAN_MOST => refused(16, 0),
         Ok(n) => {
-            let asked = Asked { n: n as u8, team, book, make, learn };
+            let asked = Asked { n: n as u8, team, held, book, make, learn };
             asked.walk(Knowledge::at_start(known, values).number(), plan).err().unwrap_or(0)
         }
     }

@@ -35,11 +35,11 @@ pub fn book_salvage(book: &mut Room, room: &mut Room) -> u64 {
     route::book_salvage(book, room)
 }
 
-/// Answers a question (its masks are team, known and values) and leaves the ranks in `ranks` and the plan in `plan`.
+/// Answers a question (its masks are team, known, values and held) and leaves the ranks in `ranks` and the plan in `plan`.
 /// "Reach" is the height in bits 16 to 31 and the plan's length below them; "cannot" is 0.
 pub fn find(
     book: &mut Room,
-    masks: [u8; 3],
+    masks: [u8; 4],
     make: &mut Room,
     learn: &mut Room,
     ranks: &mut Room,
@@ -49,12 +49,12 @@ pub fn find(
 }
 
 /// Answers a question without a rank table, and writes nothing. "Reach" is the height and one; "cannot" is 0.
-pub fn find_plain(book: &mut Room, masks: [u8; 3], make: &mut Room, learn: &mut Room) -> u64 {
+pub fn find_plain(book: &mut Room, masks: [u8; 4], make: &mut Room, learn: &mut Room) -> u64 {
     route::find_plain(book, masks, make, learn)
 }
 
 /// Checks a plan's bytes. Yes is 0.
-pub fn plan_check(book: &mut Room, masks: [u8; 3], make: &mut Room, learn: &mut Room, plan: &mut Room) -> u64 {
+pub fn plan_check(book: &mut Room, masks: [u8; 4], make: &mut Room, learn: &mut Room, plan: &mut Room) -> u64 {
     route::plan_check(book, masks, make, learn, plan)
 }
 

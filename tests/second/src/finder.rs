@@ -27,7 +27,7 @@ pub struct Solution {
     pub found: Found,
 }
 
-/// Or one of the question's refusals, 6 to 12.
+/// Or one of the question's refusals, 6 to 12 and 31.
 pub fn find(question: &Question) -> Result<Solution, Refusal> {
     let asked = question.read()?;
     let ranks = ranks(&asked);

@@ -11,7 +11,7 @@ use crate::finder::{self, Found, Solution, NEVER};
 use crate::knowledge::{judgement, known_to_hold, learnt, Act, Judgement, Kind, Knowledge, DIGITS};
 use crate::plan::PLAN_MOST;
 use crate::question::{bits, Question};
-use crate::questions::{any_letters, any_question, by_hand, climb, plain_letters, spoilt_climb};
+use crate::questions::{any_held, any_letters, any_question, by_hand, climb, plain_letters, spoilt_climb};
 use crate::refusal::{told, Refusal};
 use crate::report::{shown, sparse, Group, Subject};
 use crate::rng::Rng;
@@ -43,10 +43,12 @@ pub fn test(subject: &mut Subject) {
     subject.group("rank tables and plan rooms of every length near the limit", rooms);
     subject.group("every team of every m", teams);
     subject.group("every set of known settings, and every set of values", starts);
+    subject.group("every set of held settings", held);
+    subject.group("more held never reaches more, nor sooner", more_held);
     subject.group("goal tables of wrong lengths, or with a bit past 2^n", goals);
     subject.group("damaged books", books);
     subject.group("several faults at once", faults);
-    for number in [6, 8, 10, 11, 12, 13, 14] {
+    for number in [6, 8, 10, 11, 12, 13, 14, 31] {
         subject.must_reach(number, 0..=0);
     }
     subject.must_reach(7, 0..=7);
@@ -85,7 +87,7 @@ fn expect(
     let mut ranks = Room::of(rank_room, &mut group.rng);
     let mut plan = Room::of(plan_room, &mut group.rng);
     let (mut ranks_left, mut plan_left) = (ranks.lent_before().to_vec(), plan.lent_before().to_vec());
-    let masks = [question.team, question.known, question.values];
+    let masks = [question.team, question.known, question.values, question.held];
     let word = ffi::find(&mut book, masks, &mut make, &mut learn, &mut ranks, &mut plan);
     let only_read = book.untouched() && make.untouched() && learn.untouched();
     let plain = ffi::find_plain(&mut book, masks, &mut make, &mut learn);
@@ -157,10 +159,11 @@ fn within_bounds(solution: &Solution) -> bool {
 
 pub fn shown_question(question: &Question) -> String {
     format!(
-        "team {:08b}, known {:08b}, values {:08b}, make {}, learn {}, book {}",
+        "team {:08b}, known {:08b}, values {:08b}, held {:08b}, make {}, learn {}, book {}",
         question.team,
         question.known,
         question.values,
+        question.held,
         sparse(&question.make),
         sparse(&question.learn),
         sparse(&question.book)
@@ -271,8 +274,8 @@ fn own_finders(group: &mut Group) {
             for (rank_room, plan_room) in [(ranks_of(n), length), (ranks_of(n), length / 2), (ranks_of(n) - 1, length)]
             {
                 let (mut ranks, mut plan) = (vec![77; rank_room], vec![88; plan_room]);
-                let Question { book, team, known, values, make, learn } = &question;
-                let word = fast::find(book, *team, *known, *values, make, learn, &mut ranks, &mut plan);
+                let Question { book, team, known, values, held, make, learn } = &question;
+                let word = fast::find(book, *team, *known, *values, *held, make, learn, &mut ranks, &mut plan);
                 let right = match solution.in_rooms(rank_room, plan_room) {
                     Ok(Found::Reach { height, plan: bytes }) => {
                         plan == *bytes && word == u64::from(*height) << 16 | bytes.len() as u64
@@ -289,8 +292,9 @@ fn own_finders(group: &mut Group) {
         let n = group.rng.between(1, 3);
         let mut question = any_question(&mut group.rng, n);
         spoil(&mut group.rng, n, &mut question);
-        let Question { book, team, known, values, make, learn } = &question;
-        let word = fast::find(book, *team, *known, *values, make, learn, &mut vec![0; ranks_of(n)], &mut [0; 1_000]);
+        let Question { book, team, known, values, held, make, learn } = &question;
+        let word =
+            fast::find(book, *team, *known, *values, *held, make, learn, &mut vec![0; ranks_of(n)], &mut [0; 1_000]);
         let right = match finder::find(&question) {
             Ok(_) => word >> 32 == 0,
             Err(refusal) => word == refusal.word(),
@@ -471,6 +475,50 @@ fn starts(group: &mut Group) {
     }
 }
 
+/// Every mask, also with settings past n, at which 31 comes after 11 and before 12.
+fn held(group: &mut Group) {
+    for n in 1..=4 {
+        for _ in group.times(2) {
+            let question = any_question(&mut group.rng, n);
+            for held in 0..=255u8 {
+                compare(group, &Question { held, ..question.clone() }).ok();
+            }
+        }
+    }
+    for n in 1..=7 {
+        let question = any_question(&mut group.rng, n);
+        for held in [128, 255, 1u8.checked_shl(n as u32).unwrap_or(128)].map(|held| held | 128) {
+            let expected = |number| Err(Refusal::at(number, 0));
+            let past = Question { held, ..question.clone() };
+            for (question, number) in [
+                (past.clone(), 31),
+                (Question { team: 0, ..past.clone() }, 10),
+                (Question { known: 128, ..past.clone() }, 11),
+                (Question { make: vec![], ..past.clone() }, 31),
+            ] {
+                let solution = finder::find(&question);
+                let told = solution.as_ref().err().copied();
+                group.case(told == Some(Refusal::at(number, 0)), || {
+                    format!("this program's own refusal of {}, and not {number}", shown_question(&question))
+                });
+                expect(group, &question, ranks_of(n), 20, &expected(number));
+            }
+        }
+    }
+}
+
+/// This program's own finder: holding more never turns "cannot" into "reach", and never lowers a rank.
+fn more_held(group: &mut Group) {
+    for _ in group.times(300) {
+        let n = group.rng.between(1, 4);
+        let less = any_question(&mut group.rng, n);
+        let more = Question { held: less.held | any_held(&mut group.rng, n), ..less.clone() };
+        let (Ok(one), Ok(other)) = (compare(group, &less), compare(group, &more)) else { continue };
+        let lower = one.ranks.iter().zip(&other.ranks).any(|(one, other)| other < one);
+        group.case(!lower, || format!("a rank is lower with held {:08b}: {}", more.held, shown_question(&less)));
+    }
+}
+
 fn goals(group: &mut Group) {
     for n in 1..=4 {
         let question = any_question(&mut group.rng, n);
@@ -569,6 +617,9 @@ pub fn spoil(rng: &mut Rng, n: usize, question: &mut Question) {
     }
     if rng.chance(10) {
         question.values = rng.byte();
+    }
+    if rng.chance(15) {
+        question.held = rng.byte();
     }
     if rng.chance(15) {
         let length = rng.one_of(&[0, 15, 17, 32]);

@@ -1,5 +1,5 @@
 //! The lines of sheets, rules texts and question texts, from paper 01's section on the sheet program, issue 18's points
-//! 1 and 2 and request R-2 alone. A sheet is rules followed by a question, so all three have the same lines.
+//! 1 and 2, request R-2, and request R-7 as issue 25 settles it, alone. A sheet is rules followed by a question, so all three have the same lines.
 
 use std::collections::HashMap;
 
@@ -47,6 +47,7 @@ enum Due {
     Size,
     RightOrTeam,
     Known,
+    HeldOrMake,
     Make,
     Ask,
 }
@@ -61,6 +62,7 @@ pub struct Desk {
     team: u8,
     known: u8,
     values: u8,
+    held: u8,
     /// The make table, then the learn tables.
     goal: Vec<Table>,
 }
@@ -75,7 +77,7 @@ impl Desk {
             Text::Sheet | Text::Rules => (Due::Size, 0, 0),
             Text::Question { n, m } => (Due::RightOrTeam, n, m),
         };
-        Desk { text, due, n, m, rules: HashMap::new(), team: 0, known: 0, values: 0, goal: vec![] }
+        Desk { text, due, n, m, rules: HashMap::new(), team: 0, known: 0, values: 0, held: 0, goal: vec![] }
     }
 
     /// Takes a line, or refuses it with a number: 22, then 23, then the formula's. A question states no right, and
@@ -91,7 +93,8 @@ impl Desk {
             }
             (Due::RightOrTeam, b"team", posts @ [_, ..]) if asks => self.team(posts),
             (Due::Known, b"known", settings) => self.known(settings),
-            (Due::Make, b"make", [_, ..]) => self.goal(&line[b"make ".len()..]),
+            (Due::HeldOrMake, b"held", settings) => self.held(settings),
+            (Due::HeldOrMake | Due::Make, b"make", [_, ..]) => self.goal(&line[b"make ".len()..]),
             (Due::Ask, b"ask", [_, ..]) if self.goal.len() < 5 => self.goal(&line[b"ask ".len()..]),
             _ => Err(MALFORMED),
         }
@@ -144,6 +147,19 @@ impl Desk {
             }
             self.known |= 1 << setting;
             self.values |= value << setting;
+        }
+        self.due = Due::HeldOrMake;
+        Ok(())
+    }
+
+    /// A line like `known`, without `~`; alone it holds nothing. What is known may be held too.
+    fn held(&mut self, settings: &[&[u8]]) -> Result<(), u32> {
+        let settings: Vec<usize> = settings.iter().map(|letter| self.setting(letter)).collect::<Result<_, _>>()?;
+        for setting in settings {
+            if self.held >> setting & 1 == 1 {
+                return Err(TWICE);
+            }
+            self.held |= 1 << setting;
         }
         self.due = Due::Make;
         Ok(())
@@ -199,6 +215,7 @@ impl Desk {
             team: self.team,
             known: self.known,
             values: self.values,
+            held: self.held,
             make: self.goal[0].to_vec(),
             learn: self.goal[1..].concat(),
         }

@@ -1,4 +1,4 @@
-//! The cases for refusal 18's second number, from request R-3's words: each kind of act, at every digit of the setting
+//! The cases for refusal 18's second number, from the words of requests: each kind of act, at every digit of the setting
 //! acted on and of a setting that the rule speaks of, with rules that are true at all fitting valuations, false at all
 //! and neither. Each group tests itself: it has come to all of them, and to nothing else.
 //!
@@ -62,12 +62,15 @@ const WAYS: [&[Way]; 7] = {
 };
 
 /// What this program's own check came to: the act's kind, the digits of the setting acted on and of the one spoken of, the
-/// judgement on the rule, and refusal 18's second number, or none where the act is permitted.
+/// judgement on the rule, and refusal 18's second number, or none where the act is permitted. The setting acted on is held
+/// in all cases of a group or in none.
 type CameTo = (Kind, usize, usize, Judgement, Option<u32>);
 
-/// In request R-3's words: 0 for a look at a known setting, 1 surely false, 2 not known, judged in that order.
-fn second(kind: Kind, digit: usize, judgement: Judgement) -> Option<u32> {
+/// In request R-3's words: 0 for a look at a known setting, 1 surely false, 2 not known, judged in that order. In R-7's
+/// words: a plan that sets a held setting gets second number 3, judged first.
+fn second(kind: Kind, digit: usize, judgement: Judgement, held: bool) -> Option<u32> {
     match (kind, digit, judgement) {
+        (Kind::Set(_), _, _) if held => Some(3),
         (Kind::Look, 1..=6, _) => Some(0),
         (_, _, TrueAtAll) => None,
         (_, _, FalseAtAll) => Some(1),
@@ -86,12 +89,33 @@ pub fn every_digit(group: &mut Group) {
                     let n = group.rng.between(3, SETTINGS_MOST);
                     let [acted, spoken, unknown] = mixed(&mut group.rng, n)[..3] else { unreachable!() };
                     let ways = vec![(acted, to_acted), (spoken, to_spoken)];
-                    each_rule(group, &Scene { n, acted, spoken, unknown, ways }, &mut came_to);
+                    each_rule(group, &Scene { n, acted, spoken, unknown, ways, held: false }, &mut came_to);
                 }
             }
         }
     }
-    each_was_come_to(group, &digits, &came_to);
+    each_was_come_to(group, &digits, &came_to, false);
+}
+
+/// The setting acted on is held: what is known of it comes from the start and from looks alone, so its digit is 0, 3 or 6.
+pub fn held(group: &mut Group) {
+    let digits: Vec<[usize; 2]> =
+        [0, 3, 6].iter().flat_map(|&acted| (0..7).map(move |spoken| [acted, spoken])).collect();
+    let mut came_to = BTreeSet::new();
+    for _ in group.times(1) {
+        for [acted_digit, spoken_digit] in &digits {
+            let without_sets = |way: &&Way| way.1.iter().all(|step| matches!(step, Step::Seen(_)));
+            for &to_acted in WAYS[*acted_digit].iter().filter(without_sets) {
+                for &to_spoken in WAYS[*spoken_digit] {
+                    let n = group.rng.between(3, SETTINGS_MOST);
+                    let [acted, spoken, unknown] = mixed(&mut group.rng, n)[..3] else { unreachable!() };
+                    let ways = vec![(acted, to_acted), (spoken, to_spoken)];
+                    each_rule(group, &Scene { n, acted, spoken, unknown, ways, held: true }, &mut came_to);
+                }
+            }
+        }
+    }
+    each_was_come_to(group, &digits, &came_to, true);
 }
 
 /// The rule speaks of the setting acted on itself.
@@ -102,10 +126,11 @@ pub fn own_digit(group: &mut Group) {
         for &way in WAYS.iter().copied().flatten() {
             let n = group.rng.between(2, SETTINGS_MOST);
             let [acted, unknown] = mixed(&mut group.rng, n)[..2] else { unreachable!() };
-            each_rule(group, &Scene { n, acted, spoken: acted, unknown, ways: vec![(acted, way)] }, &mut came_to);
+            let ways = vec![(acted, way)];
+            each_rule(group, &Scene { n, acted, spoken: acted, unknown, ways, held: false }, &mut came_to);
         }
     }
-    each_was_come_to(group, &digits, &came_to);
+    each_was_come_to(group, &digits, &came_to, false);
 }
 
 /// All numbers below `count` in a drawn order.
@@ -124,6 +149,7 @@ struct Scene {
     spoken: usize,
     unknown: usize,
     ways: Vec<(usize, Way)>,
+    held: bool,
 }
 
 fn each_rule(group: &mut Group, scene: &Scene, came_to: &mut BTreeSet<CameTo>) {
@@ -136,7 +162,7 @@ fn each_rule(group: &mut Group, scene: &Scene, came_to: &mut BTreeSet<CameTo>) {
             let (acted, spoken) = (lead.digit(scene.acted), lead.digit(scene.spoken));
             let judgement = judgements[COLUMN[spoken]];
             let refused = |second| Refusal::at(18, lead.bytes.len() as u32).with_second(second);
-            let expected = second(kind, acted, judgement).map_or(Ok(()), |second| Err(refused(second)));
+            let expected = second(kind, acted, judgement, scene.held).map_or(Ok(()), |second| Err(refused(second)));
             let plan = lead.then(act);
             let own = check(&question, &plan);
             group.case(own == expected, || {
@@ -157,7 +183,7 @@ impl Scene {
     }
 
     /// The act has the rule. The free post may do anything, all other rules and what is known of all other settings are
-    /// drawn, and every stop is settled.
+    /// drawn, and every stop is settled. Of the settings that no step leads through any may be held.
     fn question(&self, rng: &mut Rng, free: usize, act: Act, rule: Table) -> Question {
         let n = self.n;
         let m = rng.between(free.max(act.post) + 1, 8);
@@ -177,7 +203,8 @@ impl Scene {
             values |= u8::from(start == Some(true)) << setting;
         }
         let (book, make) = (written(n, m, &rights), table(n, u128::MAX).to_vec());
-        Question { book, team: 1 << free | 1 << act.post, known, values, make, learn: vec![] }
+        let held = rng.byte() & others | u8::from(self.held) << self.acted;
+        Question { book, team: 1 << free | 1 << act.post, known, values, held, make, learn: vec![] }
     }
 
     fn lead(&self, question: &Question, free: usize) -> Lead {
@@ -226,12 +253,12 @@ impl Lead {
 
 /// At each of these digits each kind of act came to each judgement, with the second number that it has there. Nothing
 /// else was come to: no set had 0.
-fn each_was_come_to(group: &mut Group, digits: &[[usize; 2]], came_to: &BTreeSet<CameTo>) {
+fn each_was_come_to(group: &mut Group, digits: &[[usize; 2]], came_to: &BTreeSet<CameTo>, held: bool) {
     let mut count = 0;
     for &[acted, spoken] in digits {
         for kind in KINDS {
             for judgement in [TrueAtAll, FalseAtAll, Neither] {
-                let case = (kind, acted, spoken, judgement, second(kind, acted, judgement));
+                let case = (kind, acted, spoken, judgement, second(kind, acted, judgement, held));
                 group.case(came_to.contains(&case), || format!("never {case:?}"));
                 count += 1;
             }

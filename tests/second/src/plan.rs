@@ -1,5 +1,5 @@
-//! Plans, and the check of their bytes, from paper 01's section on them and its refusals 16 to 21 alone, with request
-//! R-3's second number of 18.
+//! Plans, and the check of their bytes, from paper 01's section on them and its refusals 16 to 21 alone, with the second
+//! number of 18 that requests give.
 //!
 //! The check reads each byte at the state that its branch has come to; states of branches that were left for later wait
 //! in a row. Beside it stands what a plan is, a tree, which the check is compared with.
@@ -10,7 +10,7 @@ use crate::refusal::{refusal, Refusal};
 
 pub const PLAN_MOST: usize = 32_640;
 
-/// The question's 6 to 12, then 16, then the first fault in reading order, 17 before 18; else a bare yes.
+/// The question's 6 to 12 and 31, then 16, then the first fault in reading order, 17 before 18; else a bare yes.
 pub fn check(question: &Question, plan: &[u8]) -> Result<(), Refusal> {
     let asked = question.read()?;
     if plan.len() > PLAN_MOST {

@@ -186,6 +186,8 @@ fn points(group: &mut Group, files: &Files) {
     ];
     points.extend(NOT_REACH.iter().map(|&reach| (reach.to_string(), "refused 22 1\n".to_string())));
     points.extend(TO_P6.iter().map(|(lines, printed)| ([first, lines].concat(), printed.to_string())));
+    let held = b"team 1 2\nknown\nheld c\nmake b\n";
+    expect(group, files, [&book, held, P6_PLAN.as_bytes()], Err(Refusal::at(18, 4).with_second(3)));
     for (plan, printed) in points {
         let own = check(&book, P6_QUESTION, plan.as_bytes());
         let line = own.err().map_or("yes\n".to_string(), |refusal| format!("{refusal}\n"));

@@ -1,19 +1,20 @@
-//! A question: a book, a team, what it knows, and a goal; from paper 01's refusals 6 to 12 alone, and from request R-3
-//! why an act is not permitted.
+//! A question: a book, a team, what it knows, what is held, and a goal; from paper 01's refusals 6 to 12 alone, and from
+//! requests why an act is not permitted, and refusal 31.
 
 use crate::book;
 use crate::knowledge::{judgement, known_to_hold, learnt, Act, Judgement, Kind, Knowledge, DIGITS};
 use crate::refusal::{refusal, Refusal};
 use crate::tables::all;
 
-/// As it is handed over: bytes of any length and content. Bit q of the team is post index q; bit i of `known` and
-/// `values` is setting i. The learn tables stand one after the other.
+/// As it is handed over: bytes of any length and content. Bit q of the team is post index q; bit i of `known`, `values`
+/// and `held` is setting i. The learn tables stand one after the other.
 #[derive(Clone)]
 pub struct Question {
     pub book: Vec<u8>,
     pub team: u8,
     pub known: u8,
     pub values: u8,
+    pub held: u8,
     pub make: Vec<u8>,
     pub learn: Vec<u8>,
 }
@@ -22,6 +23,7 @@ pub struct Question {
 pub struct Asked {
     pub n: usize,
     team: u8,
+    held: u8,
     rules: Vec<u128>,
     pub start: Knowledge,
     make: u128,
@@ -35,6 +37,8 @@ pub enum NotPermitted {
     KnownSetting,
     SurelyFalse,
     NotKnown,
+    /// A set of a held setting, whatever the set rule says: judged first.
+    HeldSetting,
 }
 
 impl NotPermitted {
@@ -44,12 +48,13 @@ impl NotPermitted {
             NotPermitted::KnownSetting => 0,
             NotPermitted::SurelyFalse => 1,
             NotPermitted::NotKnown => 2,
+            NotPermitted::HeldSetting => 3,
         }
     }
 }
 
 impl Question {
-    /// The book's 6 to 9, then 10, 11, 12.
+    /// The book's 6 to 9, then 10, 11, 31, 12.
     pub fn read(&self) -> Result<Asked, Refusal> {
         let book = book::read(&self.book, usize::MAX)?;
         let n = book.n;
@@ -58,6 +63,9 @@ impl Question {
         }
         if u32::from(self.known) >= 1 << n || self.values & !self.known != 0 {
             return refusal(11, 0);
+        }
+        if u32::from(self.held) >= 1 << n {
+            return refusal(31, 0);
         }
         if self.make.len() != 16 || !matches!(self.learn.len(), 0 | 16 | 32 | 48 | 64) {
             return refusal(12, 0);
@@ -68,7 +76,8 @@ impl Question {
             return refusal(12, 0);
         }
         let start = Knowledge::at_start(n, self.known, self.values);
-        Ok(Asked { n, team: self.team, rules: book.rights.chunks(16).map(bits).collect(), start, make, learn })
+        let rules = book.rights.chunks(16).map(bits).collect();
+        Ok(Asked { n, team: self.team, held: self.held, rules, start, make, learn })
     }
 }
 
@@ -88,9 +97,12 @@ impl Asked {
         self.rules[act.setting * 16 + act.post * 2 + usize::from(act.kind != Kind::Look)]
     }
 
-    /// Of an act of this book and team: set where the set rule is known to hold; look where the look rule is, and the
-    /// digit is 0. `presents` are all fitting present valuations.
+    /// Of an act of this book and team: set where the setting is not held and the set rule is known to hold; look where
+    /// the look rule is, and the digit is 0. `presents` are all fitting present valuations.
     pub fn not_permitted(&self, knowledge: &Knowledge, presents: u128, act: Act) -> Option<NotPermitted> {
+        if act.kind != Kind::Look && self.held >> act.setting & 1 == 1 {
+            return Some(NotPermitted::HeldSetting);
+        }
         if act.kind == Kind::Look && knowledge.of_setting(act.setting) != DIGITS[0] {
             return Some(NotPermitted::KnownSetting);
         }

@@ -20,6 +20,7 @@ pub fn by_hand(n: usize, m: usize, stated: &[&str], team: &str, known: &str, mak
         team: team.split(' ').fold(0, |team, post| team | 1 << (post.parse::<u8>().unwrap() - 1)),
         known: 0,
         values: 0,
+        held: 0,
         make: formula(make).to_vec(),
         learn: learn.iter().flat_map(|text| formula(text)).collect(),
     };
@@ -80,6 +81,7 @@ pub fn climb(rng: &mut Rng, letters: &Letters, m: usize) -> Question {
         team: (u8::MAX >> (8 - m)),
         known: 0,
         values: 0,
+        held: 0,
         make: table(n, goal).to_vec(),
         learn: vec![],
     }
@@ -105,6 +107,9 @@ pub fn spoilt_climb(rng: &mut Rng, n: usize) -> Question {
     if rng.chance(30) {
         (question.known, question.values) = any_start(rng, n);
     }
+    if rng.chance(30) {
+        question.held = any_held(rng, n);
+    }
     question
 }
 
@@ -126,8 +131,8 @@ pub fn any_question_of(rng: &mut Rng, n: usize, m: usize, rights: &[u8]) -> Ques
     let nothing_to_make = !learn.is_empty() && rng.chance(50);
     let make = if nothing_to_make { table(n, u128::MAX) } else { any_goal(rng, n) };
     let (known, values) = any_start(rng, n);
-    let team = any_team(rng, m);
-    Question { book: written(n, m, rights), team, known, values, make: make.to_vec(), learn }
+    let (team, held) = (any_team(rng, m), any_held(rng, n));
+    Question { book: written(n, m, rights), team, known, values, held, make: make.to_vec(), learn }
 }
 
 /// Most rules are closed or ask for the values of many settings.
@@ -152,6 +157,12 @@ fn any_start(rng: &mut Rng, n: usize) -> (u8, u8) {
     let some = rng.byte();
     let known = rng.byte() & rng.one_of(&[0, some, u8::MAX]) & (u8::MAX >> (8 - n));
     (known, known & rng.byte())
+}
+
+/// Often none, else few more often than many.
+pub fn any_held(rng: &mut Rng, n: usize) -> u8 {
+    let few = rng.byte() & rng.byte();
+    rng.byte() & rng.one_of(&[0, 0, few, few, u8::MAX]) & (u8::MAX >> (8 - n))
 }
 
 fn any_goal(rng: &mut Rng, n: usize) -> Table {

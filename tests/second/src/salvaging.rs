@@ -241,6 +241,6 @@ fn height(group: &mut Group, question: &Question) -> Option<u64> {
     let mut book = Room::holding(&question.book, &[0], &mut group.rng);
     let mut make = Room::holding(&question.make, &[0], &mut group.rng);
     let mut learn = Room::holding(&question.learn, &[0], &mut group.rng);
-    let masks = [question.team, question.known, question.values];
+    let masks = [question.team, question.known, question.values, question.held];
     ffi::find_plain(&mut book, masks, &mut make, &mut learn).checked_sub(1)
 }

@@ -20,11 +20,12 @@ use faulty::{every_line, formula_lengths, lengths, rubbish, sizes, twice};
 use made::{any_sheet, climb, longest_sheet, small_sheet};
 use unstated::{any_mixture, every_mixture, every_post};
 
-/// Lines of the longest sheet: a size, 2 × 5 × 8 rights, a team, what is known, a make and four asks.
-const LINES_MOST: u32 = 88;
+/// Lines of the longest sheet: a size, 2 × 5 × 8 rights, a team, what is known, what is held, a make and four asks.
+const LINES_MOST: u32 = 89;
 const TEAM_LINE: u32 = 82;
 const KNOWN_LINE: u32 = 83;
-const MAKE_LINE: u32 = 84;
+const HELD_LINE: u32 = 84;
+const MAKE_LINE: u32 = 85;
 
 pub fn test(subject: &mut Subject) {
     subject.group("the sheet of paper 01, P6 to P9, P11 and P12, and points settled by hand", by_hand);
@@ -55,7 +56,7 @@ pub fn test(subject: &mut Subject) {
         subject.must_reach(number, 2..=LINES_MOST);
     }
     subject.must_reach(22, 1..=LINES_MOST + 1);
-    subject.must_reach(23, 2..=KNOWN_LINE);
+    subject.must_reach(23, 2..=HELD_LINE);
     subject.must_reach(24, 0..=0);
     subject.must_reach(25, 1..=1);
 }
@@ -141,7 +142,7 @@ fn longest_sheets(group: &mut Group) {
         for _ in group.times(3) {
             let sheet = longest_sheet(&mut group.rng, n, 8);
             let answered = read(&sheet).is_ok();
-            group.case(answered && (n < 5 || sheet.len() == 22_592), || format!("n {n}, {} bytes", sheet.len()));
+            group.case(answered && (n < 5 || sheet.len() == 22_607), || format!("n {n}, {} bytes", sheet.len()));
             compare(group, &sheet);
         }
     }

@@ -37,7 +37,7 @@ pub fn book_salvage(book: &mut Room, room: &mut Room) -> u64 {
 
 pub fn find(
     book: &mut Room,
-    masks: [u8; 3],
+    masks: [u8; 4],
     make: &mut Room,
     learn: &mut Room,
     ranks: &mut Room,
@@ -46,11 +46,11 @@ pub fn find(
     call(FIND, &masks.map(u64::from), &mut [book, make, learn, ranks, plan])
 }
 
-pub fn find_plain(book: &mut Room, masks: [u8; 3], make: &mut Room, learn: &mut Room) -> u64 {
+pub fn find_plain(book: &mut Room, masks: [u8; 4], make: &mut Room, learn: &mut Room) -> u64 {
     call(FIND_PLAIN, &masks.map(u64::from), &mut [book, make, learn])
 }
 
-pub fn plan_check(book: &mut Room, masks: [u8; 3], make: &mut Room, learn: &mut Room, plan: &mut Room) -> u64 {
+pub fn plan_check(book: &mut Room, masks: [u8; 4], make: &mut Room, learn: &mut Room, plan: &mut Room) -> u64 {
     call(PLAN_CHECK, &masks.map(u64::from), &mut [book, make, learn, plan])
 }
 

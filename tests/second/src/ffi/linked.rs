@@ -14,6 +14,7 @@ extern "C" {
         team: u8,
         known: u8,
         values: u8,
+        held: u8,
         make: *const u8,
         make_len: u64,
         learn: *const u8,
@@ -29,6 +30,7 @@ extern "C" {
         team: u8,
         known: u8,
         values: u8,
+        held: u8,
         make: *const u8,
         make_len: u64,
         learn: *const u8,
@@ -40,6 +42,7 @@ extern "C" {
         team: u8,
         known: u8,
         values: u8,
+        held: u8,
         make: *const u8,
         make_len: u64,
         learn: *const u8,
@@ -96,7 +99,7 @@ pub fn book_salvage(book: &mut Room, room: &mut Room) -> u64 {
 
 pub fn find(
     book: &mut Room,
-    [team, known, values]: [u8; 3],
+    [team, known, values, held]: [u8; 4],
     make: &mut Room,
     learn: &mut Room,
     ranks: &mut Room,
@@ -109,6 +112,7 @@ pub fn find(
             team,
             known,
             values,
+            held,
             start(make),
             size(make),
             start(learn),
@@ -121,15 +125,26 @@ pub fn find(
     }
 }
 
-pub fn find_plain(book: &mut Room, [team, known, values]: [u8; 3], make: &mut Room, learn: &mut Room) -> u64 {
+pub fn find_plain(book: &mut Room, [team, known, values, held]: [u8; 4], make: &mut Room, learn: &mut Room) -> u64 {
     unsafe {
-        pj_find_plain(start(book), size(book), team, known, values, start(make), size(make), start(learn), size(learn))
+        pj_find_plain(
+            start(book),
+            size(book),
+            team,
+            known,
+            values,
+            held,
+            start(make),
+            size(make),
+            start(learn),
+            size(learn),
+        )
     }
 }
 
 pub fn plan_check(
     book: &mut Room,
-    [team, known, values]: [u8; 3],
+    [team, known, values, held]: [u8; 4],
     make: &mut Room,
     learn: &mut Room,
     plan: &mut Room,
@@ -141,6 +156,7 @@ pub fn plan_check(
             team,
             known,
             values,
+            held,
             start(make),
             size(make),
             start(learn),

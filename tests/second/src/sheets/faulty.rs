@@ -2,7 +2,7 @@
 
 use super::by_hand::P6;
 use super::made::{any_sheet, any_sheet_of};
-use super::{compare, expect, KNOWN_LINE, LINES_MOST, MAKE_LINE, TEAM_LINE};
+use super::{compare, expect, HELD_LINE, KNOWN_LINE, LINES_MOST, MAKE_LINE, TEAM_LINE};
 use crate::refusal::Refusal;
 use crate::report::Group;
 use crate::rng::Rng;
@@ -62,6 +62,7 @@ pub fn twice(group: &mut Group) {
             };
             let known = (0..count).map(|_| word(&mut group.rng)).collect::<String>();
             compare(group, format!("size {n} 1\nteam 1\nknown{known}\nmake 1\nask a\n").as_bytes());
+            compare(group, format!("size {n} 1\nteam 1\nknown\nheld{known}\nmake 1\nask a\n").as_bytes());
         }
     }
 }
@@ -69,7 +70,9 @@ pub fn twice(group: &mut Group) {
 pub fn every_line(group: &mut Group) {
     let mut lines = any_sheet_of(&mut group.rng, 5, 8, 100);
     lines.truncate(TEAM_LINE as usize - 1);
-    for line in [&b"team 1 2 3 4 5 6 7 8"[..], b"known a ~b", b"make c", b"ask a", b"ask b", b"ask c", b"ask d"] {
+    for line in
+        [&b"team 1 2 3 4 5 6 7 8"[..], b"known a ~b", b"held c a", b"make c", b"ask a", b"ask b", b"ask c", b"ask d"]
+    {
         lines.push(line.to_vec());
     }
     assert_eq!(lines.len() as u32, LINES_MOST);
@@ -88,7 +91,7 @@ pub fn every_line(group: &mut Group) {
             expect_at(group, line, lines[earlier].clone(), 23);
         }
     }
-    for fewer in 1..=2 {
+    for fewer in 1..=3 {
         for (formula, number) in [("", 1), ("a b", 2), ("f", 3), ("~", 4)] {
             let mut lines = lines[fewer..MAKE_LINE as usize].to_vec();
             lines[0] = b"size 5 8".to_vec();
@@ -99,7 +102,11 @@ pub fn every_line(group: &mut Group) {
     }
     expect_at(group, TEAM_LINE as usize - 1, b"team 1 8 1".to_vec(), 23);
     expect_at(group, KNOWN_LINE as usize - 1, b"known e ~e".to_vec(), 23);
-    for more in ["\n", "ask a\n", "ask a", " ", "known\n"] {
+    expect_at(group, HELD_LINE as usize - 1, b"held e a e".to_vec(), 23);
+    for malformed in [&b"held ~a"[..], b"held f", b"held e e f", b"held e e ~e", b"helda", b"Held a", b"held\ta"] {
+        expect_at(group, HELD_LINE as usize - 1, malformed.to_vec(), 22);
+    }
+    for more in ["\n", "ask a\n", "ask a", " ", "known\n", "held\n"] {
         let refused = format!("refused 22 {}\n", LINES_MOST + 1);
         expect(group, &[&joined(&lines)[..], more.as_bytes()].concat(), 20, &refused);
     }
@@ -172,7 +179,7 @@ pub fn rubbish(group: &mut Group) {
         let length = group.rng.between(1, 200);
         let bytes = group.rng.bytes(length);
         compare(group, &bytes);
-        let bytes = group.rng.bytes_of(b"sizeteamknownmakeaskreadwrite123abc~&|() \n", length);
+        let bytes = group.rng.bytes_of(b"sizeteamknownheldmakeaskreadwrite123abc~&|() \n", length);
         compare(group, &bytes);
         compare(group, &[b"size 3 3\n", &bytes[..]].concat());
         let count = group.rng.between(1, 8);

@@ -83,6 +83,13 @@ pub fn any_question_of(rng: &mut Rng, n: usize, m: usize) -> Lines {
         format!(" {turned}{}", (b'a' + i as u8) as char)
     });
     lines.push([b"known", known.collect::<String>().as_bytes()].concat());
+    if rng.chance(40) {
+        let settings = shuffled(rng, (0..n).collect());
+        let count = rng.below(n + 1).min(rng.below(n + 1));
+        lines.push(
+            settings[..count].iter().fold(b"held".to_vec(), |line, &i| [&line[..], &[b' ', b'a' + i as u8]].concat()),
+        );
+    }
     lines.push([b"make ", &any_formula(rng, n)[..]].concat());
     for _ in 0..rng.one_of(&[0, 0, 1, 2, 3, 4]) {
         lines.push([b"ask ", &any_formula(rng, n)[..]].concat());
@@ -102,7 +109,7 @@ pub fn small_sheet(rng: &mut Rng) -> Lines {
     }
 }
 
-/// Every line that a sheet can have, each formula of 255 bytes: 22,592 bytes for five settings and eight posts.
+/// Every line that a sheet can have, each formula of 255 bytes: 22,607 bytes for five settings and eight posts.
 pub fn longest_sheet(rng: &mut Rng, n: usize, m: usize) -> Vec<u8> {
     let mut lines = any_sheet_of(rng, n, m, 100);
     lines.truncate(1 + 2 * n * m);
@@ -114,6 +121,7 @@ pub fn longest_sheet(rng: &mut Rng, n: usize, m: usize) -> Vec<u8> {
     let settings = (0..n).map(|i| format!(" ~{}", (b'a' + i as u8) as char)).collect::<String>();
     lines.push(format!("team{posts}").into_bytes());
     lines.push(format!("known{settings}").into_bytes());
+    lines.push(format!("held{}", settings.replace('~', "")).into_bytes());
     lines.push([b"make ", &long_formula(rng, n)[..]].concat());
     for _ in 0..4 {
         lines.push([b"ask ", &long_formula(rng, n)[..]].concat());

@@ -19,8 +19,8 @@ use crate::spoilt::{
 use crate::tables::any_rights;
 use crate::text::{self, found, solution, TEXT_MOST};
 
-/// Lines of the longest question: a team, what is known, a make and four asks.
-const LINES_MOST: u32 = 7;
+/// Lines of the longest question: a team, what is known, what is held, a make and four asks.
+const LINES_MOST: u32 = 8;
 
 pub fn test(subject: &mut Subject) {
     subject.group("points settled by hand", points);
@@ -46,7 +46,7 @@ pub fn test(subject: &mut Subject) {
     }
     subject.must_reach(22, 1..=LINES_MOST + 1);
     subject.must_reach(22, TEXT_MOST as u32..=TEXT_MOST as u32 + 1);
-    subject.must_reach(23, 1..=2);
+    subject.must_reach(23, 1..=3);
     for number in [6, 8, 13, 24] {
         subject.must_reach(number, 0..=0);
     }
@@ -191,6 +191,20 @@ const TO_P6: &[(&str, &str)] = &[
     ("team 1", "refused 22 1\n"),
     ("team 1\n", "refused 22 2\n"),
     ("team 1\n\n#\n", "refused 22 4\n"),
+    ("team 1 2\nknown\nheld\nmake b\n", P6_ANSWER),
+    ("team 1 2\nknown\n# keys\nheld c\nmake b\n", "cannot\n"),
+    ("team 1 2\nknown ~c\nheld c\nmake b\n", "reach 2\n0 set a 2 1\n1 set b 1 1\n2 stop\n"),
+    ("team 1 2\nknown ~c\nheld c b\nmake b\n", "cannot\n"),
+    ("team 2\nknown\nheld c a b\nmake 1\nask c\n", "reach 1\n0 look c 2\n1 stop\n1 stop\n"),
+    ("team 1\nheld a\nknown\nmake b\n", "refused 22 2\n"),
+    ("team 1\nknown\nheld ~a\nmake b\n", "refused 22 3\n"),
+    ("team 1\nknown\nheld d\nmake b\n", "refused 22 3\n"),
+    ("team 1\nknown\nheld \nmake b\n", "refused 22 3\n"),
+    ("team 1\nknown\nheld a\nheld b\nmake b\n", "refused 22 4\n"),
+    ("team 1\nknown\nheld\n", "refused 22 4\n"),
+    ("team 1\nknown\nmake b\nheld a\n", "refused 22 4\n"),
+    ("team 1\nknown a\n\nheld a b a\nmake b\n", "refused 23 4\n"),
+    ("team 1\nknown\nheld a\nmake (\n", "refused 4 4\n"),
     ("team 1\nknown d\nmake b\n", "refused 22 2\n"),
     ("team 1\nknown c ~c\nmake b\n", "refused 23 2\n"),
     ("team 1\n\nknown ~a b ~a\nmake b\n", "refused 23 3\n"),
@@ -352,6 +366,7 @@ fn past_the_size(group: &mut Group) {
                     [b"team ", &[byte][..], b"\n"].concat(),
                     [b"team 1\nknown ", &[byte][..], b"\n"].concat(),
                     [b"team 1\nknown ~", &[byte][..], b"\n"].concat(),
+                    [b"team 1\nknown\nheld ", &[byte][..], b"\n"].concat(),
                     [b"team 1\nknown\nmake ", &[byte][..], b"\nask\n"].concat(),
                     [b"team 1\nknown\nmake 1\nask ", &[byte][..], b"\n "].concat(),
                 ];
@@ -369,15 +384,18 @@ fn every_line(group: &mut Group) {
     for n in 1..=7 {
         let book = any_book(&mut group.rng, n, 8);
         let lines: Lines =
-            [&b"team 1 2 3 4 5 6 7 8"[..], b"known ~a", b"make a", b"ask a", b"ask 1", b"ask ~a", b"ask 0"]
+            [&b"team 1 2 3 4 5 6 7 8"[..], b"known ~a", b"held a", b"make a", b"ask a", b"ask 1", b"ask ~a", b"ask 0"]
                 .map(|line| line.to_vec())
                 .to_vec();
         let past = (n < 7).then_some(b'a' + n as u8);
         for line in 0..lines.len() {
             let mut faults = line_faults(&lines[line], past);
-            let misplaced = [&b"size 1 1"[..], b"read a 1 1", b"write a 1 1", b"team 1", b"known", b"make a", b"ask a"];
+            let misplaced =
+                [&b"size 1 1"[..], b"read a 1 1", b"write a 1 1", b"team 1", b"known", b"held", b"make a", b"ask a"];
             let due = lines[line].split(|&byte| byte == b' ').next().unwrap_or_default();
-            faults.extend(misplaced.iter().filter(|line| !line.starts_with(due)).map(|line| (line.to_vec(), 22)));
+            // where `held` may come `make` may, and then the `make` of the next line is out of place
+            let may_come = |other: &[u8]| other.starts_with(due) || due == b"held" && other.starts_with(b"make");
+            faults.extend(misplaced.iter().filter(|line| !may_come(line)).map(|line| (line.to_vec(), 22)));
             match line {
                 0 => faults.extend([
                     (b"team 1 8 1".to_vec(), 23),
@@ -385,6 +403,9 @@ fn every_line(group: &mut Group) {
                     (b"team 1 1 9".to_vec(), 22),
                 ]),
                 1 => faults.extend([(b"known a ~a".to_vec(), 23), (b"known a a ~".to_vec(), 22)]),
+                2 => {
+                    faults.extend([(b"held a a".to_vec(), 23), (b"held ~a".to_vec(), 22), (b"held a a h".to_vec(), 22)])
+                }
                 _ => {}
             }
             for (new, number) in faults {
@@ -509,7 +530,7 @@ fn rubbish(group: &mut Group) {
         let bytes = group.rng.bytes(length);
         compare(group, &book, &bytes);
         compare(group, &bytes, &book);
-        let bytes = group.rng.bytes_of(b"teamknownmakeask#123abc~&|() \n\n", length);
+        let bytes = group.rng.bytes_of(b"teamknownheldmakeask#123abc~&|() \n\n", length);
         compare(group, &book, &bytes);
         compare(group, &book, &[b"team 1\nknown\n", &bytes[..]].concat());
         let count = group.rng.between(1, 8);
