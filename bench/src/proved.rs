@@ -27,6 +27,7 @@ extern "C" {
         team: u8,
         known: u8,
         values: u8,
+        held: u8,
         make: *const u8,
         make_len: u64,
         learn: *const u8,
@@ -93,7 +94,9 @@ pub fn find(asked: &Asked, ranks: &mut [u8], plan: &mut [u8]) -> u64 {
 pub fn find_plain(asked: &Asked) -> u64 {
     let Asked { book, team, make } = asked;
     let (make_len, learn): (u64, [u8; 0]) = (make.len() as u64, []);
-    unsafe { pj_find_plain(book.as_ptr(), book.len() as u64, *team, 0, 0, make.as_ptr(), make_len, learn.as_ptr(), 0) }
+    unsafe {
+        pj_find_plain(book.as_ptr(), book.len() as u64, *team, 0, 0, 0, make.as_ptr(), make_len, learn.as_ptr(), 0)
+    }
 }
 
 pub fn ask(book: &[u8], question: &[u8], ranks: &mut [u8], out: &mut [u8]) -> u64 {
