@@ -130,21 +130,35 @@ is_text() {
     esac
 }
 
-# book_hint BOOK NAME: what is wrong with a book that is refused.
+# of_setting BLOCK: which setting's block it is, in words; nothing of the head.
+of_setting() {
+    local letters=abcdefg
+    [ "$1" -eq 0 ] && echo ', the head,' || echo ", that of setting ${letters:$1 - 1:1},"
+}
+
+# no_head BOOK: what is wrong with the head of a book of whole blocks: whether the file has another length than it says.
+no_head() {
+    local n blocks
+    n=$(od -An -tu1 -N1 <"$1" | tr -d ' ')
+    blocks=$(($(head -c 4097 <"$1" | wc -c) / 512 - 1))
+    if [ "$n" -ne "$blocks" ] && [ "$n" -ge 1 ] && [ "$n" -le 7 ]; then
+        echo "its head says $n settings, and the blocks of $blocks follow: the file is cut off, or more was added"
+    else
+        echo 'its head block is damaged'
+    fi
+}
+
+# book_hint BOOK NAME: what is wrong with a book that is refused, and what can be done.
 book_hint() {
-    local number place
+    local number place again='make the book again from its rules'
     read -r _ number place < <(sed -n 2p <<<"$said")
-    case $number in
-    6) say "$2: this is no book: a book has 2 to 8 blocks of 512 bytes$(is_text "$1")" ;;
-    7 | 9)
-        case $number in
-        7) say "$2: block $place is damaged: its check is wrong" ;;
-        9) say "$2: block $place has a bit that must be zero" ;;
-        esac
-        [ "$place" -eq 0 ] || say "'./parjolenc salvage' makes a book of it with that block closed, and others that are damaged; or make it again from its rules"
-        ;;
-    8) say "$2: the head of the book is not in order" ;;
-    30) say "$2: the head block is damaged, and without it nothing can be salvaged: make the book again from its rules" ;;
+    case $number-$place in
+    6-*) say "$2: this is no book: a book has 2 to 8 blocks of 512 bytes, and this has $(head -c 65537 <"$1" | wc -c) bytes$(is_text "$1")" ;;
+    7-0) say "$2: block 0, the head, is damaged: its check is wrong; it cannot be salvaged: $again" ;;
+    8-*) say "$2: $(no_head "$1"); $again" ;;
+    30-*) say "$2: $(no_head "$1"), so that nothing can be salvaged: $again" ;;
+    7-*) say "$2: block $place$(of_setting "$place") is damaged: its check is wrong; './parjolenc salvage $2 NEW' closes what is damaged, or $again" ;;
+    9-*) say "$2: block $place$(of_setting "$place") has a bit that must be zero; './parjolenc salvage $2 NEW' closes what is damaged, or $again" ;;
     esac
 }
 

@@ -65,7 +65,7 @@ expect 'a last comment without its end' 2 'refused 22 4' 'no byte 10' ask "$nigh
 # books that are none
 expect 'a text for a book' 2 'refused 6 0' 'these are rules' ask books/night.rules books/night/both.question
 { head -c 600 "$night"; printf '\001'; tail -c +602 "$night"; } >"$room/damaged.book"
-expect 'a damaged book' 2 'refused 7 1' 'block 1 is damaged' ask "$room/damaged.book" books/night/both.question
+expect 'a damaged book' 2 'refused 7 1' 'block 1, that of setting a, is damaged' ask "$room/damaged.book" books/night/both.question
 expect 'a folder for a book' 3 '' 'this is a folder' ask "$room" books/night/both.question
 
 # plans

@@ -124,9 +124,9 @@ now ~a b c d' '' replay "$night" "$(sed -n 's/^now //p' books/night/eight-hundre
 expect 'a text for a book' 2 'refused 6 0' 'these are rules' replay books/night.rules 'a' "$room/bad.txt"
 expect 'a shift for a book' 2 'refused 6 0' 'this is no book' replay "$cards" 'a ~b ~c ~d' "$night"
 { head -c 600 "$night"; printf '\001'; tail -c +602 "$night"; } >"$room/torn.book"
-expect 'a damaged book' 2 'refused 7 1' 'block 1 is damaged' replay "$room/torn.book" 'a ~b ~c ~d' "$cards"
+expect 'a damaged book' 2 'refused 7 1' 'block 1, that of setting a, is damaged' replay "$room/torn.book" 'a ~b ~c ~d' "$cards"
 { printf '\005'; tail -c +2 "$night"; } >"$room/head.book"
-expect 'a book with a damaged head' 2 'refused 7 0' 'block 0 is damaged' replay "$room/head.book" 'a ~b ~c ~d' "$cards"
+expect 'a book with a damaged head' 2 'refused 7 0' 'block 0, the head, is damaged' replay "$room/head.book" 'a ~b ~c ~d' "$cards"
 expect 'START before the shift' 3 '' 'START does not name' replay "$night" a "$room/bad.txt"
 
 # refused TEXT NUMBER LINE HINT: a shift with this text (for printf) is refused so, with the hint, by all three words.
