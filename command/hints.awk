@@ -98,7 +98,7 @@ function wrong(text,   i, count, names) {
         if (names[i] !~ /^[a-g]$/) return "'" names[i] "' is no setting"
     }
     if (word(text) == "held" && held) return "line " held " is 'held' already: all held settings stand in one line"
-    if (word(text) == "held") return "'held' stands directly after 'known'"
+    if (word(text) == "held" && kind != "rules" && last != "known") return "'held' stands directly after 'known'"
     if (text == "make" || text == "ask") return "the formula is missing"
     return ""
 }
