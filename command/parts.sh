@@ -130,10 +130,17 @@ is_text() {
     esac
 }
 
-# of_setting BLOCK: which setting's block it is, in words; nothing of the head.
+# of_setting BLOCK: which setting's block it is, in words.
 of_setting() {
     local letters=abcdefg
-    [ "$1" -eq 0 ] && echo ', the head,' || echo ", that of setting ${letters:$1 - 1:1},"
+    echo ", that of setting ${letters:$1 - 1:1},"
+}
+
+# bytes_of FILE: how many bytes it has, in words, as far as a book goes.
+bytes_of() {
+    local count
+    count=$(head -c 4097 <"$1" | wc -c)
+    [ "$count" -le 4096 ] && echo "$count bytes" || echo 'more than 4,096 bytes'
 }
 
 # no_head BOOK: what is wrong with the head of a book of whole blocks: whether the file has another length than it says.
@@ -142,7 +149,7 @@ no_head() {
     n=$(od -An -tu1 -N1 <"$1" | tr -d ' ')
     blocks=$(($(head -c 4097 <"$1" | wc -c) / 512 - 1))
     if [ "$n" -ne "$blocks" ] && [ "$n" -ge 1 ] && [ "$n" -le 7 ]; then
-        echo "its head says $n settings, and the blocks of $blocks follow: the file is cut off, or more was added"
+        echo "its head says $n settings, and the blocks of $blocks follow: the file is cut off, more was added, or the head is damaged"
     else
         echo 'its head block is damaged'
     fi
@@ -153,7 +160,7 @@ book_hint() {
     local number place again='make the book again from its rules'
     read -r _ number place < <(sed -n 2p <<<"$said")
     case $number-$place in
-    6-*) say "$2: this is no book: a book has 2 to 8 blocks of 512 bytes, and this has $(head -c 65537 <"$1" | wc -c) bytes$(is_text "$1")" ;;
+    6-*) say "$2: this is no book: a book has 2 to 8 blocks of 512 bytes, and this has $(bytes_of "$1")$(is_text "$1")" ;;
     7-0) say "$2: block 0, the head, is damaged: its check is wrong; it cannot be salvaged: $again" ;;
     8-*) say "$2: $(no_head "$1"); $again" ;;
     30-*) say "$2: $(no_head "$1"), so that nothing can be salvaged: $again" ;;

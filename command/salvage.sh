@@ -7,12 +7,10 @@ trap '' XFSZ # a file that grows past a limit is a failed write, and not the pro
 kept
 : 2>/dev/null >"$side/line" || trouble "no room in the temporary folder $side"
 run program_salvage "$file" "$2" >"$side/line"
-case $status in
-2) book_hint "$file" "$1" ;;
-3) [ ! -e "$2" ] || say "$2 was made; to see what was closed, salvage $1 once more, under another name" ;;
-esac
-cat "$side/line" 2>/dev/null || trouble "standard output cannot be written; $2 was made, and what was closed can be seen by salvaging $1 once more, under another name"
+[ "$status" -ne 2 ] || book_hint "$file" "$1"
+cat "$side/line" 2>/dev/null || { say 'standard output cannot be written'; status=3; }
 case $status-$(head -c 6 "$side/line") in
-0-closed) say "of $2 'reach' is so of the book before the damage too, but 'cannot', and an act that is not permitted, may come of what is closed" ;;
+3-*) [ ! -e "$2" ] || say "$2 was made; to see what was closed, salvage $1 once more, under another name" ;;
+0-closed) say "'reach' with $2 holds of the book before the damage too, if all the damage was found; 'cannot', and an act that is not permitted, may come of what is closed" ;;
 esac
 exit "$status"

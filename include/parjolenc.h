@@ -318,9 +318,10 @@ pj_u64 pj_book_write(pj_u64 n, pj_u64 m, const pj_u8 *rights, pj_u64 rights_leng
 
 // A damaged book back on its feet, at the start of `room`, as long as the book: the head and every setting block with a
 // right check and no bit that must be zero stay byte for byte, and each other setting block becomes the one with all
-// rules closed and a right check. count × 256 + marks, bit i of the marks where the block of setting i was closed, and
-// their count; or a refusal, which leaves `room` as it was. Later bytes of `room` stay as they were. What comes out is
-// read as a book, of the head's n and m, and salvaged again it is the same bytes.
+// rules closed and a right check. Success is count × 256 + marks: bit i of the marks is set where the block of setting i
+// was closed, and count is how many are set; or a refusal, which leaves `room` as it was. Later bytes of `room` stay as
+// they were. What comes out is read as a book, of the head's n and m, and salvaged again it is the same bytes. Damage
+// that leaves a block with a right check and no stray bit is not found.
 pj_u64 pj_book_salvage(const pj_u8 *book, pj_u64 book_length, pj_u8 *room, pj_u64 room_length);
 
 // Whether the team can bring the goal about. Reach: height × 2^16 + the plan's length, the plan at the start of `plan`;

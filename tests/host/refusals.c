@@ -251,6 +251,9 @@ static void salvages(void) {
     with_byte(PJ_RULE(1, 0, 1), 0, 0);
     pj_u64 told = pj_book_salvage(other, b, room, b);
     test("a damaged block is closed and marked", pj_number(told) == 0 && pj_closed(told) == 1 && pj_marks(told) == 2);
+    const pj_u8 *closed = room + 2 * PJ_BLOCK, *check = closed + PJ_BLOCK - 4;
+    test("with zeros and their check, 1 and 508", all_are(closed, PJ_BLOCK - 4, 0) && check[0] == 1 && check[1] == 0 &&
+                                                      check[2] == 508 % 256 && check[3] == 508 / 256);
 }
 
 int main(void) {

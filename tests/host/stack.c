@@ -78,8 +78,12 @@ int main(void) {
     climb_rights(7, rights, make);
     holds("pj_book_write, seven settings", book_write, PJ_STACK_BOOK_WRITE);
     holds("pj_book_read, seven settings", book_read, PJ_STACK_BOOK_READ);
-    holds("pj_book_salvage, seven settings", book_salvage, PJ_STACK_BOOK_SALVAGE);
+    below("pj_book_salvage, seven settings", book_salvage, PJ_STACK_BOOK_SALVAGE);
     test("which are sound", result == 0);
+    for (int i = 1; i <= 7; i++) book[i * PJ_BLOCK] ^= 1;
+    holds("pj_book_salvage, seven damaged blocks", book_salvage, PJ_STACK_BOOK_SALVAGE);
+    test("which are closed", result == 7 * 256 + 127);
+    book_write();
     holds("pj_find, a plan of height 254", find, PJ_STACK_FIND);
     test("which was found", pj_height(result) == 254);
     plan_length = pj_length(result);

@@ -22,7 +22,7 @@ use Rattle.book_block.proofs.StrayLaws.{table-byte}
 use Rattle.book_block.proofs.BlockLaws.{length-setting, setting-right, setting-setting, setting-byte}
 use Rattle.book_sound.specs.Sound.{Sound, inOrder}
 use Rattle.book_sound.proofs.InOrder.{inOrder-same}
-use Rattle.book_sound.proofs.Laid.{length-laid, laid-setting, laid-sound, laid-again}
+use Rattle.book_sound.proofs.Laid.{length-laid, laid-head, laid-setting, laid-sound, laid-again}
 use Rattle.book_salvage.specs.Salvaged.{Stands, MarksOf, closedBlock, settingAfter, salvagedBook}
 use Rattle.book_salvage.proofs.MarkLaws.{unmarked-stands}
 
@@ -115,6 +115,10 @@ module _ (book : List ℕ) (marks n : ℕ) (size : 512 * (1 + n) ≤ length book
   pub length-salvaged : length (salvagedBook book marks n) ≡ 512 * (1 + n)
   unfolding salvagedBook
   length-salvaged = length-laid (block book 0) (settingAfter book marks) n head-long long
+
+  pub salvaged-head : block (salvagedBook book marks n) 0 ≡ block book 0
+  unfolding salvagedBook
+  salvaged-head = laid-head (block book 0) (settingAfter book marks) n head-long long
 
   pub salvaged-setting : (i : ℕ) → i < n → block (salvagedBook book marks n) (1 + i) ≡ settingAfter book marks i
   unfolding salvagedBook

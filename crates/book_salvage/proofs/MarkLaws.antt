@@ -105,10 +105,7 @@ marks-none {book} {n} {m} all =
 pub marked-small-byte : {book : List ℕ} {n m marks : ℕ} → MarksOf book n m marks → n ≤ 7 → marks < 128
 marked-small-byte {n = n} p most = lt-of-lt-of-le (p .within) (pow-mono {i = n} {j = 7} most)
 
--- what a mark says, and what none says
-pub marked-not : {A : Type 0} {b : Bool} → Tells (not b) A → b ≡ true → A → ⊥
-marked-not {A} t e = subst (λ x. Tells (not x) A) e t
-
+-- what no mark says
 pub unmarked-stands : {A : Type 0} {b : Bool} → Tells (not b) A → b ≡ false → A
 unmarked-stands {A} t e = subst (λ x. Tells (not x) A) e t
 
@@ -136,3 +133,15 @@ ones-past n (suc d) marks h =
     let none : digit 2 marks (n + d) ≡ 0 =
     digit-above {b = 2} (lit< tt) marks (n + d) (lt-of-lt-of-le h (pow-mono {i = n} {j = n + d} (omega arith))) in
     ap (λ k. ones k marks) (add-suc n d) ∙ omega (arith, none, ones-past n d marks h)
+
+-- where none is counted there is none
+none-counted : (k marks : ℕ) → ones k marks ≡ 0 → (i : ℕ) → i < k → digit 2 marks i ≡ 0
+unfolding ones
+none-counted zero marks e i h = absurd (not-suc-le-zero h)
+none-counted (suc k) marks e i h =
+    below-suc i k h (λ s. subst (λ j. digit 2 marks j ≡ 0) (sym s) (omega (arith, e))) (λ l. none-counted k marks (omega (arith, e)) i l)
+
+pub ones-zero : (k marks : ℕ) → marks < 2 ^ k → ones k marks ≡ 0 → marks ≡ 0
+unfolding bit
+ones-zero k marks h e =
+    same-bits k marks 0 h (omega (arith, h)) (λ i l. ap (λ (d : ℕ). eqb d 1) (none-counted k marks e i l) ∙ sym (bit-of-zero i))

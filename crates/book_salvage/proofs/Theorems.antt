@@ -16,16 +16,17 @@ use Rattle.refusal.specs.Order.{First, Clear}
 use Rattle.refusal.proofs.OrderLaws.{first-unique, first-clear, first-place-below}
 use Rattle.book_block.specs.declared.rule.Right.{Right}
 use Rattle.book_block.specs.Rule.{rule}
+use Rattle.book_block.specs.Check.{block}
 use Rattle.book_sound.specs.Sound.{Sound}
 use Rattle.book_sound.specs.Rows.{Whole, settingsOf, postsOf}
 use Rattle.book_sound.proofs.SoundLaws.{sound-settings, sound-posts, sound-whole, sound-head-right}
 use Rattle.book_salvage.specs.declared.SalvageAnswer.{SalvageAnswer}
 use Rattle.book_salvage.specs.declared.SalvageAnswer.the-variants.{Salvaged, Refused}
-use Rattle.book_salvage.specs.Salvaged.{MarksOf, ones, salvagedBook}
+use Rattle.book_salvage.specs.Salvaged.{MarksOf, ones, closedBlock, settingAfter, salvagedBook}
 use Rattle.book_salvage.specs.Rows.{HeadStands, salvageRows}
 use Rattle.book_salvage.specs.Promise.{SalvagesTo, Salvages}
-use Rattle.book_salvage.proofs.MarkLaws.{marks-one, marks-none, ones-none, ones-most, ones-past, marked-small-byte}
-use Rattle.book_salvage.proofs.LaidLaws.{length-salvaged, salvaged-sound, salvaged-same}
+use Rattle.book_salvage.proofs.MarkLaws.{marks-one, marks-none, ones-none, ones-zero, ones-most, ones-past, marked-small-byte}
+use Rattle.book_salvage.proofs.LaidLaws.{after-marked, after-unmarked, length-salvaged, salvaged-head, salvaged-setting, salvaged-sound, salvaged-same}
 use Rattle.book_salvage.proofs.RefusalLaws.{whole-size, whole-settings, refuse-none}
 use Rattle.book_salvage.proofs.RuleLaws.{rule-kept, rule-closed}
 
@@ -92,6 +93,31 @@ module _ {book room after : List ℕ} {marks count : ℕ} (s : SalvagesTo book r
       let n = settingsOf book in
       let e : n + (8 - n) ≡ 8 = omega (arith, whole-settings (s .whole) .most) in
       s .counted ∙ ap (λ k. ones k marks) (sym e) ∙ ones-past n (8 - n) marks (s .marked .within)
+
+  -- and it is 0 exactly where nothing is marked
+  pub count-none : (count ≡ 0) ↔ (marks ≡ 0)
+  count-none = (
+    λ e. ones-zero (settingsOf book) marks (s .marked .within) (sym counted-settings ∙ e),
+    λ e. s .counted ∙ ap (ones 8) e ∙ ones-none,
+  )
+
+  -- ---- block by block: "every sound block stays byte for byte", and the others are closed
+
+  blocks-there : 512 * (1 + settingsOf book) ≤ length book
+  blocks-there = le-of-eq (sym (whole-size (s .whole)))
+
+  pub head-stays : block (take (length book) after) 0 ≡ block book 0
+  head-stays = ap (λ (b : List ℕ). block b 0) salvaged-bytes ∙ salvaged-head book marks (settingsOf book) blocks-there
+
+  module _ (i : ℕ) (setting : i < settingsOf book) where
+    after-block : block (take (length book) after) (1 + i) ≡ settingAfter book marks i
+    after-block = ap (λ (b : List ℕ). block b (1 + i)) salvaged-bytes ∙ salvaged-setting book marks (settingsOf book) blocks-there i setting
+
+    pub unmarked-stays : bit marks i ≡ false → block (take (length book) after) (1 + i) ≡ block book (1 + i)
+    unmarked-stays e = after-block ∙ after-unmarked book marks i e
+
+    pub marked-closed : bit marks i ≡ true → block (take (length book) after) (1 + i) ≡ closedBlock
+    marked-closed e = after-block ∙ after-marked book marks i e
 
 -- ---- a sound book
 

@@ -1,4 +1,4 @@
-// A damaged book back on its feet: a setting block with a wrong check, or a bit that must be zero, is replaced
+// A damaged book back on its feet: a setting block with a wrong check, or a set bit that must be zero, is replaced
 // by a block with all rules closed; every sound block stays byte for byte.
 //
 // Bytes that are not 2 to 8 whole blocks, a head block that is damaged and a room shorter than the book are

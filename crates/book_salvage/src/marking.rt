@@ -25,11 +25,11 @@ fn stands(book: &[u8], i: u8, n: u8, m: u8) -> bool
 }
 
 // The marks of the settings below i, with that of setting i.
-fn with_mark(marks: u8, i: u8, stands: bool) -> u8
+fn with_mark(marks: u8, i: u8, stays: bool) -> u8
     requires { ⌜ (i < 8) × (marks < 2 ^ i) ⌝ }
-    ensures { λ r. ⌜ (r < 2 ^ suc i) × (bit r i ≡ not stands) × ((k : ℕ) → k < i → bit r k ≡ bit marks k) ⌝ }
+    ensures { λ r. ⌜ (r < 2 ^ suc i) × (bit r i ≡ not stays) × ((k : ℕ) → k < i → bit r k ≡ bit marks k) ⌝ }
 {
-    if stands {
+    if stays {
         return marks;
     }
     marks + (1 << i)

@@ -6,7 +6,7 @@ use mathlib.Core.Path.{_≡_, refl, sym, _∙_, subst}
 use mathlib.Core.Logic.{_⊎_, inl, inr, _↔_}
 use mathlib.Core.Bool.{Bool, true, false}
 use mathlib.Core.List.{List, _++_}
-use Prim.Native.Nat.{ℕ, _^_, _≤_, _<_}
+use Prim.Native.Nat.{ℕ, _+_, _*_, _^_, _≤_, _<_}
 use native.Mathlib.Omega.{arith}
 use lib.ListN.{length, take, drop, replicate}
 use Rattle.ground.specs.Digits.{bit}
@@ -14,9 +14,15 @@ use Rattle.refusal.specs.declared.Refusal.{Refusal}
 use Rattle.refusal.specs.Order.{First}
 use Rattle.book_block.specs.declared.rule.Right.{Right}
 use Rattle.book_block.specs.Rule.{rule}
-use Rattle.book_sound.specs.Sound.{Sound}
+use Rattle.book_block.specs.Check.{block}
+use Rattle.book_sound.specs.Sound.{Sound, rightsOf}
+use Rattle.book_sound.specs.declared.ReadAnswer.{ReadAnswer}
+use Rattle.book_sound.specs.declared.ReadAnswer.the-variants.{Book}
+use Rattle.book.specs.Promise.{ReadsBook}
+use Rattle.book.proofs.Theorems.{reads-one}
 use Rattle.book_sound.specs.Rows.{settingsOf, postsOf}
 use Rattle.book_sound.proofs.Theorems.{sound-one}
+use Rattle.book_salvage.specs.Salvaged.{closedBlock}
 use Rattle.book_salvage.specs.Rows.{salvageRows}
 use Rattle.book_salvage.specs.Promise.{SalvagesTo, Salvages}
 use Rattle.book_salvage.specs.declared.SalvageAnswer.{SalvageAnswer}
@@ -80,6 +86,27 @@ module _ {book room after : List ℕ} {marks count : ℕ} (s : SalvagesTo book r
   pub reads-as-book : Sound out (settingsOf book) (postsOf book)
   reads-as-book = Laws.salvaged-reads s
 
+  -- and so `book::read` answers: its n and m, and its rights
+  pub read-gives : (rights : List ℕ) (a : ReadAnswer) (left : List ℕ) → 256 * settingsOf book ≤ length rights → ReadsBook out rights a left
+      → (a ≡ Book (settingsOf book) (postsOf book)) × (left ≡ rightsOf out (settingsOf book) ++ drop (256 * settingsOf book) rights)
+  read-gives rights a left fits r =
+      reads-one out rights a (Book (settingsOf book) (postsOf book)) left (rightsOf out (settingsOf book) ++ drop (256 * settingsOf book) rights) r
+      (reads-as-book, fits, refl)
+
+  -- "every sound block stays byte for byte", and the others are closed
+  pub head-the-same : block out 0 ≡ block book 0
+  head-the-same = Laws.head-stays s
+
+  pub unmarked-the-same : (i : ℕ) → i < settingsOf book → bit marks i ≡ false → block out (1 + i) ≡ block book (1 + i)
+  unmarked-the-same = Laws.unmarked-stays s
+
+  pub marked-is-closed : (i : ℕ) → i < settingsOf book → bit marks i ≡ true → block out (1 + i) ≡ closedBlock
+  marked-is-closed = Laws.marked-closed s
+
+  -- "how many were replaced": none exactly where no setting is marked
+  pub none-replaced : (count ≡ 0) ↔ (marks ≡ 0)
+  none-replaced = Laws.count-none s
+
   -- the rules of an unmarked setting are those stored, those of a marked one are all closed
   pub rules-after : (i q : ℕ) (right : Right) → i < settingsOf book → q < 8
       → ((bit marks i ≡ false) × (rule out i q right ≡ rule book i q right)) ⊎ ((bit marks i ≡ true) × (rule out i q right ≡ replicate 16 0))
@@ -99,7 +126,7 @@ module _ {book room after : List ℕ} {marks count : ℕ} (s : SalvagesTo book r
       ];
     }
 
-    -- a question that is valid over the one book is valid over the other
+    -- the n and m of a valid question are the head's
     valid-salvaged : {n m : ℕ} → ValidQuestion out q goal n m → ValidQuestion out q goal (settingsOf book) (postsOf book)
     valid-salvaged {n} {m} v =
         let e = sound-one (v .sound) reads-as-book in
@@ -110,6 +137,7 @@ module _ {book room after : List ℕ} {marks count : ℕ} (s : SalvagesTo book r
         let e = sound-one (v .sound) (has .sound) in
         subst (λ j. ValidQuestion other q goal j (postsOf book)) (e .0) (subst (ValidQuestion other q goal n) (e .1) v)
 
+    -- a question that is valid over the one book is valid over the other
     pub over-other : ValidQuestion out q goal (settingsOf book) (postsOf book) → ValidQuestion other q goal (settingsOf book) (postsOf book)
     over-other v = record { sound = has .sound; team = v .team; known = v .known; goal = v .goal }
 

@@ -487,7 +487,7 @@ fn held(group: &mut Group) {
     }
     for n in 1..=7 {
         let question = any_question(&mut group.rng, n);
-        for held in [128, 255, 1u8.checked_shl(n as u32).unwrap_or(128)].map(|held| held | 128) {
+        for held in [128, 255, 1u8 << n] {
             let expected = |number| Err(Refusal::at(number, 0));
             let past = Question { held, ..question.clone() };
             for (question, number) in [

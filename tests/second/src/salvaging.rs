@@ -101,7 +101,7 @@ fn every_bit(group: &mut Group, n: usize, repair: bool) {
     }
 }
 
-/// Each choice of setting blocks: a bit turned, in the tables, after them or in the check, or a table of a post too many with a
+/// Each choice of setting blocks: a bit turned, in the tables, after them or in the check, or a byte that must be zero with a
 /// right check. The blocks that are chosen are marked, and no other.
 fn chosen_blocks(group: &mut Group) {
     for n in 1..=7 {
@@ -228,12 +228,12 @@ fn reaches_no_more(group: &mut Group) {
             let height = height(group, &question);
             both += usize::from(salvaged.is_some() && height.is_some());
             let no_more = salvaged.is_none_or(|salvaged| height.is_some_and(|height| height <= salvaged));
-            group.case(word % 256 == u64::from(marks) && no_more, || {
+            group.case(word == u64::from(marks.count_ones()) * 256 + u64::from(marks) && no_more, || {
                 format!("{}: {salvaged:?} salvaged, and {height:?}", sparse(&question.book))
             });
         }
     }
-    group.case(both > 100, || format!("reached with both {both} times alone"));
+    group.case(both > 100, || format!("reached with both only {both} times"));
 }
 
 /// The least height, if the team of a valid question reaches its goal.
@@ -241,6 +241,13 @@ fn height(group: &mut Group, question: &Question) -> Option<u64> {
     let mut book = Room::holding(&question.book, &[0], &mut group.rng);
     let mut make = Room::holding(&question.make, &[0], &mut group.rng);
     let mut learn = Room::holding(&question.learn, &[0], &mut group.rng);
+<<<<<<< HEAD
     let masks = [question.team, question.known, question.values, question.held];
     ffi::find_plain(&mut book, masks, &mut make, &mut learn).checked_sub(1)
+=======
+    let masks = [question.team, question.known, question.values];
+    let word = ffi::find_plain(&mut book, masks, &mut make, &mut learn);
+    assert!(word >> 32 == 0, "a valid question was refused");
+    word.checked_sub(1)
+>>>>>>> 6bc0d257e180e5eff360619336dbdc6c3298291d
 }

@@ -30,7 +30,7 @@ returns-2 c =
     let a = start .args in
     let low = start .pre .1 in
     subst
-    (λ x. (a .marks + x < 2 ^ suc (a .i)) × (bit (a .marks + x) (a .i) ≡ not (a .stands)) × ((k : ℕ) → k < a .i → bit (a .marks + x) k ≡ bit (a .marks) k))
+    (λ x. (a .marks + x < 2 ^ suc (a .i)) × (bit (a .marks + x) (a .i) ≡ not (a .stays)) × ((k : ℕ) → k < a .i → bit (a .marks + x) k ≡ bit (a .marks) k))
     (sym (mark-is (a .i) (start .pre .0)))
     (marked-small (a .marks) (a .i) low, marked-here (a .marks) (a .i) low ∙ sym (ap not (c .if1 .left)), marked-below (a .marks) (a .i) low)
 
