@@ -241,13 +241,8 @@ fn height(group: &mut Group, question: &Question) -> Option<u64> {
     let mut book = Room::holding(&question.book, &[0], &mut group.rng);
     let mut make = Room::holding(&question.make, &[0], &mut group.rng);
     let mut learn = Room::holding(&question.learn, &[0], &mut group.rng);
-<<<<<<< HEAD
     let masks = [question.team, question.known, question.values, question.held];
-    ffi::find_plain(&mut book, masks, &mut make, &mut learn).checked_sub(1)
-=======
-    let masks = [question.team, question.known, question.values];
     let word = ffi::find_plain(&mut book, masks, &mut make, &mut learn);
     assert!(word >> 32 == 0, "a valid question was refused");
     word.checked_sub(1)
->>>>>>> 6bc0d257e180e5eff360619336dbdc6c3298291d
 }
