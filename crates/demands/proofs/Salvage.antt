@@ -139,10 +139,10 @@ module _ {book room after : List ℕ} {marks count : ℕ} (s : SalvagesTo book r
 
     -- a question that is valid over the one book is valid over the other
     pub over-other : ValidQuestion out q goal (settingsOf book) (postsOf book) → ValidQuestion other q goal (settingsOf book) (postsOf book)
-    over-other v = record { sound = has .sound; team = v .team; known = v .known; goal = v .goal }
+    over-other v = record { sound = has .sound; team = v .team; known = v .known; held = v .held; goal = v .goal }
 
     pub over-salvaged : ValidQuestion other q goal (settingsOf book) (postsOf book) → ValidQuestion out q goal (settingsOf book) (postsOf book)
-    over-salvaged v = record { sound = reads-as-book; team = v .team; known = v .known; goal = v .goal }
+    over-salvaged v = record { sound = reads-as-book; team = v .team; known = v .known; held = v .held; goal = v .goal }
 
     -- closing never opens: a plan that works by the salvaged book works by the other, from any state
     pub plan-works-too : ValidQuestion out q goal (settingsOf book) (postsOf book) → (p : Plan) (k : ℕ)
