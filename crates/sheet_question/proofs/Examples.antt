@@ -9,7 +9,7 @@ use Rattle.formula_grammar.specs.Automaton.{isAtom, step, verdict}
 use Rattle.formula.specs.Computed.{sentenceAnswer, foreignAnswer, formulaAnswer}
 use Rattle.sheet_words.specs.Words.{onto, split, begins, passedOver, among, isFalse, bare, isName, allNames, indexOf, indexes, twice}
 use Rattle.sheet_words.specs.Steps.{unlessRefused}
-use Rattle.sheet_question.specs.Asked.{left-out, holding, knownSettings}
+use Rattle.sheet_question.specs.Asked.{left-out, holding, knownSettings, heldSettings}
 use Rattle.sheet_question.specs.Forms.{nameWords, isNames, isTeam, teamOf, isKnown, knownBy, knownOf, isHeld, heldOf}
 use Rattle.sheet_question.specs.LineSteps.{withTeam, withKnown, withHeld, withMake, withAsk, teamStep, knownStep, heldStep, makeStep, askStep}
 use Rattle.sheet_question.specs.LineSteps.{heldOrMake, lineStep}
@@ -34,6 +34,9 @@ pub questions-computed :
     }))
     -- "`held` alone is allowed and holds nothing"
     × (questionMeaning 0 true 1 1 (bytes "team 1\nknown\nheld\nmake a\n") ≡ asked (record { team = 0 ∷ []; known = []; held = holding []; make = bytes "a"; asks = [] }))
+    -- what is held is what the line names, and without a line nothing
+    × (heldSettings (holding (2 ∷ 0 ∷ [])) ≡ 2 ∷ 0 ∷ [])
+    × (heldSettings left-out ≡ [])
     -- "a `~`, a letter past the size, a second `held` line or one elsewhere is 22; a setting named twice 23"
     × (questionMeaning 0 true 1 1 (bytes "team 1\nknown\nheld ~a\nmake a\n") ≡ refused (Malformed 3) 3)
     × (questionMeaning 0 true 1 1 (bytes "team 1\nknown\nheld b\nmake a\n") ≡ refused (Malformed 3) 3)
@@ -70,4 +73,4 @@ pub questions-computed :
 unfolding isLetter isSign isStray isPast isAtom step verdict sentenceAnswer foreignAnswer formulaAnswer knownSettings onto split begins passedOver
     among isFalse bare isName allNames indexOf indexes nameWords isNames isTeam teamOf isKnown knownBy knownOf isHeld heldOf twice unlessRefused withTeam
     withKnown withHeld withMake withAsk teamStep knownStep heldStep makeStep askStep heldOrMake lineStep askedFrom questionMeaning
-questions-computed = (refl, refl, refl, refl, refl, refl, refl, refl, refl, refl, refl, refl, refl, refl, refl, refl, refl, refl, refl, refl, refl, refl, refl, refl, refl, refl, refl)
+questions-computed = (refl, refl, refl, refl, refl, refl, refl, refl, refl, refl, refl, refl, refl, refl, refl, refl, refl, refl, refl, refl, refl, refl, refl, refl, refl, refl, refl, refl, refl)
