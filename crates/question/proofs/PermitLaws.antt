@@ -21,7 +21,7 @@ use Rattle.knowledge.specs.declared.judgement.Judgement.the-variants.{TrueAtAll
 use Rattle.knowledge.proofs.JudgementLaws.{judgement-take}
 use Rattle.plan.specs.Plans.{given}
 use Rattle.plan.specs.declared.Permit.{Permit}
-use Rattle.plan.specs.declared.Permit.the-variants.{Denied}
+use Rattle.plan.specs.declared.Permit.the-variants.{Given, Denied}
 use Rattle.question.specs.Permitted.{byRule, byLook, bySet, permitted}
 
 given-rule : (j : Judgement) → given (byRule j) ≡ holds j
@@ -34,7 +34,8 @@ given-look true said = sym (and-true (given said))
 given-look false said = sym (and-false (given said))
 
 given-set : (b : Bool) (said : Permit) → given (bySet b said) ≡ given said && not b
-given-set true said = sym (and-false (given said))
+given-set true Given = refl
+given-set true (Denied why) = refl
 given-set false said = sym (and-true (given said))
 
 module _ (n : ℕ) (book : List ℕ) (held : ℕ) (d : ℕ → ℕ) (i q : ℕ) where
