@@ -1,6 +1,6 @@
 -- Each way out of `read` and of the writer's judgement is the first refusal in the order or none: what was tested before shows that the rows before
 -- are not given.
-use mathlib.Core.Path.{_≡_, sym, ap, _∙_, subst}
+use mathlib.Core.Path.{_≡_, sym, subst}
 use mathlib.Core.List.{List}
 use Prim.Native.Nat.{ℕ, _+_, _-_, _*_, _≤_, _<_}
 use native.Mathlib.Omega.{arith}

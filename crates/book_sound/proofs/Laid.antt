@@ -1,6 +1,6 @@
 -- A book laid from its blocks, a head and one for each setting: each block is read back, and where each is as it must be the book is sound. A
 -- whole book is laid from its own blocks.
-use mathlib.Core.Path.{_≡_, sym, ap, ap₂, _∙_, subst}
+use mathlib.Core.Path.{_≡_, sym, ap, _∙_, subst}
 use mathlib.Core.List.{List, _++_}
 use Prim.Native.Nat.{ℕ, zero, suc, _+_, _*_, _<_}
 use native.Mathlib.Omega.{arith}
