@@ -2,6 +2,7 @@
 -- and what it does; of the whole, the grammar, where 22 stands, and every refusal exactly; how far a meaning goes; and that `read` gives one thing alone.
 pub mod ReadLaws
 pub mod OnePass
+pub mod Carried
 pub mod TwoParts
 pub mod LineByLine
 pub mod WordForms

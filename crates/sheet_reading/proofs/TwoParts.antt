@@ -17,7 +17,7 @@ use Rattle.formula.specs.declared.Answer.{Answer}
 use Rattle.formula.specs.declared.Answer.the-variants.{Accepted, Refused}
 use Rattle.book_block.specs.declared.rule.Right.the-variants.{Look, Set}
 use Rattle.sheet_words.specs.Words.{split, newline, begins, twice}
-use Rattle.sheet_words.specs.Steps.{Step, fault, next, unless, unlessAnswered, unlessRefused, namesStep}
+use Rattle.sheet_words.specs.Steps.{Step, fault, next, unless, unlessAnswered, unlessRefused}
 use Rattle.sheet_rules.specs.Rules.{Rule, Rules, isStated}
 use Rattle.sheet_rules.specs.Rules.{sized as rulesSized, withRule as rulesWith}
 use Rattle.sheet_rules.specs.Forms.{isSize, digitAt, isRule, ruleOf, isOfRules}
@@ -42,30 +42,7 @@ use Rattle.sheet_reading.specs.Reading.{refused, withQuestion, afterRule
 use Rattle.sheet_reading.proofs.OnePass.{SheetStep, withRule, withTeam, withKnown, withHeld, withMake, withAsk, sizeStep, ruleStep, teamStep, knownStep}
 use Rattle.sheet_reading.proofs.OnePass.{heldStep, makeStep, heldOrMake, askStep, rightOrTeam, rightsStep, step}
 use Rattle.sheet_reading.proofs.OnePass.{ending, lines, firstLine, after, lines-after, first-after}
-
--- ---- a step, carried from a part to the sheet
-
-abbrev carried : {A B : Type 0} → (A → B) → Step A → Step B
-carried f (fault r) = fault r
-carried f (next a) = next (f a)
-
-module _ {A B : Type 0} (f : A → B) where
-  carried-unless : (b : Bool) (r : Refusal) (later : Step A) → carried f (unless b r later) ≡ unless b r (carried f later)
-  carried-unless true r later = refl
-  carried-unless false r later = refl
-
-  carried-refused : (n : ℕ) (F : List ℕ) (later : Step A) → carried f (unlessRefused n F later) ≡ unlessRefused n F (carried f later)
-  unfolding unlessRefused
-  carried-refused n F later = by-answer (formulaAnswer n F)
-    where
-      by-answer : (a : Answer) → carried f (unlessAnswered a later) ≡ unlessAnswered a (carried f later)
-      by-answer Accepted = refl
-      by-answer (Refused r) = refl
-
-  carried-names : (L : ℕ) (form : Bool) (names : List ℕ) (later : Step A) → carried f (namesStep L form names later) ≡ namesStep L form names (carried f later)
-  carried-names L form names later =
-      carried-unless form (Malformed L) (unless (not (twice (λ i. false) names)) (Twice L) later)
-      ∙ ap (unless form (Malformed L)) (carried-unless (not (twice (λ i. false) names)) (Twice L) later)
+use Rattle.sheet_reading.proofs.Carried.{carried, carried-unless, carried-refused, carried-names, carried-held}
 
 -- ---- the question
 
@@ -94,15 +71,11 @@ module _ (rules : Rules) where
       sym (carried-unless asks (begins (bytes "make ") line) (Malformed L) (unlessRefused n (drop 5 line) later)
       ∙ ap (unless (begins (bytes "make ") line) (Malformed L)) (carried-refused asks n (drop 5 line) later))
 
-  carried-held : (b : Bool) (x y : AskedStep) → carried asks (heldOr b x y) ≡ heldOr b (carried asks x) (carried asks y)
-  carried-held true x y = refl
-  carried-held false x y = refl
-
   held-same : (L : ℕ) (a : Asked) (line : List ℕ) → heldOrMake L (sheetOf rules a) line ≡ carried asks (askedHeldOrMake n L a line)
   unfolding heldOrMake askedHeldOrMake heldStep askedHeldStep withHeld askedHeld
   held-same L a line =
       ap₂ (heldOr (begins (bytes "held") line)) (sym (carried-names asks L (isHeld n line) (heldOf line) (next (Make, askedHeld a line)))) (make-same L a line)
-      ∙ sym (carried-held (begins (bytes "held") line) _ (askedMakeStep n L a line))
+      ∙ sym (carried-held asks (begins (bytes "held") line) _ (askedMakeStep n L a line))
 
   ask-same : (L : ℕ) (a : Asked) (line : List ℕ) → askStep L (sheetOf rules a) line ≡ carried asks (askedAskStep n L a line)
   unfolding askStep askedAskStep withAsk askedAsk
