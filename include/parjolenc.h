@@ -200,9 +200,10 @@ enum {
 // Stack that a call takes at most, whatever its arguments, rounded up to 4,096 bytes. It is measured and not proved:
 // tests/host/stack.c paints a stack, calls the function where it goes deepest, and finds the lowest byte that changed.
 // On x86-64, with the library that kit 5b made on 2026-11-16, in the order below: 102,768 bytes (255 brackets: 400 each
-// and 768), 248, 232, 168 (seven damaged blocks), 113,176 (a plan of height 254: 208 for each act and 60,344), 897,664
-// (the same plan: 288 for each height and 824,512, of which 823,543 are what it remembers), 632, 138,752 and 118,464 (a
-// look rule of 255 brackets), 146,072 (a plan of height 254), and 184. The frames in the object code add up to the same on the deepest path. memcpy
+// and 768), 248, 232, 168 (seven damaged blocks), 113,144 (a plan of height 254: 208 for each act and 60,312), 897,680
+// (the same plan: 288 for each height and 824,528, of which 823,543 are what it remembers), 680, 138,768 and 118,464 (a
+// look rule of 255 brackets), 146,008 (a plan of height 254), and 184. The frames in the object code add up to the same
+// on the deepest path. memcpy
 // and memset are counted, but the first call of one in a process takes more where the dynamic linker binds it then:
 // 3,152 bytes were seen, for which there is room, since nothing that calls itself calls them.
 enum {
