@@ -1,18 +1,16 @@
--- Two legs: the refusals of `find_two` in their order, and that what it gives is settled, all three rooms included; and what is promised of it:
--- "reach" exactly when there is a plan of the first team that works and leaves the second team a working plan at each of its stops.
-use mathlib.Core.Path.{_≡_, refl, sym, ap, ap₂, _∙_, subst}
-use mathlib.Core.Logic.{_⊎_, inl, inr}
-use mathlib.Core.List.{List, [], _∷_, _++_}
+-- The refusals of `find_two` in their order: those of both legs come first, then 13 for the first short table; and a valid question with room for
+-- both leaves none.
+use mathlib.Core.Path.{_≡_, sym, subst}
+use mathlib.Core.List.{List, [], _∷_}
 use Prim.Native.Nat.{ℕ, _^_, _≤_, _<_}
 use native.Mathlib.Omega.{arith}
-use lib.ListN.{length, drop}
+use lib.ListN.{length}
 use Rattle.refusal.specs.declared.Refusal.{Refusal}
-use Rattle.refusal.specs.declared.Refusal.the-variants.{RankRoom, PlanRoom}
+use Rattle.refusal.specs.declared.Refusal.the-variants.{RankRoom}
 use Rattle.refusal.specs.Order.{Row, when, First, Clear}
-use Rattle.refusal.proofs.OrderLaws.{first-left, first-right, first-when, first-later-when, first-unique, first-clear, clear-append, clear-when, clear-none}
+use Rattle.refusal.proofs.OrderLaws.{first-left, first-right, first-when, first-later-when, clear-append, clear-when, clear-none}
 use Rattle.book_sound.specs.Rows.{settingsOf}
 use Rattle.book_sound.proofs.SoundLaws.{sound-settings}
-use Rattle.book_sound.proofs.Theorems.{sound-one}
 use Rattle.knowledge.specs.Goal.{Goal}
 use Rattle.question.specs.Legs.{ValidLegs, legRows}
 use Rattle.question.specs.declared.Question.{Question}
