@@ -19,7 +19,7 @@ use Rattle.finder.specs.FindsTwo.{Rooms, findTwoRows, RoomForTwo}
 
 module _ (book : List ℕ) (q : Question) (goal : Goal) (second : ℕ) (wanted : Goal) (old : Rooms) where
   -- 13's two rows
-  abbrev roomRows : List Row
+  abbrev pub roomRows : List Row
   roomRows =
       when (length (old .ranks) < 7 ^ settingsOf book) (RankRoom 1)
       ∷ when (length (old .ranks2) < 7 ^ settingsOf book) (RankRoom 2)

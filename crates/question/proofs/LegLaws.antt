@@ -25,7 +25,7 @@ use Rattle.question.proofs.SystemLaws.{lawful}
 
 module _ (book : List ℕ) (q : Question) (goal : Goal) (second : ℕ) (wanted : Goal) where
   -- the rows of the second leg
-  abbrev secondRows : List Row
+  abbrev pub secondRows : List Row
   secondRows = when (TeamFits (postsOf book) second → ⊥) Team ∷ when (GoalFits (settingsOf book) wanted → ⊥) WrongGoal ∷ []
 
   pub first-row : {r : Refusal} → First (questionRows book q goal) r → First (legRows book q goal second wanted) r
