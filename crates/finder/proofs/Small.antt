@@ -24,8 +24,7 @@ use Rattle.question.proofs.Places.{question-places, leg-places}
 use Rattle.question.specs.Legs.{legRows}
 use Rattle.question.proofs.LegLaws.{first-leg-lawful}
 use Rattle.finder.specs.Answers.{AnswersFrom}
-use Rattle.finder.specs.FindsTwo.{Rooms, findTwoRows, FindsTwo}
-use Rattle.finder.proofs.TwoLaws.{roomRows}
+use Rattle.finder.specs.FindsTwo.{Rooms, roomRows, findTwoRows, FindsTwo}
 use Rattle.finder.specs.Finds.{Finds, findRows}
 use Rattle.finder.specs.declared.answer.Answer.the-variants.{Reach, Refused}
 
@@ -58,7 +57,7 @@ module _ (book : List ℕ) (q : Question) (goal : Goal) (ranks plan ranks′ pla
 pub two-places : (book : List ℕ) (q : Question) (goal : Goal) (second : ℕ) (wanted : Goal) (old : Rooms) → PlacesBelow 9 (findTwoRows book q goal second wanted old)
 unfolding findTwoRows
 two-places book q goal second wanted old =
-    places-append 9 (legRows book q goal second wanted) (roomRows book q goal second wanted old) (leg-places book q goal second wanted)
+    places-append 9 (legRows book q goal second wanted) (roomRows book old) (leg-places book q goal second wanted)
     (λ _. ((λ i g. omega arith), λ _. ((λ i g. omega arith), λ _. tt)))
 
 module _ (book : List ℕ) (q : Question) (goal : Goal) (second : ℕ) (wanted : Goal) (old new : Rooms) where

@@ -15,19 +15,12 @@ use Rattle.knowledge.specs.Goal.{Goal}
 use Rattle.question.specs.Legs.{ValidLegs, legRows}
 use Rattle.question.specs.declared.Question.{Question}
 use Rattle.question.proofs.LegLaws.{legs-clear}
-use Rattle.finder.specs.FindsTwo.{Rooms, findTwoRows, RoomForTwo}
+use Rattle.finder.specs.FindsTwo.{Rooms, roomRows, findTwoRows, RoomForTwo}
 
 module _ (book : List ℕ) (q : Question) (goal : Goal) (second : ℕ) (wanted : Goal) (old : Rooms) where
-  -- 13's two rows
-  abbrev pub roomRows : List Row
-  roomRows =
-      when (length (old .ranks) < 7 ^ settingsOf book) (RankRoom 1)
-      ∷ when (length (old .ranks2) < 7 ^ settingsOf book) (RankRoom 2)
-      ∷ []
-
   pub leg-row : {r : Refusal} → First (legRows book q goal second wanted) r → First (findTwoRows book q goal second wanted old) r
   unfolding findTwoRows
-  leg-row f = first-left roomRows f
+  leg-row f = first-left (roomRows book old) f
 
   module _ {n m : ℕ} (v : ValidLegs book q goal second wanted n m) where
     size-is : settingsOf book ≡ n

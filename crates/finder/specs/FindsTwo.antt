@@ -27,13 +27,16 @@ pub record Rooms : Type 0 where
 abbrev pub roomsOf : List ℕ → List ℕ → List ℕ → Rooms
 roomsOf ranks ranks2 plan = record { ranks = ranks; ranks2 = ranks2; plan = plan }
 
--- the refusals of both legs, and after them "13 with place 1 or 2 for the first short table"
-unfoldable pub findTwoRows : List ℕ → Question → Goal → ℕ → Goal → Rooms → List Row
-findTwoRows book q goal second wanted old =
-    legRows book q goal second wanted
-    ++ (when (length (old .ranks) < 7 ^ settingsOf book) (RankRoom 1)
+-- "13 with place 1 or 2 for the first short table"
+abbrev pub roomRows : List ℕ → Rooms → List Row
+roomRows book old =
+    when (length (old .ranks) < 7 ^ settingsOf book) (RankRoom 1)
     ∷ when (length (old .ranks2) < 7 ^ settingsOf book) (RankRoom 2)
-    ∷ [])
+    ∷ []
+
+-- and it comes after the refusals of both legs
+unfoldable pub findTwoRows : List ℕ → Question → Goal → ℕ → Goal → Rooms → List Row
+findTwoRows book q goal second wanted old = legRows book q goal second wanted ++ roomRows book old
 
 -- a question that is refused before it is looked into, which leaves all three rooms as they were
 pub record UnmetTwo (book : List ℕ) (q : Question) (goal : Goal) (second : ℕ) (wanted : Goal) (old : Rooms) (answer : Answer) (new : Rooms) : Type 0 where

@@ -16,7 +16,7 @@ use Rattle.plan.proofs.Legs.{first-lawful}
 use Rattle.question.specs.Question.{systemOf}
 use Rattle.question.specs.Rows.{TeamFits, GoalFits, questionRows}
 use Rattle.question.specs.Asks.{ValidQuestion}
-use Rattle.question.specs.Legs.{secondOf, secondSystem, firstSystem, ValidLegs, legRows, AsksTwo}
+use Rattle.question.specs.Legs.{secondOf, secondSystem, firstSystem, ValidLegs, secondRows, legRows, AsksTwo}
 use Rattle.question.specs.declared.Question.{Question}
 use Rattle.question.specs.declared.Asked.{Asked}
 use Rattle.question.specs.declared.Asked.the-variants.{Valid, Not}
@@ -24,13 +24,9 @@ use Rattle.question.proofs.RowLaws.{question-clear}
 use Rattle.question.proofs.SystemLaws.{lawful}
 
 module _ (book : List ℕ) (q : Question) (goal : Goal) (second : ℕ) (wanted : Goal) where
-  -- the rows of the second leg
-  abbrev pub secondRows : List Row
-  secondRows = when (TeamFits (postsOf book) second → ⊥) Team ∷ when (GoalFits (settingsOf book) wanted → ⊥) WrongGoal ∷ []
-
   pub first-row : {r : Refusal} → First (questionRows book q goal) r → First (legRows book q goal second wanted) r
   unfolding legRows
-  first-row f = first-left secondRows f
+  first-row f = first-left (secondRows book second wanted) f
 
   module _ {n m : ℕ} (v : ValidQuestion book q goal n m) where
     team-in : TeamFits m second → TeamFits (postsOf book) second

@@ -11,9 +11,8 @@ use Rattle.book_sound.proofs.Theorems.{book-places}
 use Rattle.knowledge.specs.Goal.{Goal}
 use Rattle.question.specs.Rows.{questionRows}
 use Rattle.question.specs.declared.Question.{Question}
-use Rattle.question.specs.Legs.{legRows}
+use Rattle.question.specs.Legs.{secondRows, legRows}
 use Rattle.question.proofs.RowLaws.{ownRows}
-use Rattle.question.proofs.LegLaws.{secondRows}
 
 pub question-places : (book : List ℕ) (q : Question) (goal : Goal) → PlacesBelow 9 (questionRows book q goal)
 unfolding questionRows
@@ -27,5 +26,5 @@ question-place-small book q goal r f = first-place-below 9 (questionRows book q 
 pub leg-places : (book : List ℕ) (q : Question) (goal : Goal) (second : ℕ) (wanted : Goal) → PlacesBelow 9 (legRows book q goal second wanted)
 unfolding legRows
 leg-places book q goal second wanted =
-    places-append 9 (questionRows book q goal) (secondRows book q goal second wanted) (question-places book q goal)
+    places-append 9 (questionRows book q goal) (secondRows book second wanted) (question-places book q goal)
     (λ _. ((λ i g. omega arith), λ _. ((λ i g. omega arith), λ _. tt)))

@@ -33,13 +33,16 @@ pub record ValidLegs (book : List ℕ) (q : Question) (goal : Goal) (second : �
   pub second-team : TeamFits m second
   pub second-goal : GoalFits n wanted
 
--- the first leg's refusals, and then 10 and 12 of the second
-unfoldable pub legRows : List ℕ → Question → Goal → ℕ → Goal → List Row
-legRows book q goal second wanted =
-    questionRows book q goal
-    ++ (when (TeamFits (postsOf book) second → ⊥) Team
+-- 10 and 12 of the second leg
+abbrev pub secondRows : List ℕ → ℕ → Goal → List Row
+secondRows book second wanted =
+    when (TeamFits (postsOf book) second → ⊥) Team
     ∷ when (GoalFits (settingsOf book) wanted → ⊥) WrongGoal
-    ∷ [])
+    ∷ []
+
+-- and they come after the first leg's
+unfoldable pub legRows : List ℕ → Question → Goal → ℕ → Goal → List Row
+legRows book q goal second wanted = questionRows book q goal ++ secondRows book second wanted
 
 -- what `ask_two` gives: the first of them, or the book's numbers
 abbrev pub AsksTwo : List ℕ → Question → Goal → ℕ → Goal → Asked → Type 0
