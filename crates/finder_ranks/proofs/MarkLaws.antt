@@ -3,12 +3,12 @@
 use mathlib.Core.Path.{_≡_, refl, sym, ap, _∙_}
 use mathlib.Core.Logic.{_⊎_, inl, inr}
 use mathlib.Core.List.{List}
-use mathlib.Core.Bool.{Bool, true, false}
+use mathlib.Core.Bool.{Bool, true, false, not, _&&_, cond}
 use Prim.Native.Nat.{ℕ, zero, suc, _+_, _*_, _-_, _^_, _≤_, _<_}
 use native.Mathlib.Nat.{pow-suc}
 use native.Mathlib.Decide.{ℕ-discrete}
 use native.Mathlib.Omega.{arith}
-use lib.Dec.{T}
+use lib.Dec.{T, eqb}
 use lib.ListN.{length, getD, set, length-set}
 use lib.Seq.{ext-getD, getD-set-same, getD-set-other}
 use Rattle.ground.proofs.Bools.{lt-or-ge}
@@ -19,7 +19,8 @@ use Rattle.finder_sides.specs.Tables.{goalAt}
 use Rattle.finder_sides.proofs.Shown.{now-number-lt, start-number-lt, now-low, start-low}
 use Rattle.finder_sides.proofs.CountLaws.{sides-most}
 use Rattle.finder_ranks.specs.Ranks.{rank}
-use Rattle.finder_ranks.specs.Marks.{rankIf, markOf, markAt, Marks, Stored}
+use Rattle.finder_ranks.specs.Marks.{rankIf, markOf, markAt, markThen, Marks, Stored, Unmarked}
+use Rattle.finder_ranks.specs.Fills.{goalThen}
 
 -- ---- runs of stores
 
@@ -82,9 +83,9 @@ sevens zero some = absurd (omega arith)
 sevens (suc m) some = let e : suc m - 1 ≡ m = omega arith in rw (e, pow-suc) refl
 
 -- all of them
-pub marks-all : {n e : ℕ} {made learnt old new : List ℕ} → Stored (markAt n made learnt) 0 e old new → e ≡ 7 ^ n → Marks n made learnt old new
-unfolding markAt
-marks-all {n} {e} s q = record {
+pub marks-all : {n e : ℕ} (made learnt : List ℕ) {old new : List ℕ} → Stored (markAt n made learnt) 0 e old new → e ≡ 7 ^ n → Marks n (goalAt n made learnt) old new
+unfolding markAt markOf goalAt
+marks-all {n} {e} made learnt s q = record {
   long = s .long;
   marked = λ k h. s .here k (omega arith) (omega arith);
   kept = λ k h. s .after k (omega arith);
@@ -119,16 +120,36 @@ if-either : (b : Bool) → (rankIf b ≡ 0) ⊎ (rankIf b ≡ 255)
 if-either true = inl refl
 if-either false = inr refl
 
-module _ {n : ℕ} {made learnt old new : List ℕ} (m : Marks n made learnt old new) (k : ℕ) (h : k < 7 ^ n) where
-  mark-is : rank new k ≡ rankIf (goalAt n made learnt k)
-  unfolding markAt markOf goalAt
-  mark-is = m .marked k h
+module _ {n : ℕ} {goal : ℕ → Bool} {old new : List ℕ} (m : Marks n goal old new) (k : ℕ) (h : k < 7 ^ n) where
+  pub marked-goal : T (goal k) → rank new k ≡ 0
+  marked-goal t = m .marked k h ∙ if-goal (goal k) t
 
-  pub marked-goal : T (goalAt n made learnt k) → rank new k ≡ 0
-  marked-goal t = mark-is ∙ if-goal (goalAt n made learnt k) t
-
-  pub goal-marked : rank new k ≡ 0 → T (goalAt n made learnt k)
-  goal-marked e = goal-if (goalAt n made learnt k) (sym mark-is ∙ e)
+  pub goal-marked : rank new k ≡ 0 → T (goal k)
+  goal-marked e = goal-if (goal k) (sym (m .marked k h) ∙ e)
 
   pub marked-either : (rank new k ≡ 0) ⊎ (rank new k ≡ 255)
-  marked-either = elim (if-either (goalAt n made learnt k)) [ inl e ↦ inl (mark-is ∙ e) | inr e ↦ inr (mark-is ∙ e) ]
+  marked-either = elim (if-either (goal k)) [ inl e ↦ inl (m .marked k h ∙ e) | inr e ↦ inr (m .marked k h ∙ e) ]
+
+-- ---- the marks of a first leg
+
+mark-both : (goal none : Bool) → cond none 255 (rankIf goal) ≡ rankIf (goal && not none)
+mark-both true true = refl
+mark-both true false = refl
+mark-both false true = refl
+mark-both false false = refl
+
+-- marked by its own goal, and then held against the second leg's ranks
+pub marks-then : {n : ℕ} (made learnt second : List ℕ) {old mid new : List ℕ} → Marks n (goalAt n made learnt) old mid → Unmarked n second mid new
+    → Marks n (goalThen n made learnt second) old new
+unfolding goalThen markThen
+marks-then {n} made learnt second m u = record {
+  long = u .long ∙ m .long;
+  marked = λ k h. u .here k (omega arith) h ∙ rw (m .marked k h) (mark-both (goalAt n made learnt k) (eqb (rank second k) 255));
+  kept = λ k h. u .after k h ∙ m .kept k h;
+}
+
+-- one state more
+pub unmarked-more : {e x y : ℕ} (second old : List ℕ) {mid : List ℕ} → Stored (λ k. markThen (getD second k 0) (getD old k 0)) 0 e old mid → e < length mid
+    → y ≡ getD mid e 0 → x ≡ markThen (getD second e 0) y → Stored (λ k. markThen (getD second k 0) (getD old k 0)) 0 (e + 1) old (set mid e x)
+unmarked-more {e} {x} second old s l here q =
+    stored-more (e + 1) x s (omega arith) l refl (q ∙ ap (λ (z : ℕ). markThen (getD second e 0) z) (here ∙ s .after e (omega arith)))

@@ -3,19 +3,20 @@
 use mathlib.Core.Path.{_≡_, sym, _∙_}
 use mathlib.Core.Logic.{_⊎_, inl, inr}
 use mathlib.Core.List.{List}
+use mathlib.Core.Bool.{Bool}
 use Prim.Native.Nat.{ℕ, zero, suc, _^_, _≤_, _<_}
 use native.Mathlib.Omega.{arith}
 use lib.ListN.{length}
 use lib.Seq.{ext-getD}
 use Rattle.ground.proofs.Bools.{lt-or-ge}
 use Rattle.finder_ranks.specs.Ranks.{rank}
-use Rattle.finder_ranks.specs.Fills.{RankTable, FillsRanks, RanksFit}
+use Rattle.finder_ranks.specs.Fills.{RankTable, FillsRanks, FillsFirst, RanksFit}
 use Rattle.finder_ranks.proofs.Stages.{lowers-within}
 use Rattle.finder_ranks.proofs.counts.numbers.Reads as numbers
 use Rattle.finder_ranks.proofs.apart.side_of.Reads as side-of
 
-module _ {n : ℕ} {made learnt : List ℕ} {set look : List (List ℕ)} {before a b : List ℕ}
-    (x : RankTable n made learnt set look before a) (y : RankTable n made learnt set look before b) where
+module _ {n : ℕ} {goal : ℕ → Bool} {set look : List (List ℕ)} {before a b : List ℕ}
+    (x : RankTable n goal set look before a) (y : RankTable n goal set look before b) where
   no-higher : (m k : ℕ) → rank a k < m → k < 7 ^ n → rank b k ≤ rank a k
   no-higher zero k l s = absurd (omega arith)
   no-higher (suc m) k l s = elim (lt-or-ge (rank a k) 255) [
@@ -26,8 +27,8 @@ module _ {n : ℕ} {made learnt : List ℕ} {set look : List (List ℕ)} {before
     ]
   ]
 
-pub table-unique : {n : ℕ} {made learnt : List ℕ} {set look : List (List ℕ)} {before a b : List ℕ}
-    → RankTable n made learnt set look before a → RankTable n made learnt set look before b → a ≡ b
+pub table-unique : {n : ℕ} {goal : ℕ → Bool} {set look : List (List ℕ)} {before a b : List ℕ}
+    → RankTable n goal set look before a → RankTable n goal set look before b → a ≡ b
 table-unique {n} {a = a} {b = b} x y =
     ext-getD 0 a b (x .same-length ∙ sym (y .same-length)) (λ k l. elim (lt-or-ge k (7 ^ n)) [
       | inl s ↦ omega (arith, no-higher x y (suc (rank a k)) k (omega arith) s, no-higher y x (suc (rank b k)) k (omega arith) s)
@@ -53,6 +54,17 @@ pub fills-unique : {n : ℕ} {made learnt : List ℕ} {set look : List (List ℕ
 fills-unique {n} {before = before} x y = elim (room-or n before) [
   | inl r ↦ table-unique (x .filled r) (y .filled r)
   | inr r ↦ x .kept r ∙ sym (y .kept r)
+]
+
+-- `fill_first`: all of the table
+pub first-unique : {n : ℕ} {made learnt second : List ℕ} {set look : List (List ℕ)} {before a b : List ℕ}
+    → FillsFirst n made learnt second set look before a → FillsFirst n made learnt second set look before b → a ≡ b
+first-unique {n} {second = second} {before = before} x y = elim (room-or n second) [
+  | inl r ↦ elim (room-or n before) [
+    | inl s ↦ table-unique (x .filled r s) (y .filled r s)
+    | inr s ↦ x .kept (λ t. s) ∙ sym (y .kept (λ t. s))
+  ]
+  | inr r ↦ x .kept (λ t u. r t) ∙ sym (y .kept (λ t u. r t))
 ]
 
 -- the two that are lent nothing to write to, by their own contracts, as the check reads them, `Post`

@@ -1,7 +1,7 @@
 -- The marks of a goal in a rank table, from the tables of its two halves. For the crate's own functions.
 use mathlib.Core.Path.{_≡_}
 use mathlib.Core.List.{List}
-use mathlib.Core.Bool.{Bool, true, false, not, _&&_}
+use mathlib.Core.Bool.{Bool, true, false, not, _&&_, cond}
 use Prim.Native.Nat.{ℕ, _^_, _≤_, _<_}
 use lib.Dec.{eqb}
 use lib.ListN.{length, getD}
@@ -19,10 +19,10 @@ markOf done known = rankIf (not (eqb done 0) && not (eqb known 0))
 unfoldable pub markAt : ℕ → List ℕ → List ℕ → ℕ → ℕ
 markAt n made learnt k = markOf (getD made (nowSideNumber n k) 0) (getD learnt (startSideNumber n k) 0)
 
--- the first 7^n bytes of the rank table are marked; later bytes keep what they held
-pub record Marks (n : ℕ) (made learnt old new : List ℕ) : Type 0 where
+-- the first 7^n bytes of the rank table are marked, 0 where the goal is settled; later bytes keep what they held
+pub record Marks (n : ℕ) (goal : ℕ → Bool) (old new : List ℕ) : Type 0 where
   pub long : length new ≡ length old
-  pub marked : (k : ℕ) → k < 7 ^ n → getD new k 0 ≡ markAt n made learnt k
+  pub marked : (k : ℕ) → k < 7 ^ n → getD new k 0 ≡ rankIf (goal k)
   pub kept : (k : ℕ) → 7 ^ n ≤ k → getD new k 0 ≡ getD old k 0
 
 -- f was stored at each place from a to e, and nothing elsewhere
@@ -31,3 +31,11 @@ pub record Stored (f : ℕ → ℕ) (a e : ℕ) (old new : List ℕ) : Type 0 wh
   pub here : (k : ℕ) → a ≤ k → k < e → getD new k 0 ≡ f k
   pub before : (k : ℕ) → k < a → getD new k 0 ≡ getD old k 0
   pub after : (k : ℕ) → e ≤ k → getD new k 0 ≡ getD old k 0
+
+-- the mark of a state in a first leg, by the second leg's entry there: none where that has no rank
+unfoldable pub markThen : ℕ → ℕ → ℕ
+markThen second mark = cond (eqb second 255) 255 mark
+
+-- each mark of the first 7^n was held against the second leg's table
+abbrev pub Unmarked : ℕ → List ℕ → List ℕ → List ℕ → Type 0
+Unmarked n second old new = Stored (λ k. markThen (getD second k 0) (getD old k 0)) 0 (7 ^ n) old new

@@ -8,7 +8,8 @@ use finder_sides::SIDES;
 ghost use mathlib.Core.Path.{_≡_};
 ghost use Prim.Native.Nat.{_+_, _*_, _-_, _^_, _≤_, _<_};
 ghost use lib.ListN.{length};
-ghost use Rattle.finder_ranks.specs.Marks.{markOf, markAt, Stored, Marks};
+ghost use Rattle.finder_sides.specs.Tables.{goalAt};
+ghost use Rattle.finder_ranks.specs.Marks.{markOf, markAt, markThen, Stored, Marks, Unmarked};
 
 // The mark of a state: 0 where both halves of the goal hold, else NONE.
 fn mark_of(made: u8, learnt: u8) -> u8
@@ -50,12 +51,36 @@ fn mark_seven(n: u8, rest: usize, made: &[u8; SIDES], learnt: &[u8; SIDES], rank
 // they were. For this crate alone.
 pub(crate) fn mark(n: u8, made: &[u8; SIDES], learnt: &[u8; SIDES], ranks: &mut [u8])
     requires { ⌜ (0 < n) × (n ≤ 7) × (7 ^ n ≤ length (now ranks)) ⌝ }
-    ensures { λ r. ⌜ Marks n (now (made .entry)) (now (learnt .entry)) (now (ranks .entry)) (now (ranks .exit)) ⌝ }
+    ensures { λ r. ⌜ Marks n (goalAt n (now (made .entry)) (now (learnt .entry))) (now (ranks .entry)) (now (ranks .exit)) ⌝ }
 {
     let rests = numbers(n - 1);
     let mut rest = 0;
     while rest < rests {
         mark_seven(n, rest, made, learnt, ranks);
         rest += 1;
+    }
+}
+
+// The mark of a state of a first leg: NONE where the second leg has no rank there, else the one it had.
+fn mark_then(second: u8, mark: u8) -> u8
+    ensures { λ r. ⌜ r ≡ markThen second mark ⌝ }
+{
+    if second == NONE {
+        return NONE;
+    }
+    mark
+}
+
+// Takes the mark from each of the 7^n knowledge numbers from which the second leg's ranks know no plan. All
+// later bytes stay as they were. For this crate alone.
+pub(crate) fn unmark(n: u8, second: &[u8], ranks: &mut [u8])
+    requires { ⌜ (n ≤ 7) × (7 ^ n ≤ length (now second)) × (7 ^ n ≤ length (now ranks)) ⌝ }
+    ensures { λ _. ⌜ Unmarked n (now (second .entry)) (now (ranks .entry)) (now (ranks .exit)) ⌝ }
+{
+    let count = numbers(n);
+    let mut k = 0;
+    while k < count {
+        ranks[k] = mark_then(second[k], ranks[k]);
+        k += 1;
     }
 }

@@ -1,4 +1,4 @@
--- The laws of plans and ranks. First acts and states, then layers and the bound on ranks, ranks, two systems compared, tables of ranks, the
+-- The laws of plans and ranks. First acts and states, then layers and the bound on ranks, ranks, two systems compared, two legs, tables of ranks, the
 -- plan written and its bytes, the check, what is so after a run, demand 3 and its converse (`Twins`), and what shows a rank or a "cannot" by
 -- computation.
 pub mod Acts
@@ -13,6 +13,7 @@ pub mod Class
 pub mod Bound
 pub mod Ranks
 pub mod Compare
+pub mod Legs
 pub mod Certificate
 pub mod Table
 pub mod Written

@@ -1,6 +1,6 @@
 -- The laws of questions, in this order: what the book's rules permit and why not, the system and the start, a book with rules closed, the tests on a
--- question, its rows; that what `ask` gives is settled, how far the places of its refusals go, what "cannot" means for a secret; and the same question
--- with other settings held.
+-- question, its rows; that what `ask` gives is settled, how far the places of its refusals go, what "cannot" means for a secret; the same question
+-- with other settings held; and a question of two legs.
 pub mod PermitLaws
 pub mod WhyLaws
 pub mod SystemLaws
@@ -12,3 +12,4 @@ pub mod Unique
 pub mod Places
 pub mod SecretLaws
 pub mod Holding
+pub mod LegLaws

@@ -1,10 +1,12 @@
 // A question to the finder or to the plan check: who asks, what they know, which settings are held, the
 // goal, and which of refusals 6 to 12 and 31 it meets. Here a book meets plans: its specs say which acts the book's rules permit and which
 // system of plans the question fixes. It writes nothing.
+mod legs;
 mod permit;
 
 use book_sound::ReadAnswer;
 use ground::TABLE;
+pub use legs::ask_two;
 pub use permit::permits;
 use refusal::Refusal;
 ghost use Prim.Native.Nat.{_≤_};

@@ -64,7 +64,7 @@ returns : tie.Need-returns Inv-loop μ-loop
 returns c =
     let s : tie.Start Inv-loop μ-loop = search in
     let counted : tie.After-numbers Inv-loop μ-loop = search in
-    marks-all (c .before .loop .inv .1) (omega (arith, sevens (s .args .n) (s .pre .0), rests-are counted))
+    marks-all (s .args .made .now) (s .args .learnt .now) (c .before .loop .inv .1) (omega (arith, sevens (s .args .n) (s .pre .0), rests-are counted))
 
 pub mark-spec : {M : Type 1} → statement M
 mark-spec =
