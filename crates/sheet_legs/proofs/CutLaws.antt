@@ -29,11 +29,11 @@ use Rattle.sheet_legs.specs.Legs.{isThen, Cut, whole, parted, ahead, cut
 
 -- ---- the cut, one line more in front
 
-abbrev thenOr : List ℕ → List (List ℕ) → Bool → Cut
+abbrev pub thenOr : List ℕ → List (List ℕ) → Bool → Cut
 thenOr line pieces true = parted ([] ∷ []) pieces
 thenOr line pieces false = ahead line (cutLines pieces)
 
-cut-after : (line another : List ℕ) (more : List (List ℕ)) → cutLines (line ∷ another ∷ more) ≡ thenOr line (another ∷ more) (isThen line)
+pub cut-after : (line another : List ℕ) (more : List (List ℕ)) → cutLines (line ∷ another ∷ more) ≡ thenOr line (another ∷ more) (isThen line)
 unfolding cutLines
 cut-after line another more = by-test (isThen line)
   where
