@@ -8,3 +8,4 @@ mod Tables
 mod StepLaws
 mod PlanLaws
 mod StartLaws
+pub mod TwoLaws

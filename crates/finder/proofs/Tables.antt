@@ -1,17 +1,17 @@
 -- The finder's tables tell the question's system: a bit of the two tables is a post that may act, the two halves of the goal tell where it is settled,
--- and what `fill_ranks` leaves is a certified table, so its bytes are the ranks.
-use mathlib.Core.Path.{_≡_, sym, ap, _∙_, subst}
+-- and what `fill_ranks` or `fill_first` leaves is a certified table, so its bytes are the ranks.
+use mathlib.Core.Path.{_≡_, sym, ap, ap₂, _∙_, subst}
 use mathlib.Core.Logic.{inl, inr}
 use mathlib.Core.List.{List}
 use mathlib.Core.Bool.{Bool, true, false, not, _&&_, cond}
 use Prim.Native.Nat.{ℕ, zero, suc, min, _^_, _≤_, _<_}
 use native.Mathlib.Nat.{min-eq-left}
 use native.Mathlib.Omega.{arith}
-use lib.Dec.{T}
-use lib.ListN.{length}
-use borrow.Author.Tests.{lt-ltb, eq-eqb}
+use lib.Dec.{T, T-not, eqb}
+use lib.ListN.{length, getD}
+use borrow.Author.Tests.{lt-ltb, eq-eqb, ne-eqb}
 use Rattle.ground.specs.Digits.{digit, bit}
-use Rattle.ground.proofs.Bools.{T→false, false→T, both, and-true, and-false}
+use Rattle.ground.proofs.Bools.{T→false, false→T, both, and-true, and-false, T-iff, eq→eqb}
 use Rattle.ground.proofs.Search.{all-or, all-at}
 use Rattle.ground.proofs.Bits.{bit-of-zero}
 use Rattle.knowledge_acts.specs.Acts.{offered}
@@ -21,15 +21,19 @@ use Rattle.knowledge.specs.Judgement.{known}
 use Rattle.knowledge.specs.Goal.{Goal, goalSettled}
 use Rattle.book_block.specs.Rule.{rule}
 use Rattle.book_block.specs.declared.rule.Right.the-variants.{Look as look-rule, Set as set-rule}
-use Rattle.plan.specs.Plans.{may, Lawful, after-set, after-look}
+use Rattle.plan.specs.Plans.{System, may, Lawful, after-set, after-look}
+use Rattle.plan.specs.Ranks.{IsRank}
+use Rattle.plan.specs.Legs.{canFrom, withGoal, firstLeg}
 use Rattle.plan.specs.Certificate.{Leads, Certified}
 use Rattle.plan.proofs.Acts.{after-a-set, after-a-look}
 use Rattle.plan.proofs.Certificate.{certified, numbers-closed}
+use Rattle.plan.proofs.Ranks.{rank-small}
+use Rattle.plan.proofs.Legs.{lawful-goal, rank-can}
 use Rattle.finder_sides.specs.Sides.{nowSideNumber}
 use Rattle.finder_sides.specs.Tables.{entry, actingOn, PostTables, Made, Learnt, goalAt}
 use Rattle.finder_sides.proofs.Tables.{post-known, goal-at}
 use Rattle.finder_ranks.specs.Ranks.{rank, May, HasLower, by-set, by-look}
-use Rattle.finder_ranks.specs.Fills.{RankTable, FillsRanks}
+use Rattle.finder_ranks.specs.Fills.{RanksFit, RankTable, FillsRanks, FillsFirst, goalThen}
 use Rattle.question.specs.Question.{systemOf}
 use Rattle.question.specs.Asks.{ValidQuestion}
 use Rattle.question.specs.declared.Question.{Question}
@@ -115,11 +119,16 @@ module _ {book : List ℕ} {q : Question} {goal : Goal} {n m : ℕ} (v : ValidQu
       mask-some (entry look i (nowSideNumber n k)) p
       (subst T (look-may k i p (law .setting-of k (Look i p) t) (law .post-of k (Look i p) t) (law .looks-at k i p t)) t)
 
-  module _ {old ranks : List ℕ} (filled : FillsRanks n made learnt set look old ranks) (room : 7 ^ n ≤ length old) where
-    table : RankTable n made learnt set look old ranks
-    table = filled .filled (record { some = omega (arith, v .sound .settings .least); few = few v; room = room })
+  -- whatever the goal is, as long as the table of ranks was filled by it
+  module _ {settled wanted : ℕ → Bool} (same : (k : ℕ) → k < 7 ^ n → settled k ≡ wanted k) {old ranks : List ℕ}
+      (table : RankTable n settled set look old ranks) where
+    abbrev S : System
+    S = withGoal (systemOf n book q goal) wanted
 
-    act-of : (k h : ℕ) → HasLower n set look ranks k h → (a : Act) × Leads (systemOf n book q goal) (rank ranks) k h a
+    S-law : Lawful n S
+    S-law = lawful-goal wanted law
+
+    act-of : (k h : ℕ) → HasLower n set look ranks k h → (a : Act) × Leads S (rank ranks) k h a
     act-of k h (by-set i b l m r) =
         let p = mask-post (entry set i (nowSideNumber n k)) (hs .bytes i (nowSideNumber n k)) m in (
           Set i (p .0) b,
@@ -131,29 +140,69 @@ module _ {book : List ℕ} {q : Question} {goal : Goal} {n m : ℕ} (v : ValidQu
           record { allowed = subst T (sym (look-may k i (p .0) l (p .1) z)) (p .2); lower = λ x. after-a-look (λ x. rank ranks x < h) r s },
         )
 
-    lowers-of : (k h : ℕ) (a : Act) → Leads (systemOf n book q goal) (rank ranks) k h a → HasLower n set look ranks k h
+    lowers-of : (k h : ℕ) (a : Act) → Leads S (rank ranks) k h a → HasLower n set look ranks k h
     lowers-of k h (Set i p b) l =
         by-set i b (law .setting-of k (Set i p b) (l .allowed)) (set-in k i p b (l .allowed)) (l .lower _ (after-set i p b))
     lowers-of k h (Look i p) l =
         by-look i (law .setting-of k (Look i p) (l .allowed)) (look-in k i p (l .allowed)) (law .looks-at k i p (l .allowed))
         (l .lower _ (after-look i p false)) (l .lower _ (after-look i p true))
 
-    good : Certified (λ k. k < 7 ^ n) (systemOf n book q goal) (rank ranks)
+    good : Certified (λ k. k < 7 ^ n) S (rank ranks)
     good = record {
       most = table .most;
-      settled = λ k h g. table .settled k h (subst T (sym (goal-is k)) g);
-      reached = λ k h l. elim (table .reached k h l) [ inl g ↦ inl (subst T (goal-is k) g) | inr w ↦ inr (act-of k (rank ranks k) w) ];
+      settled = λ k h g. table .settled k h (subst T (sym (same k h)) g);
+      reached = λ k h l. elim (table .reached k h l) [ inl g ↦ inl (subst T (same k h) g) | inr w ↦ inr (act-of k (rank ranks k) w) ];
       least = λ k h a x l. table .least k h x (lowers-of k x a l);
     }
 
-    pub tables-tell : TablesTell n set look ranks (systemOf n book q goal)
-    tables-tell = record {
+    told : TablesTell n set look ranks S
+    told = record {
       few = few v;
-      law = law;
+      law = S-law;
       sets = set-may;
       looks = look-may;
-      ranked = λ k h. certified law (numbers-closed law) good (few v) k h;
+      ranked = λ k h. certified S-law (numbers-closed S-law) good (few v) k h;
     }
 
+    counted : RanksFilled n S old ranks
+    counted = record { size = table .same-length; ranks = told .ranked; later = table .beyond }
+
+  -- there is a table to fill
+  fits : {old : List ℕ} → 7 ^ n ≤ length old → RanksFit n old
+  fits room = record { some = omega (arith, v .sound .settings .least); few = few v; room = room }
+
+  -- ---- one leg
+
+  module _ {old ranks : List ℕ} (filled : FillsRanks n made learnt set look old ranks) (room : 7 ^ n ≤ length old) where
+    pub tables-tell : TablesTell n set look ranks (systemOf n book q goal)
+    tables-tell = told (λ k h. goal-is k) (filled .filled (fits room))
+
     pub ranks-filled : RanksFilled n (systemOf n book q goal) old ranks
-    ranks-filled = record { size = table .same-length; ranks = tables-tell .ranked; later = table .beyond }
+    ranks-filled = counted (λ k h. goal-is k) (filled .filled (fits room))
+
+  -- ---- the first of two legs, before the system R of the second, whose ranks are in `second`
+
+  module _ {R : System} (R-law : Lawful n R) {second : List ℕ} (ranked : (k : ℕ) → k < 7 ^ n → IsRank R k (getD second k 0))
+      {old ranks : List ℕ} (filled : FillsFirst n made learnt second set look old ranks) (there : 7 ^ n ≤ length second) (room : 7 ^ n ≤ length old) where
+    -- an entry that is not 255 tells that the second team has a working plan
+    has : (k : ℕ) → k < 7 ^ n → not (eqb (rank second k) 255) ≡ canFrom n R k
+    has k h =
+        let can = rank-can R-law k (rank second k) (few v) (ranked k h) in
+        T-iff (not (eqb (rank second k) 255)) (canFrom n R k)
+        (λ t. can .0 (elim (ranked k h) [
+          | inl least ↦ rank-small R-law k (rank second k) (few v) least
+          | inr none ↦ absurd (T-not (eqb (rank second k) 255) t (eq→eqb (none .0)))
+        ]))
+        (λ t. false→T (ne-eqb (rank second k) 255 (λ e. omega (arith, can .1 t))))
+
+    goal-then : (k : ℕ) → k < 7 ^ n → goalThen n made learnt second k ≡ firstLeg n (systemOf n book q goal) R .goal k
+    unfolding goalThen firstLeg
+    goal-then k h = ap₂ (λ (a b : Bool). a && b) (goal-is k) (has k h)
+
+    pub first-tells : TablesTell n set look ranks (firstLeg n (systemOf n book q goal) R)
+    unfolding firstLeg
+    first-tells = told goal-then (filled .filled (fits there) (fits room))
+
+    pub first-filled : RanksFilled n (firstLeg n (systemOf n book q goal) R) old ranks
+    unfolding firstLeg
+    first-filled = counted goal-then (filled .filled (fits there) (fits room))

@@ -6,11 +6,15 @@
 // room as it was, and no other byte is touched.
 //
 // It goes in three steps: which acts are permitted at each side and where the goal is settled
-// (`finder_sides`), all ranks filled (`finder_ranks`), the answer from the start (here).
+// (`finder_sides`), all ranks filled (`finder_ranks`), the answer from the start (here). `find_two` answers a
+// question of two legs: the second leg's ranks are filled first, in a rank table of their own, and the first
+// leg's goal is settled only where they tell of a plan.
 mod answer;
 mod finding;
 mod steps;
+mod two;
 mod written;
 
 pub use answer::Answer;
 pub use finding::find;
+pub use two::find_two;
