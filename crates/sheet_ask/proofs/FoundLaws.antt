@@ -66,6 +66,18 @@ pub numbers-printed : (why : Refusal) {k : Numbers} {old new : List ℕ} {r : �
     → Prints old (refusedText (number why) (place why)) r new
 numbers-printed why {k} {old} {new} {r} e p = subst (λ (x : Numbers). Prints old (refusedText (x .number) (x .place)) r new) e p
 
+-- each way of printing an answer
+module _ (answer : Answer) (plan : List ℕ) (out : List ℕ) (r : ℕ) (out′ : List ℕ) where
+  pub tells-reach : (h size : ℕ) → answer ≡ Reach h size → ((p : Plan) → take size plan ≡ encode p → Lettered p → Prints out (reachText h p) r out′)
+      → Tells answer plan out r out′
+  tells-reach h size e f = subst (λ (x : Answer). Tells x plan out r out′) (sym e) f
+
+  pub tells-cannot : answer ≡ Cannot → Prints out cannotText r out′ → Tells answer plan out r out′
+  tells-cannot e f = subst (λ (x : Answer). Tells x plan out r out′) (sym e) f
+
+  pub tells-refused : (why : Refusal) → answer ≡ Refused why → Prints out (refusedText (number why) (place why)) r out′ → Tells answer plan out r out′
+  tells-refused why e f = subst (λ (x : Answer). Tells x plan out r out′) (sym e) f
+
 -- ---- what is answered from the start of a lawful system can be printed, and it is reach or cannot, since every plan fits its room
 
 module _ {n : ℕ} {S : System} (law : Lawful n S) (small : n ≤ 7) (start : ℕ) (plan plan′ : List ℕ) where

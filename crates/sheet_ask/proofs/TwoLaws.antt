@@ -4,29 +4,29 @@ use mathlib.Core.Path.{_≡_, sym, ap, _∙_, subst}
 use mathlib.Core.Logic.{inl, inr}
 use mathlib.Core.List.{List}
 use Prim.Native.Nat.{ℕ, _+_, _-_, _*_, _^_, _≤_, _<_}
+use native.Mathlib.Nat.{pow-le-pow-right}
 use native.Mathlib.Omega.{arith}
+use lib.Dec.{lit<}
 use lib.ListN.{length, getD, take, drop}
 use lib.Seq.{sets, length-sets, length-take-le, getD-take, ext-getD}
 use Rattle.ground.proofs.Bools.{lt-or-ge}
 use Rattle.ground.proofs.Lists.{getD-sets}
 use Rattle.refusal.proofs.OrderLaws.{first-clear}
 use Rattle.book_sound.proofs.Theorems.{sound-one}
-use Rattle.knowledge.specs.Goal.{Goal}
 use Rattle.plan.specs.Plans.{System}
 use Rattle.plan.specs.Ranks.{IsRank}
 use Rattle.plan.proofs.Ranks.{rank-unique}
 use Rattle.question.specs.Question.{startOf}
-use Rattle.question.specs.Legs.{secondSystem, firstSystem, ValidLegs}
-use Rattle.question.specs.declared.Question.{Question}
 use Rattle.question.proofs.SystemLaws.{few}
 use Rattle.question.proofs.LegLaws.{first-leg-lawful}
 use Rattle.finder.specs.Finds.{RanksFilled}
-use Rattle.finder.specs.FindsTwo.{Rooms, RoomForTwo, AnsweredTwo, FindsTwo}
+use Rattle.finder.specs.FindsTwo.{roomsOf, AnsweredTwo, FindsTwo}
 use Rattle.finder.specs.declared.answer.Answer.{Answer}
 use Rattle.finder.proofs.TwoLaws.{two-clear}
+use Rattle.sheet_question.specs.declared.desk.AskedDesk.{AskedDesk}
 use Rattle.sheet_question.proofs.DeskLaws.{getD-sets-other}
-use Rattle.sheet_ask.specs.Asks.{TwoFilled, PrintsFound}
-use Rattle.sheet_ask.specs.Inner.{Readable, Tells}
+use Rattle.sheet_ask.specs.Asks.{TwoFilled}
+use Rattle.sheet_ask.specs.Inner.{questionIn, goalIn, BothFit, FoundBoth, ToldBoth, Readable, Tells}
 use Rattle.sheet_ask.proofs.FoundLaws.{answers-readable, answers-told}
 
 -- ---- two tables in one
@@ -69,25 +69,50 @@ both-one {n} {S} {R} {old} {new} {other} a b = ext-getD 0 new other (a .size ∙
 
 -- ---- the finder's answer
 
-module _ {book : List ℕ} {q : Question} {goal : Goal} {second : ℕ} {wanted : Goal} {n m : ℕ} (v : ValidLegs book q goal second wanted n m)
-    (old : Rooms) (answer : Answer) (new : Rooms) (found : FindsTwo book q goal second wanted old answer new) (room : RoomForTwo n old) where
-  met : AnsweredTwo n book q goal second wanted old answer new
+-- seven settings have room for their ranks
+enough : (n : ℕ) (room : List ℕ) → n ≤ 7 → 823543 ≡ length room → 7 ^ n ≤ length room
+enough n room h e =
+    let most : 7 ^ n ≤ 7 ^ 7 = pow-le-pow-right (lit< tt) h in
+    omega (arith, e, most)
+
+module _ {n count : ℕ} {book : List ℕ} {first second : AskedDesk} (ranks ranks2 plan : List ℕ) (fit : BothFit n book first second count ranks)
+    (answer : Answer) (ranks′ ranks2′ plan′ : List ℕ)
+    (found : FindsTwo book (questionIn first) (goalIn first) (second .team) (goalIn second) (roomsOf ranks ranks2 plan) answer (roomsOf ranks′ ranks2′ plan′))
+    (zeros : 823543 ≡ length ranks2) where
+  abbrev Met : ℕ → Type 0
+  Met k = AnsweredTwo k book (questionIn first) (goalIn first) (second .team) (goalIn second) (roomsOf ranks ranks2 plan) answer (roomsOf ranks′ ranks2′ plan′)
+
+  room2 : 7 ^ n ≤ length ranks2
+  room2 = enough n ranks2 (few (fit .valid .first)) zeros
+
+  met : Met n
   met = by-case found
     where
-      by-case : FindsTwo book q goal second wanted old answer new → AnsweredTwo n book q goal second wanted old answer new
-      by-case (inl u) = first-clear (u .first) (two-clear book q goal second wanted old v room)
-      by-case (inr (k, l, w, enough, a)) =
-          subst (λ (i : ℕ). AnsweredTwo i book q goal second wanted old answer new) (sound-one (w .first .sound) (v .first .sound) .0) a
+      by-case : FindsTwo book (questionIn first) (goalIn first) (second .team) (goalIn second) (roomsOf ranks ranks2 plan) answer (roomsOf ranks′ ranks2′ plan′)
+          → Met n
+      by-case (inl u) =
+          first-clear (u .first) (two-clear book (questionIn first) (goalIn first) (second .team) (goalIn second) (roomsOf ranks ranks2 plan) (fit .valid)
+          (record { first-room = omega (arith, fit .room); second-room = room2 }))
+      by-case (inr (k, l, w, room, a)) = subst Met (sound-one (w .first .sound) (fit .valid .first .sound) .0) a
 
-  pub two-readable : Readable answer (new .plan)
+  pub two-found : {new : List ℕ} → new ≡ sets ranks′ count (take count (drop 0 ranks2′)) → FoundBoth n book first second ranks plan answer new plan′
+  two-found {new} e = record {
+    filled = both-filled (met .first-ranks) (met .second-ranks) (fit .room) room2
+        (subst (λ (k : ℕ). new ≡ sets ranks′ k (take k (drop 0 ranks2′))) (fit .counted) e);
+    answers = met .answers;
+  }
+
+-- and its answer printed
+module _ {n count : ℕ} {book : List ℕ} {first second : AskedDesk} {ranks : List ℕ} (fit : BothFit n book first second count ranks)
+    (plan : List ℕ) (answer : Answer) (ranks′ plan′ : List ℕ) (found : FoundBoth n book first second ranks plan answer ranks′ plan′) where
+  pub two-readable : Readable answer plan′
   two-readable =
-      answers-readable (first-leg-lawful book q goal second wanted v) (few (v .first)) (startOf q) (old .plan) (new .plan) answer (met .answers)
+      answers-readable (first-leg-lawful book (questionIn first) (goalIn first) (second .team) (goalIn second) (fit .valid)) (few (fit .valid .first))
+      (startOf (questionIn first)) plan plan′ answer (found .answers)
 
-  pub two-told : (out : List ℕ) (r : ℕ) (out′ : List ℕ) → length (old .plan) ≡ 32640 → Tells answer (new .plan) out r out′
-      → PrintsFound (firstSystem n book q goal second wanted) (startOf q) out r out′
-  two-told out r out′ size told =
-      answers-told (first-leg-lawful book q goal second wanted v) (few (v .first)) (startOf q) (old .plan) (new .plan) answer out r out′ size (met .answers) told
-
-  pub two-filled : {ranks′ : List ℕ} → 2 * 7 ^ n ≤ length (old .ranks) → ranks′ ≡ sets (new .ranks) (7 ^ n) (take (7 ^ n) (drop 0 (new .ranks2)))
-      → TwoFilled n (firstSystem n book q goal second wanted) (secondSystem n book q second wanted) (old .ranks) ranks′
-  two-filled l e = both-filled (met .first-ranks) (met .second-ranks) l (room .second-room) e
+  pub two-told : (out : List ℕ) (r : ℕ) (out′ : List ℕ) → length plan ≡ 32640 → Tells answer plan′ out r out′ → ToldBoth n book first second ranks out r ranks′ out′
+  two-told out r out′ size told = record {
+    filled = found .filled;
+    prints = answers-told (first-leg-lawful book (questionIn first) (goalIn first) (second .team) (goalIn second) (fit .valid)) (few (fit .valid .first))
+        (startOf (questionIn first)) plan plan′ answer out r out′ size (found .answers) told;
+  }

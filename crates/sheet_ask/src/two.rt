@@ -11,13 +11,12 @@ use question::Question;
 use refusal::Refusal;
 use sheet_question::AskedDesk;
 ghost use mathlib.Core.Path.{_≡_};
-ghost use Prim.Native.Nat.{ℕ, _*_, _^_, _≤_};
+ghost use Prim.Native.Nat.{ℕ};
 ghost use lib.ListN.{length};
-ghost use Rattle.question.specs.Question.{startOf};
-ghost use Rattle.question.specs.Legs.{secondSystem, firstSystem, ValidLegs};
+ghost use Rattle.question.specs.Legs.{ValidLegs};
 ghost use Rattle.finder.specs.FindsTwo.{roomsOf, FindsTwo};
-ghost use Rattle.sheet_ask.specs.Asks.{TwoFilled, PrintsFound, PrintsTwo};
-ghost use Rattle.sheet_ask.specs.Inner.{Learnt, questionIn, goalIn};
+ghost use Rattle.sheet_ask.specs.Asks.{PrintsTwo};
+ghost use Rattle.sheet_ask.specs.Inner.{Learnt, BothFit, FoundBoth, ToldBoth, questionIn, goalIn};
 
 // 7^7: the ranks of seven settings.
 const RANKS_MOST: usize = 7 * 7 * 7 * 7 * 7 * 7 * 7;
@@ -70,7 +69,26 @@ fn find_legs(
     )
 }
 
-// What is printed for valid legs on the desks, where the lent table has room for the ranks of both: `count` of each.
+// The answer to valid legs on the desks, where the lent table has room for the ranks of both, `count` of each.
+fn find_both(
+    book: &[u8],
+    settings: u8,
+    first: AskedDesk,
+    second: AskedDesk,
+    count: usize,
+    ranks: &mut [u8],
+    plan: &mut [u8],
+) -> Answer
+    requires { ⌜ BothFit settings (now book) first second count (now ranks) ⌝ }
+    ensures { λ r. ⌜ FoundBoth settings (now (book .entry)) first second (now (ranks .entry)) (now (plan .entry)) r (now (ranks .exit)) (now (plan .exit)) ⌝ }
+{
+    let mut ranks2 = ranks_room();
+    let answer = find_legs(book, first, second, ranks, &mut ranks2, plan);
+    copy(&ranks2, 0, count, ranks, count);
+    answer
+}
+
+// What is printed for them.
 fn answered_legs(
     book: &[u8],
     settings: u8,
@@ -80,17 +98,11 @@ fn answered_legs(
     ranks: &mut [u8],
     out: &mut [u8],
 ) -> usize
-    requires { ⌜ Learnt first × Learnt second × ((m : ℕ) × ValidLegs (now book) (questionIn first) (goalIn first) (second .team) (goalIn second) settings m)
-        × (count ≡ 7 ^ settings) × (2 * 7 ^ settings ≤ length (now ranks)) ⌝ }
-    ensures { λ r. ⌜ TwoFilled settings (firstSystem settings (now (book .entry)) (questionIn first) (goalIn first) (second .team) (goalIn second))
-        (secondSystem settings (now (book .entry)) (questionIn first) (second .team) (goalIn second)) (now (ranks .entry)) (now (ranks .exit))
-        × PrintsFound (firstSystem settings (now (book .entry)) (questionIn first) (goalIn first) (second .team) (goalIn second)) (startOf (questionIn first))
-        (now (out .entry)) r (now (out .exit)) ⌝ }
+    requires { ⌜ BothFit settings (now book) first second count (now ranks) ⌝ }
+    ensures { λ r. ⌜ ToldBoth settings (now (book .entry)) first second (now (ranks .entry)) (now (out .entry)) r (now (ranks .exit)) (now (out .exit)) ⌝ }
 {
-    let mut ranks2 = ranks_room();
     let mut plan = [0u8; PLAN_MOST];
-    let answer = find_legs(book, first, second, ranks, &mut ranks2, &mut plan);
-    copy(&ranks2, 0, count, ranks, count);
+    let answer = find_both(book, settings, first, second, count, ranks, &mut plan);
     tell(answer, &plan, out)
 }
 
