@@ -198,9 +198,13 @@ module _ (n m : ℕ) (s : List ℕ) where
     | inr h ↦ legs-not-long h ∙ ap (legsOf n m (split newline s)) e ∙ ap oneLeg (sym (not-long 0 true n m s h))
   ]
 
-  -- and what a text asks with one leg, it asks
-  pub one-asked : {a : Asked} → questionMeaning 0 true n m s ≡ asked a → legsMeaning n m s ≡ one a
-  one-asked {a} e = elim (lt-or-ge 65536 (length s)) [
+  -- a text that asks with one leg has no such line
+  pub asked-no-then : {a : Asked} → questionMeaning 0 true n m s ≡ asked a → cutLines (split newline s) ≡ whole
+  asked-no-then {a} e = elim (lt-or-ge 65536 (length s)) [
     | inl h ↦ absurd (refused-asks (sym (too-long 0 true n m s h) ∙ e))
-    | inr h ↦ no-then (asked-whole n m 1 Team nothingAsked a (split newline s) (sym (not-long 0 true n m s h) ∙ e)) ∙ ap oneLeg e
+    | inr h ↦ asked-whole n m 1 Team nothingAsked a (split newline s) (sym (not-long 0 true n m s h) ∙ e)
   ]
+
+  -- so what it asks with one leg, it asks
+  pub one-asked : {a : Asked} → questionMeaning 0 true n m s ≡ asked a → legsMeaning n m s ≡ one a
+  one-asked e = no-then (asked-no-then e) ∙ ap oneLeg e
