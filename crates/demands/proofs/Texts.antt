@@ -30,6 +30,8 @@ use Rattle.sheet_question.specs.Asked.{Asked}
 use Rattle.sheet_question.specs.Forms.{isTeam}
 use Rattle.sheet_question.specs.Question.{QuestionMeaning, asked, questionMeaning}
 use Rattle.sheet_question.specs.Question.{refused as question-refused}
+use Rattle.sheet_legs.specs.Legs.{whole, cutLines}
+use Rattle.sheet_legs.proofs.CutLaws.{asked-no-then}
 use Rattle.sheet_reading.specs.Sheet.{sheetOf}
 use Rattle.sheet_reading.specs.Reading.{Meaning}
 use Rattle.sheet_reading.specs.Grammar.{ended, sizeText}
@@ -125,14 +127,16 @@ module _ (R Q : List ℕ) (short : length (R ++ Q) ≤ 32768) (plain : T (nonePa
           ap (λ (t : List ℕ). take size t) (made-of .2 .2)
           ∙ take-at (rulesBook rules rights) (drop (bookLength rules) room) size (length-book n m rights (of-rules .size) ∙ sym (made-of .0))
 
-      told : PrintsQuestion n (rulesBook rules rights) (questionMeaning 0 true n m Q) ranks out r ranks′ out′
-      told = ask-told (written-sound (rights-writable fits of-rules)) Q ranks out r ranks′ out′ (subst (λ (b : List ℕ). AsksBook b Q ranks out r ranks′ out′) the-book asks)
+      -- of a question of one leg: one without a line `then`
+      told : cutLines (split newline Q) ≡ whole → PrintsQuestion n (rulesBook rules rights) (questionMeaning 0 true n m Q) ranks out r ranks′ out′
+      told alone =
+          ask-told (written-sound (rights-writable fits of-rules)) Q ranks out r ranks′ out′ (subst (λ (b : List ℕ). AsksBook b Q ranks out r ranks′ out′) the-book asks) alone
 
       -- the question asks something: "`answer` prints what `ask` prints of the book that `book` makes", where the rank table is long enough
       module _ {a : Asked} (is : questionMeaning 0 true n m Q ≡ asked a) (enough : 7 ^ n ≤ length ranks) where
         ask-answers : AnswersSheet (R ++ Q) out r out′
         ask-answers =
-            let (q, goal, k, printed) = subst (λ (o : QuestionMeaning). PrintsQuestion n (rulesBook rules rights) o ranks out r ranks′ out′) is told in
+            let (q, goal, k, printed) = subst (λ (o : QuestionMeaning). PrintsQuestion n (rulesBook rules rights) o ranks out r ranks′ out′) is (told (asked-no-then n m Q is)) in
             subst (λ (o : Meaning). PrintsMeaning o out r out′) (sym (Texts.texts-stated R Q short plain e few without is))
             (elim printed [
               | inl (less, x) ↦ absurd (omega (arith, less, enough))
@@ -147,13 +151,13 @@ module _ (R Q : List ℕ) (short : length (R ++ Q) ≤ 32768) (plain : T (nonePa
             → PrintsAs x out s new
         sheet-both all x said s new printed =
             let same = answer-is-ask s new printed in
-            subst₂ (λ (i : ℕ) (o : List ℕ). PrintsAs x out i o) (sym (same .0)) (sym (same .1)) (both-same ranks out r ranks′ out′ all (take size after) Q x said asks)
+            subst₂ (λ (i : ℕ) (o : List ℕ). PrintsAs x out i o) (sym (same .0)) (sym (same .1)) (both-same ranks out r ranks′ out′ all (take size after) Q x (asked-no-then n m Q is) said asks)
 
       -- the question is refused: "the sheet is refused with the same number, the question's line counted on from the rules' lines"; the first line of the
       -- question, where it ends in byte 10, is none of the rules': after `size 1 1` a `read` line first in Q is 22 to `ask`, and a rule of the sheet
       module _ {w : Refusal} {L : ℕ} (is : questionMeaning 0 true n m Q ≡ question-refused w L) where
-        pub question-refuse-ask : Prints out (refusedText (number w) L) r out′
-        question-refuse-ask = subst (λ (o : QuestionMeaning). PrintsQuestion n (rulesBook rules rights) o ranks out r ranks′ out′) is told .printed
+        pub question-refuse-ask : cutLines (split newline Q) ≡ whole → Prints out (refusedText (number w) L) r out′
+        question-refuse-ask alone = subst (λ (o : QuestionMeaning). PrintsQuestion n (rulesBook rules rights) o ranks out r ranks′ out′) is (told alone) .printed
 
         pub question-refuse-sheet : (1 < length (split newline Q) → isOfRules false n m (firstPiece (split newline Q)) ≡ false)
             → (old : List ℕ) (s : ℕ) (new : List ℕ) → AnswersSheet (R ++ Q) old s new → Prints old (refusedText (number w) (endedLines R + L)) s new

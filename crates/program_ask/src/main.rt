@@ -3,7 +3,7 @@
 use book_sound::ReadAnswer;
 use program_files::Input;
 use program_outcome::Outcome;
-use sheet_question::QuestionTold;
+use sheet_legs::LegsTold;
 ghost use mathlib.Core.Path.{_≡_};
 ghost use lib.ListN.{length};
 
@@ -16,16 +16,16 @@ const BOOK_READ_MOST: usize = sheet_book::BOOK_MOST + 1;
 
 const QUESTION_READ_MOST: usize = sheet_words::TEXT_MOST + 1;
 
-// 7^7: the ranks of seven settings.
-const RANKS_MOST: usize = 7 * 7 * 7 * 7 * 7 * 7 * 7;
+// 2 × 7^7: the ranks of seven settings, of two legs.
+const RANKS_MOST: usize = 2 * 7 * 7 * 7 * 7 * 7 * 7 * 7;
 
 // Writes out the answer to a question over a book of this size, and says what came of it.
 fn deliver_sound(settings: u8, posts: u8, question: &[u8], answer: &[u8]) {
     let outcome = program_outcome::of_answer(answer);
-    let reading = sheet_question::read_question(question, settings, posts);
+    let reading = sheet_legs::read_legs(question, settings, posts);
     let told = reading.told;
     match told {
-        QuestionTold::Refused(why, _) => {
+        LegsTold::Refused(why, _) => {
             let numbers = why.numbers();
             program_outcome::deliver_fault(
                 answer,
@@ -35,7 +35,8 @@ fn deliver_sound(settings: u8, posts: u8, question: &[u8], answer: &[u8]) {
                 b"question\n",
             );
         }
-        QuestionTold::Stated => program_outcome::deliver(answer, outcome),
+        LegsTold::One => program_outcome::deliver(answer, outcome),
+        LegsTold::Two => program_outcome::deliver(answer, outcome),
     }
 }
 
@@ -59,7 +60,7 @@ fn deliver(book: &[u8], question: &[u8], answer: &[u8]) {
 // Zeros for the ranks and for the answer. The length is what lending such an array needs; a function of its own keeps
 // the prover from writing it out.
 fn ranks_room() -> [u8; RANKS_MOST]
-    ensures { λ r. ⌜ 823543 ≡ length r ⌝ }
+    ensures { λ r. ⌜ 1647086 ≡ length r ⌝ }
 {
     [0; RANKS_MOST]
 }

@@ -12,10 +12,12 @@ use Rattle.ground.specs.Digits.{bit}
 use Rattle.ground.specs.Table.{Within}
 use Rattle.ground.proofs.Bools.{or-left, or-right, or-out, both, false→T}
 use Rattle.ground.proofs.Bits.{bit-of-zero}
+use Rattle.formula.specs.Read.{Accepts}
 use Rattle.book_sound.specs.Sound.{Sound}
 use Rattle.knowledge.specs.Goal.{Goal, goalOf, learnTable}
 use Rattle.question.specs.Rows.{TeamFits, KnownFits, HeldFits, GoalFits}
 use Rattle.question.specs.Asks.{ValidQuestion}
+use Rattle.question.specs.Legs.{ValidLegs}
 use Rattle.question.specs.declared.Question.{Question}
 use Rattle.sheet_words.specs.Words.{member}
 use Rattle.sheet_words.proofs.Unique.{mask-one}
@@ -24,7 +26,7 @@ use Rattle.sheet_question.specs.Desk.{TablesOf, AskedOnDesk}
 use Rattle.sheet_question.specs.declared.desk.AskedDesk.{AskedDesk}
 use Rattle.sheet_question.proofs.Fits.{AskedFits}
 use Rattle.sheet_question.proofs.Unique.{table-one, tables-one}
-use Rattle.sheet_ask.specs.Asks.{QuestionAsks}
+use Rattle.sheet_ask.specs.Asks.{QuestionAsks, SecondAsks}
 use Rattle.sheet_ask.specs.Inner.{learnIn, questionIn, goalIn}
 
 -- ---- a setting that is known to be true is known
@@ -61,15 +63,28 @@ tables-within n (F ∷ Fs) t (suc j) (a, b, x, y, e) l =
 
 -- ---- the question is valid
 
-module _ {n m : ℕ} {a : Asked} {q : Question} {goal : Goal} (fits : AskedFits n m a) (x : QuestionAsks n a q goal) where
-  asked-team : TeamFits m (q .team)
-  asked-team = record {
+-- a team and a goal that are asked fit
+module _ {n m : ℕ} {a : Asked} (fits : AskedFits n m a) where
+  team-fits : {team : ℕ} → ((p : ℕ) → bit team p ≡ member p (a .team)) → TeamFits m team
+  team-fits {team} posts = record {
     someone = λ e.
         let s = fits .someone in
-        both (bit (q .team) (s .0)) (subst T (sym (x .posts (s .0))) (s .1)) (false→T (ap (λ (t : ℕ). bit t (s .0)) e ∙ bit-of-zero (s .0)));
-    posts = λ p t. fits .team p (subst T (x .posts p) t);
+        both (bit team (s .0)) (subst T (sym (posts (s .0))) (s .1)) (false→T (ap (λ (t : ℕ). bit t (s .0)) e ∙ bit-of-zero (s .0)));
+    posts = λ p t. fits .team p (subst T (posts p) t);
   }
 
+  goal-fits : {goal : Goal} → Accepts n (a .make) (goal .make) → TablesOf n (a .asks) (goal .learn) → GoalFits n goal
+  goal-fits {goal} made learnt =
+      let size : length (goal .learn) ≡ 16 * length (a .asks) = tables-length n (a .asks) (goal .learn) learnt in
+      record {
+        make-bytes = made .table .sixteen;
+        learn-bytes = omega (arith, size);
+        learn-most = omega (arith, size, fits .asks-most);
+        make-within = made .table .within;
+        learn-within = λ j l. tables-within n (a .asks) (goal .learn) j learnt (omega (arith, size, l));
+      }
+
+module _ {n m : ℕ} {a : Asked} {q : Question} {goal : Goal} (fits : AskedFits n m a) (x : QuestionAsks n a q goal) where
   asked-known : KnownFits n (q .known) (q .values)
   asked-known = record {
     settings = λ i t. fits .known i (subst T (x .settings-known i) t);
@@ -79,19 +94,13 @@ module _ {n m : ℕ} {a : Asked} {q : Question} {goal : Goal} (fits : AskedFits 
   asked-held : HeldFits n (q .held)
   asked-held = record { settings = λ i t. fits .held i (subst T (x .settings-held i) t) }
 
-  asked-goal : GoalFits n goal
-  asked-goal =
-      let size : length (goal .learn) ≡ 16 * length (a .asks) = tables-length n (a .asks) (goal .learn) (x .learnt) in
-      record {
-        make-bytes = x .made .table .sixteen;
-        learn-bytes = omega (arith, size);
-        learn-most = omega (arith, size, fits .asks-most);
-        make-within = x .made .table .within;
-        learn-within = λ j l. tables-within n (a .asks) (goal .learn) j (x .learnt) (omega (arith, size, l));
-      }
-
   pub asked-valid : {book : List ℕ} → Sound book n m → ValidQuestion book q goal n m
-  asked-valid s = record { sound = s; team = asked-team; known = asked-known; held = asked-held; goal = asked-goal }
+  asked-valid s = record { sound = s; team = team-fits fits (x .posts); known = asked-known; held = asked-held; goal = goal-fits fits (x .made) (x .learnt) }
+
+  -- with a second leg
+  pub asked-legs : {b : Asked} {second : ℕ} {wanted : Goal} → AskedFits n m b → SecondAsks n b second wanted → {book : List ℕ} → Sound book n m
+      → ValidLegs book q goal second wanted n m
+  asked-legs more y s = record { first = asked-valid s; second-team = team-fits more (y .posts); second-goal = goal-fits more (y .made) (y .learnt) }
 
 -- ---- it is one alone
 
@@ -113,8 +122,23 @@ module _ {n : ℕ} {a : Asked} {q q′ : Question} {goal goal′ : Goal} (x : Qu
       (record { team = q′ .team; known = q′ .known; values = q′ .values; held = q′ .held }) = cc in
       e
 
+module _ {n : ℕ} {b : Asked} {second second′ : ℕ} {wanted wanted′ : Goal} (x : SecondAsks n b second wanted) (y : SecondAsks n b second′ wanted′) where
+  pub same-second : second ≡ second′
+  same-second = mask-one second second′ (λ p. x .posts p ∙ sym (y .posts p))
+
+  pub same-wanted : wanted ≡ wanted′
+  same-wanted =
+      let m : wanted .make ≡ wanted′ .make = table-one (x .made) (y .made) in
+      let l : wanted .learn ≡ wanted′ .learn = tables-one n (b .asks) (wanted .learn) (wanted′ .learn) (x .learnt) (y .learnt) in
+      let e : goalOf (wanted .make) (wanted .learn) ≡ goalOf (wanted′ .make) (wanted′ .learn) = cc in
+      e
+
 -- ---- the question on the desk
 
 pub desk-asks : {n : ℕ} {a : Asked} {d : AskedDesk} → AskedOnDesk n a d → QuestionAsks n a (questionIn d) (goalIn d)
 unfolding learnIn
 desk-asks h = record { made = h .make; learnt = h .learn; posts = h .team; settings-known = h .known; settings-true = h .values; settings-held = h .held }
+
+pub desk-second : {n : ℕ} {b : Asked} {d : AskedDesk} → AskedOnDesk n b d → SecondAsks n b (d .team) (goalIn d)
+unfolding learnIn
+desk-second h = record { made = h .make; learnt = h .learn; posts = h .team }

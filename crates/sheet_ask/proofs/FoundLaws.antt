@@ -36,6 +36,7 @@ use Rattle.finder.specs.declared.answer.Answer.{Answer}
 use Rattle.finder.specs.declared.answer.Answer.the-variants.{Reach, Cannot, Refused}
 use Rattle.finder.proofs.FindLaws.{short-table, find-clear}
 use Rattle.sheet_ask.specs.Asks.{PrintsFound, PrintsAsked}
+use Rattle.sheet_ask.specs.Inner.{Readable, Tells}
 
 -- ---- a written plan is short
 
@@ -65,87 +66,77 @@ pub numbers-printed : (why : Refusal) {k : Numbers} {old new : List ℕ} {r : �
     → Prints old (refusedText (number why) (place why)) r new
 numbers-printed why {k} {old} {new} {r} e p = subst (λ (x : Numbers). Prints old (refusedText (x .number) (x .place)) r new) e p
 
--- ---- the finder's answer
+-- each way of printing an answer
+module _ (answer : Answer) (plan : List ℕ) (out : List ℕ) (r : ℕ) (out′ : List ℕ) where
+  pub tells-reach : (h size : ℕ) → answer ≡ Reach h size → ((p : Plan) → take size plan ≡ encode p → Lettered p → Prints out (reachText h p) r out′)
+      → Tells answer plan out r out′
+  tells-reach h size e f = subst (λ (x : Answer). Tells x plan out r out′) (sym e) f
 
-module _ {book : List ℕ} {q : Question} {goal : Goal} {n m : ℕ} (v : ValidQuestion book q goal n m) where
-  abbrev system : System
-  system = systemOf n book q goal
+  pub tells-cannot : answer ≡ Cannot → Prints out cannotText r out′ → Tells answer plan out r out′
+  tells-cannot e f = subst (λ (x : Answer). Tells x plan out r out′) (sym e) f
 
-  abbrev start : ℕ
-  start = startOf q
+  pub tells-refused : (why : Refusal) → answer ≡ Refused why → Prints out (refusedText (number why) (place why)) r out′ → Tells answer plan out r out′
+  tells-refused why e f = subst (λ (x : Answer). Tells x plan out r out′) (sym e) f
 
-  short : (p : Plan) → Written system start p → length (encode p) ≤ 32640
-  short p w = plan-most (lawful v) (few v) start p w .1
+-- ---- what is answered from the start of a lawful system can be printed, and it is reach or cannot, since every plan fits its room
 
-  module _ (ranks plan : List ℕ) (answer : Answer) (ranks′ plan′ : List ℕ) (found : Finds book q goal ranks plan answer ranks′ plan′) where
-    -- where it refuses nothing before it looks into the question
-    abbrev Met : Answer → Type 0
-    Met x = (7 ^ n ≤ length ranks) × RanksFilled n system ranks ranks′ × AnswersFrom system start plan x plan′
+module _ {n : ℕ} {S : System} (law : Lawful n S) (small : n ≤ 7) (start : ℕ) (plan plan′ : List ℕ) where
+  module _ {h size : ℕ} (a : AnswersFrom S start plan (Reach h size) plan′) where
+    tree : Plan
+    tree = a .1 .0
 
-    met : {x : Answer} → answer ≡ x → ((why : Refusal) → x ≡ Refused why → ⊥) → Met x
-    met {x} e other = subst Met e (by-case found)
-      where
-        by-case : Finds book q goal ranks plan answer ranks′ plan′ → (7 ^ n ≤ length ranks) × RanksFilled n (systemOf n book q goal) ranks ranks′
-            × AnswersFrom (systemOf n book q goal) (startOf q) plan answer plan′
-        by-case (inl u) = absurd (other (u .why) (sym e ∙ u .answered))
-        by-case (inr (k, l, w, enough, filled, answered)) =
-            let same : k ≡ n = sound-one (w .sound) (v .sound) .0 in
-            subst (λ (i : ℕ). (7 ^ i ≤ length ranks) × RanksFilled i (systemOf i book q goal) ranks ranks′ × AnswersFrom (systemOf i book q goal) (startOf q) plan answer plan′)
-            same (enough, filled, answered)
+    plan-bytes : take size plan′ ≡ encode tree
+    unfolding tree
+    plan-bytes = ap (take size) (a .1 .4) ∙ take-at (encode tree) (drop size plan) size (sym (a .1 .2))
 
-    -- what it refuses is 13
-    thirteen : (why : Refusal) → answer ≡ Refused why → length plan ≡ 32640 → (length ranks < 7 ^ n) × (why ≡ RankRoom 0) × (ranks′ ≡ ranks)
-    thirteen why e size = by-case found
-      where
-        by-case : Finds book q goal ranks plan answer ranks′ plan′ → (length ranks < 7 ^ n) × (why ≡ RankRoom 0) × (ranks′ ≡ ranks)
-        by-case (inl u) =
-            let same : u .why ≡ why = let z : Refused (u .why) ≡ Refused why = sym (u .answered) ∙ e in cc in
-            elim (lt-or-ge (length ranks) (7 ^ n)) [
-              | inl l ↦ (l, sym same ∙ first-unique (u .first) (short-table v ranks l), u .ranks-kept)
-              | inr l ↦ first-clear (u .first) (find-clear v ranks l)
-            ]
-        by-case (inr (k, l, w, enough, filled, answered)) =
-            let same : k ≡ n = sound-one (w .sound) (v .sound) .0 in
-            let z = subst (λ (i : ℕ). AnswersFrom (systemOf i book q goal) (startOf q) plan (Refused why) plan′) same
-            (subst (λ (x : Answer). AnswersFrom (systemOf k book q goal) (startOf q) plan x plan′) e answered) in
-            absurd (omega (arith, z .1 .2, size, short (z .1 .0) (z .1 .1)))
+    lettered : Lettered tree
+    unfolding tree
+    lettered = permitted-lettered law small tree start (works-permitted S tree start (written-works S tree start (a .1 .1)))
 
-    module _ {h size : ℕ} (e : answer ≡ Reach h size) where
-      reached : Met (Reach h size)
-      reached = met e (λ why z. (let y : _≡_ {A = ℕ} 0 1 = cc in omega arith))
+    plan-fits : size ≤ length plan′
+    plan-fits = omega (arith, ap length (a .1 .4), length-append (encode (a .1 .0)) (drop size plan), a .1 .2)
 
-      tree : Plan
-      tree = reached .2 .1 .0
+  pub answers-readable : (x : Answer) → AnswersFrom S start plan x plan′ → Readable x plan′
+  unfolding tree
+  answers-readable (Reach h size) a =
+      (plan-fits a, (tree a, plan-bytes a, lettered a), omega (arith, ap length (plan-bytes a), plan-most law small start (tree a) (a .1 .1) .1))
+  answers-readable Cannot a = tt
+  answers-readable (Refused why) a = tt
 
-      plan-bytes : take size plan′ ≡ encode tree
-      unfolding tree
-      plan-bytes = ap (take size) (reached .2 .1 .4) ∙ take-at (encode tree) (drop size plan) size (sym (reached .2 .1 .2))
+  pub answers-told : (x : Answer) (old : List ℕ) (r : ℕ) (new : List ℕ) → length plan ≡ 32640 → AnswersFrom S start plan x plan′ → Tells x plan′ old r new
+      → PrintsFound S start old r new
+  unfolding tree
+  answers-told (Reach h size) old r new l a f = inl (h, tree a, a .0, a .1 .1, f (tree a) (plan-bytes a) (lettered a))
+  answers-told Cannot old r new l a f = inr (a .0, f)
+  answers-told (Refused why) old r new l a f = absurd (omega (arith, l, a .1 .2, plan-most law small start (a .1 .0) (a .1 .1) .1))
 
-      lettered : Lettered tree
-      unfolding tree
-      lettered =
-          permitted-lettered (lawful v) (few v) tree start (works-permitted system tree start (written-works system tree start (reached .2 .1 .1)))
+-- ---- the finder's answer: of a valid question it refuses 13 alone
 
-      pub plan-fits : size ≤ length plan′
-      plan-fits = omega (arith, ap length (reached .2 .1 .4), length-append (encode (reached .2 .1 .0)) (drop size plan), reached .2 .1 .2)
+module _ {book : List ℕ} {q : Question} {goal : Goal} {n m : ℕ} (v : ValidQuestion book q goal n m)
+    (ranks plan : List ℕ) (answer : Answer) (ranks′ plan′ : List ℕ) (found : Finds book q goal ranks plan answer ranks′ plan′) where
+  pub found-readable : Readable answer plan′
+  found-readable = by-case found
+    where
+      by-case : Finds book q goal ranks plan answer ranks′ plan′ → Readable answer plan′
+      by-case (inl u) = subst (λ (x : Answer). Readable x plan′) (sym (u .answered)) tt
+      by-case (inr (k, l, w, enough, filled, answered)) = answers-readable (lawful w) (few w) (startOf q) plan plan′ answer answered
 
-      -- the plan's bytes can be printed
-      pub plan-readable : ((p : Plan) × (take size plan′ ≡ encode p) × Lettered p) × (length (take size plan′) ≤ 32640)
-      unfolding tree
-      plan-readable = ((tree, plan-bytes, lettered), omega (arith, ap length plan-bytes, short tree (reached .2 .1 .1)))
-
-      pub plan-told : (old : List ℕ) (r : ℕ) (new : List ℕ) → ((p : Plan) → take size plan′ ≡ encode p → Lettered p → Prints old (reachText h p) r new)
-          → PrintsAsked n book q goal ranks old r ranks′ new
-      unfolding tree
-      plan-told old r new f = inr (reached .0, reached .1, inl (h, tree, reached .2 .0, reached .2 .1 .1, f tree plan-bytes lettered))
-
-    pub cannot-told : (old : List ℕ) (r : ℕ) (new : List ℕ) → answer ≡ Cannot → Prints old cannotText r new → PrintsAsked n book q goal ranks old r ranks′ new
-    cannot-told old r new e f =
-        let z = met e (λ why z. (let y : _≡_ {A = ℕ} 0 1 = cc in omega arith)) in
-        inr (z .0, z .1, inr (z .2 .0, f))
-
-    pub refused-told : (old : List ℕ) (r : ℕ) (new : List ℕ) (why : Refusal) → answer ≡ Refused why → length plan ≡ 32640
-        → Prints old (refusedText (number why) (place why)) r new → PrintsAsked n book q goal ranks old r ranks′ new
-    refused-told old r new why e size f =
-        let z = thirteen why e size in
-        inl (z .0, record { ranks-kept = z .2; printed = subst (λ (w : Refusal). Prints old (refusedText (number w) (place w)) r new) (z .1) f })
+  pub found-told : (old : List ℕ) (r : ℕ) (new : List ℕ) → length plan ≡ 32640 → Tells answer plan′ old r new → PrintsAsked n book q goal ranks old r ranks′ new
+  found-told old r new size told = by-case found
+    where
+      by-case : Finds book q goal ranks plan answer ranks′ plan′ → PrintsAsked n book q goal ranks old r ranks′ new
+      by-case (inl u) =
+          let f = subst (λ (x : Answer). Tells x plan′ old r new) (u .answered) told in
+          elim (lt-or-ge (length ranks) (7 ^ n)) [
+            | inl l ↦ inl (
+              l,
+              record {
+                ranks-kept = u .ranks-kept;
+                printed = subst (λ (w : Refusal). Prints old (refusedText (number w) (place w)) r new) (first-unique (u .first) (short-table v ranks l)) f;
+              },
+            )
+            | inr l ↦ first-clear (u .first) (find-clear v ranks l)
+          ]
+      by-case (inr (k, l, w, enough, filled, answered)) =
+          subst (λ (i : ℕ). PrintsAsked i book q goal ranks old r ranks′ new) (sound-one (w .sound) (v .sound) .0)
+          (inr (enough, filled, answers-told (lawful w) (few w) (startOf q) plan plan′ answer old r new size answered told))

@@ -3,4 +3,6 @@
 pub mod AskedQuestion
 pub mod FoundLaws
 pub mod AskLaws
+pub mod TwoLaws
+pub mod LegLaws
 pub mod Theorems

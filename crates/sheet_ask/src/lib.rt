@@ -1,22 +1,27 @@
 // A question text put to a stored book, all in memory: the bytes of a book and a text to what is printed.
 // A book that is not sound, a text that does not ask, and a rank table that is too short are answered by
 // the first refusal in the written order. Nothing else is refused: a room shorter than what is printed
-// holds as much of it as fits. The lent rank table is left as the finder leaves it.
+// holds as much of it as fits. The lent rank table is left as the finder leaves it; with two legs it holds
+// the first leg's ranks and behind them the second's.
+mod tell;
+mod two;
+
+use crate::tell::tell;
+use crate::two::answered_two;
 use book_sound::ReadAnswer;
 use finder::Answer;
 use ground::TABLE;
 use plancheck::PLAN_MOST;
 use question::Question;
+use sheet_legs::LegsTold;
+use sheet_legs::read_legs;
 use sheet_question::AskedDesk;
-use sheet_question::QuestionTold;
-use sheet_question::read_question;
-ghost use mathlib.Core.Bool.{true};
 ghost use Prim.Native.Nat.{ℕ};
 ghost use Rattle.book_sound.specs.Sound.{Sound};
 ghost use Rattle.question.specs.Asks.{ValidQuestion};
 ghost use Rattle.finder.specs.Finds.{Finds};
-ghost use Rattle.sheet_question.specs.Question.{questionMeaning};
-ghost use Rattle.sheet_ask.specs.Asks.{PrintsAsked, PrintsQuestion, AsksBook};
+ghost use Rattle.sheet_legs.specs.Legs.{legsMeaning};
+ghost use Rattle.sheet_ask.specs.Asks.{PrintsAsked, PrintsLegs, AsksBook};
 ghost use Rattle.sheet_ask.specs.Inner.{Learnt, questionIn, goalIn};
 
 // The most bytes that are printed: 10 for `reach` and a height of up to three digits, and 14 for each of
@@ -48,14 +53,8 @@ fn answered(book: &[u8], asked: AskedDesk, ranks: &mut [u8], out: &mut [u8]) -> 
         PrintsAsked n (now (book .entry)) (questionIn asked) (goalIn asked) (now (ranks .entry)) (now (out .entry)) r (now (ranks .exit)) (now (out .exit))) ⌝ }
 {
     let mut plan = [0u8; PLAN_MOST];
-    match find(book, asked, ranks, &mut plan) {
-        Answer::Reach { height, length } => print_answer::reach(height, &plan[..length], out),
-        Answer::Cannot => print_answer::cannot(out),
-        Answer::Refused(why) => {
-            let numbers = why.numbers();
-            print_answer::refused(numbers.number, numbers.place, out)
-        }
-    }
+    let answer = find(book, asked, ranks, &mut plan);
+    tell(answer, &plan, out)
 }
 
 // What is printed for a question text, put to a sound book.
@@ -68,18 +67,20 @@ fn ask_sound(
     out: &mut [u8],
 ) -> usize
     requires { ⌜ Sound (now book) settings posts ⌝ }
-    ensures { λ r. ⌜ PrintsQuestion settings (now (book .entry)) (questionMeaning 0 true settings posts (now (question .entry)))
+    ensures { λ r. ⌜ PrintsLegs settings (now (book .entry)) (legsMeaning settings posts (now (question .entry)))
         (now (ranks .entry)) (now (out .entry)) r (now (ranks .exit)) (now (out .exit)) ⌝ }
 {
-    let reading = read_question(question, settings, posts);
+    let reading = read_legs(question, settings, posts);
     let told = reading.told;
-    let desk = reading.desk;
+    let first = reading.first;
+    let second = reading.second;
     match told {
-        QuestionTold::Refused(why, line) => {
+        LegsTold::Refused(why, line) => {
             let numbers = why.numbers();
             print_answer::refused(numbers.number, line, out)
         }
-        QuestionTold::Stated => answered(book, desk, ranks, out),
+        LegsTold::One => answered(book, first, ranks, out),
+        LegsTold::Two => answered_two(book, settings, first, second, ranks, out),
     }
 }
 

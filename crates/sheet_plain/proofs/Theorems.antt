@@ -1,5 +1,5 @@
--- What is promised of what the plain finder says of a question text: it is one thing alone; and it is what `ask` prints of the same book and text, by the
--- first finder: the same reach or cannot, the same height, the same refusals. So the two of `both` are never apart.
+-- What is promised of what the plain finder says of a question text: it is one thing alone; and of a text of one leg it is what `ask` prints of the same
+-- book and text, by the first finder: the same reach or cannot, the same height, the same refusals. So the two of `both` are never apart.
 use mathlib.Core.Path.{_≡_, refl, sym, ap, _∙_, subst, subst₂}
 use mathlib.Core.Logic.{_⊎_, inl, inr}
 use mathlib.Core.Bool.{true}
@@ -22,9 +22,12 @@ use Rattle.plan.specs.Ranks.{Reach as ReachIn, Cannot as CannotFrom}
 use Rattle.print_answer.specs.Printed.{reachText, refusedText, cannotText, Prints}
 use Rattle.question.specs.Question.{systemOf, startOf}
 use Rattle.question.specs.declared.Question.{Question}
+use Rattle.sheet_words.specs.Words.{split, newline}
 use Rattle.sheet_question.specs.Question.{QuestionMeaning, refused, asked, questionMeaning}
+use Rattle.sheet_legs.specs.Legs.{whole, cutLines}
 use Rattle.sheet_ask.specs.Asks.{QuestionAsks, PrintsFound, PrintsAsked, PrintsQuestion, AsksBook}
 use Rattle.sheet_ask.proofs.AskedQuestion.{same-goal, same-question}
+use Rattle.sheet_ask.proofs.Theorems.{ask-told}
 use Rattle.sheet_plain.specs.Asks.{SaysPlainly, SaysOfText, AsksPlainly, PrintsAs}
 use Rattle.sheet_plain.specs.declared.PlainTold.{PlainTold}
 use Rattle.sheet_plain.specs.declared.PlainTold.the-variants.{Reach, Cannot, BookRefused, QuestionRefused}
@@ -81,14 +84,14 @@ module _ (ranks out : List ℕ) (r : ℕ) (ranks′ out′ : List ℕ) (enough :
       same-asked book q goal x few a
       (subst₂ (λ (c : Question) (g : Goal). PrintsAsked n book c g ranks out r ranks′ out′) (same-question l k) (same-goal l k) b)
 
-  -- with room for the ranks of seven settings, 7^7
-  pub both-same : (book question : List ℕ) (x : PlainTold) → AsksPlainly book question x → AsksBook book question ranks out r ranks′ out′ → PrintsAs x out r out′
-  both-same book question x (inl (w, f, e)) (inl (v, g, printed)) =
+  -- with room for the ranks of seven settings, 7^7, and of a text of one leg: one without a line `then`
+  pub both-same : (book question : List ℕ) (x : PlainTold) → cutLines (split newline question) ≡ whole → AsksPlainly book question x
+      → AsksBook book question ranks out r ranks′ out′ → PrintsAs x out r out′
+  both-same book question x alone (inl (w, f, e)) (inl (v, g, printed)) =
       subst (λ (t : PlainTold). PrintsAs t out r out′) (sym e)
       (subst (λ (z : _). Prints out (refusedText (number z) (place z)) r out′) (first-unique g f) (printed .printed))
-  both-same book question x (inl (w, f, e)) (inr (n, m, sound, c)) = first-clear f (sound-clear sound)
-  both-same book question x (inr (n, m, sound, c)) (inl (w, f, e)) = first-clear f (sound-clear sound)
-  both-same book question x (inr (n, m, sound, a)) (inr (k, l, other, b)) =
-      let e = sound-one other sound in
+  both-same book question x alone (inl (w, f, e)) (inr (n, m, sound, c)) = first-clear f (sound-clear sound)
+  both-same book question x alone (inr (n, m, sound, c)) (inl (w, f, e)) = first-clear f (sound-clear sound)
+  both-same book question x alone (inr (n, m, sound, a)) (inr (k, l, other, b)) =
       same-question-text n book (questionMeaning 0 true n m question) x (pow-le-pow-right (lit< tt) (sound .settings .most)) a
-      (subst₂ (λ (i j : ℕ). PrintsQuestion i book (questionMeaning 0 true i j question) ranks out r ranks′ out′) (e .0) (e .1) b)
+      (ask-told sound question ranks out r ranks′ out′ (inr (k, l, other, b)) alone)

@@ -71,28 +71,28 @@ some-word w line h P f =
 
 -- ---- what the lines name so far
 
-abbrev TeamFits : ℕ → Asked → Type 0
+abbrev pub TeamFits : ℕ → Asked → Type 0
 TeamFits m a = ((q : ℕ) × T (member q (a .team))) × ((q : ℕ) → T (member q (a .team)) → q < m)
 
-abbrev KnownFits : ℕ → Asked → Type 0
+abbrev pub KnownFits : ℕ → Asked → Type 0
 KnownFits n a = (i : ℕ) → T (member i (knownSettings (a .known))) → i < n
 
 -- what holds from the start on: nothing is held and nothing asked
-abbrev Begun : ℕ → Asked → Type 0
+abbrev pub Begun : ℕ → Asked → Type 0
 Begun n a = (length (a .asks) ≤ 4) × ((i : ℕ) → T (member i (heldSettings (a .held))) → i < n)
 
-begun-first : (n : ℕ) → Begun n nothingAsked
+pub begun-first : (n : ℕ) → Begun n nothingAsked
 unfolding member
 begun-first n = (omega arith, λ i none. absurd none)
 
-abbrev SoFar : ℕ → ℕ → Due → Asked → Type 0
+abbrev pub SoFar : ℕ → ℕ → Due → Asked → Type 0
 SoFar n m Team a = Begun n a
 SoFar n m Known a = Begun n a × TeamFits m a
 SoFar n m Held a = Begun n a × TeamFits m a × KnownFits n a
 SoFar n m Make a = Begun n a × TeamFits m a × KnownFits n a
 SoFar n m Asks a = Begun n a × TeamFits m a × KnownFits n a
 
-team-fits : (m : ℕ) (a : Asked) (line : List ℕ) → T (isTeam m line) → TeamFits m (withTeam a line)
+pub team-fits : (m : ℕ) (a : Asked) (line : List ℕ) → T (isTeam m line) → TeamFits m (withTeam a line)
 unfolding isTeam withTeam teamOf indexes member
 team-fits m a line h =
     let parts = names-parts (bytes "team") false false 49 m line h in (
@@ -120,7 +120,7 @@ team-kept : (n m : ℕ) (a : Asked) (line : List ℕ) → SoFar n m Known a → 
 unfolding withKnown
 team-kept n m a line h = h
 
-begun-kept : (n : ℕ) (a : Asked) (line : List ℕ) → Begun n a → Begun n (withTeam a line)
+pub begun-kept : (n : ℕ) (a : Asked) (line : List ℕ) → Begun n a → Begun n (withTeam a line)
 unfolding withTeam
 begun-kept n a line h = h
 
@@ -184,7 +184,7 @@ module _ (n m : ℕ) where
 
   -- ---- the whole
 
-  abbrev MeaningFits : QuestionMeaning → Type 0
+  abbrev pub MeaningFits : QuestionMeaning → Type 0
   MeaningFits (refused r line) = Unit
   MeaningFits (asked a) = AskedFits n m a
 
@@ -201,7 +201,7 @@ module _ (n m : ℕ) where
   fits-after passes L pieces (fault r) more h = tt
   fits-after passes L pieces (next (d, b)) more h = more d b h
 
-  fits-from : (passes : Bool) (L : ℕ) (due : Due) (a : Asked) (pieces : List (List ℕ)) → SoFar n m due a → MeaningFits (askedFrom passes n m L due a pieces)
+  pub fits-from : (passes : Bool) (L : ℕ) (due : Due) (a : Asked) (pieces : List (List ℕ)) → SoFar n m due a → MeaningFits (askedFrom passes n m L due a pieces)
   unfolding askedFrom
   fits-from passes L due a [] h = tt
   fits-from passes L due a (rest ∷ []) h = fits-end L due a rest h

@@ -8,8 +8,10 @@ pub mod Turns
 pub mod NameTurns
 pub mod LineTurns
 pub mod ReadLaws
+pub mod SecondLaws
 pub mod Unique
 pub mod Fits
 pub mod Counted
+pub mod SecondFits
 pub mod Passed
 pub mod Examples

@@ -54,7 +54,7 @@ pub struct Turn {
 }
 
 // A desk on which nothing is asked.
-pub(crate) fn nothing_asked() -> AskedDesk
+pub fn nothing_asked() -> AskedDesk
     ensures { λ r. ⌜ ((n : ℕ) → 1 ≤ n → n ≤ 7 → AskedOnDesk n nothingAsked r) ⌝ }
 {
     AskedDesk {

@@ -1,19 +1,21 @@
-// The lines of a question, `team` to `ask`, with `held` after `known`: what they ask, or the first refusal, with its line. A text of
-// any length and content is taken, with any numbers of settings and posts; nothing is written to what a
-// caller lends.
+// The lines of a question, `team` to `ask`, with `held` after `known`, and those of a second leg, which has neither
+// of the two: what they ask, or the first refusal, with its line. A text of any length and content is taken, with any
+// numbers of settings and posts; nothing is written to what a caller lends.
 mod desk;
 mod formulas;
 mod line;
 mod names;
+mod second;
 
 use crate::desk::Due;
 use crate::desk::Taken;
-use crate::desk::nothing_asked;
 use crate::line::any_line;
 pub use desk::AskedDesk;
+pub use desk::nothing_asked;
 use ground::POSTS_MOST;
 use ground::SETTINGS_MOST;
 use refusal::Refusal;
+pub use second::second_leg;
 use sheet_words::TEXT_MOST;
 use sheet_words::piece_end;
 ghost use mathlib.Core.Path.{_≡_};
@@ -87,15 +89,24 @@ fn ending(due: Due, desk: AskedDesk, rest: &[u8], number: usize) -> QuestionRead
     }
 }
 
-// All lines of a text that is not too long, numbered from `before` + 1 on.
-fn lines(text: &[u8], before: u32, passes: bool, settings: u8, posts: u8) -> QuestionReading
-    requires { ⌜ (1 ≤ settings) × (settings ≤ 7) × (posts ≤ 8) × (length (now text) ≤ 65536) ⌝ }
-    ensures { λ r. ⌜ ReadsQuestion settings (askedFrom passes settings posts (before + 1) Due.Team nothingAsked (split newline (now (text .entry)))) (r .told) (r .desk) ⌝ }
+// All lines of a text that is not too long, the first of which has this number; the line `from` is due, and this is
+// asked already.
+fn lines(
+    text: &[u8],
+    first: usize,
+    passes: bool,
+    settings: u8,
+    posts: u8,
+    from: Due,
+    begun: AskedDesk,
+) -> QuestionReading
+    requires { ⌜ (1 ≤ settings) × (settings ≤ 7) × (posts ≤ 8) × (length (now text) ≤ 65536) × (first ≤ 5000000000) × ((a : Asked) × AskedOnDesk settings a begun) ⌝ }
+    ensures { λ r. ⌜ ((a : Asked) → AskedOnDesk settings a begun → ReadsQuestion settings (askedFrom passes settings posts first from a (split newline (now (text .entry)))) (r .told) (r .desk)) ⌝ }
 {
-    let mut due = Due::Team;
-    let mut desk = nothing_asked();
+    let mut due = from;
+    let mut desk = begun;
     let mut at = 0;
-    let mut number = before as usize + 1;
+    let mut number = first;
     loop {
         let end = piece_end(text, at, b'\n');
         if text.len() <= end {
@@ -134,7 +145,15 @@ pub fn question_of(
     }
     let n = within(SETTINGS_MOST as u8, settings);
     let m = within(POSTS_MOST as u8, posts);
-    lines(text, before, passes, n, m)
+    lines(
+        text,
+        before as usize + 1,
+        passes,
+        n,
+        m,
+        Due::Team,
+        nothing_asked(),
+    )
 }
 
 // A question text of its own: lines are numbered from 1 on, and some may be passed over.

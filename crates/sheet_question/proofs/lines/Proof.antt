@@ -6,38 +6,29 @@ use native.Mathlib.Omega.{arith}
 use lib.ListN.{length, drop}
 use Rattle.sheet_words.specs.Words.{split, newline}
 use Rattle.sheet_words.proofs.Pieces.{part, piece-is}
-use Rattle.sheet_question.specs.Asked.{Asked, nothingAsked}
+use Rattle.sheet_question.specs.Asked.{Asked}
 use Rattle.sheet_question.specs.Desk.{AskedOnDesk}
 use Rattle.sheet_question.specs.LineSteps.{lineStep}
 use Rattle.sheet_question.specs.Question.{QuestionMeaning, askedFrom}
 use Rattle.sheet_question.specs.Reads.{ReadsQuestion}
-use Rattle.sheet_question.specs.declared.desk.Due.the-variants.{Team}
 use Rattle.sheet_question.proofs.ReadLaws.{faulted-by, went-on-by, refused-is, rest-ends, rest-faults, rest-goes-on}
 use borrow.Author.Needs.{needs}
 use Rattle.sheet_question.proofs.lines.Statement.{statement}
 use Rattle.sheet_question.proofs.lines.Tie as tie
 
 abbrev Inv-loop : tie.InvT-loop
-Inv-loop text before passes settings posts due₀ desk₀ at₀ number₀ due desk at number =
-    (at ≤ length text) × (number ≤ before + 1 + at)
-    × ((a : Asked) × AskedOnDesk settings a desk
-    × (askedFrom passes settings posts number due a (split newline (drop at text)) ≡ askedFrom passes settings posts (before + 1) Team nothingAsked (split newline text)))
+Inv-loop text first passes settings posts due₀ desk₀ at₀ number₀ due desk at number =
+    (at ≤ length text) × (number ≤ first + at)
+    × ((b : Asked) → AskedOnDesk settings b desk₀ → (a : Asked) × AskedOnDesk settings a desk
+    × (askedFrom passes settings posts number due a (split newline (drop at text)) ≡ askedFrom passes settings posts first due₀ b (split newline text)))
 
 abbrev μ-loop : tie.MeasureT-loop
-μ-loop text before passes settings posts due₀ desk₀ at₀ number₀ due desk at number = length text - at
-
-nothing-asked-requires : tie.Need-nothing-asked-requires Inv-loop μ-loop
-nothing-asked-requires c κs = tt
-
-add-number : tie.Need-add-number Inv-loop μ-loop
-add-number c = search needs
+μ-loop text first passes settings posts due₀ desk₀ at₀ number₀ due desk at number = length text - at
 
 loop-holds : tie.Need-loop-holds Inv-loop μ-loop
 loop-holds c =
     let start : tie.Start Inv-loop μ-loop = search in
-    let nothing : tie.After-nothing-asked Inv-loop μ-loop = search in
-    let h = start .pre in
-    (omega arith, omega arith, (nothingAsked, nothing .nothing-asked .ensures _ (h .0) (h .1), refl))
+    (omega arith, omega arith, λ b h. (b, h, refl))
 
 piece-end-requires : tie.Need-piece-end-requires Inv-loop μ-loop
 piece-end-requires c κs = tt
@@ -75,8 +66,9 @@ returns c =
     let l = at-loop .loop in
     let end = cut .piece-end in
     let p = piece-is s (l .at) newline (end .result) (l .inv .0) (end .ensures) in
-    let z = l .inv .2 in
     let h = start .pre in
+    λ b d.
+    let z = l .inv .2 b d in
     subst (λ (o : QuestionMeaning). ReadsQuestion (x .settings) o (c .ending .result .told) (c .ending .result .desk))
     (sym (rest-ends (x .passes) (x .settings) (x .posts) s (l .at) (end .result) (l .number) (l .due) (z .0) p (yes1 .if1 .taken)) ∙ z .2)
     (c .ending .ensures (x .settings) (z .0) (h .0) (h .1) (z .1))
@@ -105,7 +97,7 @@ any-line-requires c κs =
     let start : tie.Start Inv-loop μ-loop = search in
     let at-loop : tie.At-loop Inv-loop μ-loop = search in
     let h = start .pre in
-    let z = at-loop .loop .inv .2 in
+    let z = at-loop .loop .inv .2 (h .5 .0) (h .5 .1) in
     (h .1, h .2, (z .0, z .1))
 
 enum-known-taken : tie.Need-enum-known-taken Inv-loop μ-loop
@@ -130,8 +122,9 @@ returns-2 c =
     let p = piece-is s (l .at) newline (end .result) (l .inv .0) (end .ensures) in
     let why = told .taken .given in
     let turn = turned .any-line in
-    let z = l .inv .2 in
     let h = start .pre in
+    λ b d.
+    let z = l .inv .2 b d in
     let w = faulted-by n (lineStep (x .passes) n (x .posts) (l .number) (l .due) (z .0) (part s (l .at) (end .result))) (turn .result .desk) (why .1) (turn .ensures (z .0) (z .1)) in
     refused-is n (c .refused .result .desk) (why .0 .0) (l .number) (h .0) (h .1)
     (sym (z .2) ∙ rest-faults (x .passes) n (x .posts) s (l .at) (end .result) (l .number) (l .due) (z .0) p (no1 .if1 .left) w)
@@ -145,12 +138,12 @@ add-at c =
     let no1 : tie.Else1 Inv-loop μ-loop = search in
     omega (arith, no1 .if1 .left)
 
-add-number-2 : tie.Need-add-number-2 Inv-loop μ-loop
-add-number-2 c =
+add-number : tie.Need-add-number Inv-loop μ-loop
+add-number c =
     let start : tie.Start Inv-loop μ-loop = search in
     let at-loop : tie.At-loop Inv-loop μ-loop = search in
     let l = at-loop .loop in
-    omega (arith, l .inv .0, l .inv .1, start .pre .3)
+    omega (arith, l .inv .0, l .inv .1, start .pre .3, start .pre .4)
 
 loop-less : tie.Need-loop-less Inv-loop μ-loop
 loop-less c =
@@ -178,18 +171,18 @@ loop-again c =
     let p = piece-is s (l .at) newline (end .result) (l .inv .0) (end .ensures) in
     let due = told .taken2 .given in
     let turn = turned .any-line in
-    let more = no1 .if1 .left in
-    let z = l .inv .2 in
-    let w = went-on-by n (lineStep (x .passes) n (x .posts) (l .number) (l .due) (z .0) (part s (l .at) (end .result))) (turn .result .desk) (due .1) (turn .ensures (z .0) (z .1)) in (
+    let more = no1 .if1 .left in (
       omega (arith, more),
       omega (arith, p .from, l .inv .1),
-      (
-        w .0,
-        w .2,
-        ap (λ (k : ℕ). askedFrom (x .passes) n (x .posts) k (due .0 .0) (w .0) (split newline (drop (end .result + 1) s))) (add-one (l .number))
-            ∙ ap (λ (k : ℕ). askedFrom (x .passes) n (x .posts) (suc (l .number)) (due .0 .0) (w .0) (split newline (drop k s))) (add-one (end .result))
-            ∙ sym (rest-goes-on (x .passes) n (x .posts) s (l .at) (end .result) (l .number) (l .due) (z .0) p more (w .1)) ∙ z .2,
-      ),
+      λ b d.
+          let z = l .inv .2 b d in
+          let w = went-on-by n (lineStep (x .passes) n (x .posts) (l .number) (l .due) (z .0) (part s (l .at) (end .result))) (turn .result .desk) (due .1) (turn .ensures (z .0) (z .1)) in (
+            w .0,
+            w .2,
+            ap (λ (k : ℕ). askedFrom (x .passes) n (x .posts) k (due .0 .0) (w .0) (split newline (drop (end .result + 1) s))) (add-one (l .number))
+                ∙ ap (λ (k : ℕ). askedFrom (x .passes) n (x .posts) (suc (l .number)) (due .0 .0) (w .0) (split newline (drop k s))) (add-one (end .result))
+                ∙ sym (rest-goes-on (x .passes) n (x .posts) s (l .at) (end .result) (l .number) (l .due) (z .0) p more (w .1)) ∙ z .2,
+          ),
     )
 
 pub lines-spec : {M : Type 1} → statement M
@@ -198,8 +191,6 @@ lines-spec =
     (tie.spec
     Inv-loop
     μ-loop
-    nothing-asked-requires
-    add-number
     loop-holds
     piece-end-requires
     sub-ending
@@ -216,6 +207,6 @@ lines-spec =
     returns-2
     enum-known-taken-2
     add-at
-    add-number-2
+    add-number
     loop-less
     loop-again)

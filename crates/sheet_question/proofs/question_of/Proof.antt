@@ -1,6 +1,8 @@
 -- `question_of` meets its contract: the length, and then the lines, over the nearest numbers of settings and posts.
+use Prim.Native.Nat.{_≤_}
 use native.Mathlib.Omega.{arith}
 use Rattle.refusal.specs.declared.Refusal.the-variants.{SheetLength}
+use Rattle.sheet_question.specs.Asked.{nothingAsked}
 use Rattle.sheet_question.specs.Reads.{within}
 use Rattle.sheet_question.proofs.ReadLaws.{refused-is, too-long, within-fits, whole-read}
 use borrow.Author.Needs.{needs}
@@ -31,6 +33,12 @@ cast-within-2 c = search needs
 within-requires-2 : tie.Need-within-requires-2
 within-requires-2 c κs = search needs
 
+add-lines : tie.Need-add-lines
+add-lines c = search needs
+
+nothing-asked-requires : tie.Need-nothing-asked-requires
+nothing-asked-requires c κs = search needs
+
 lines-requires : tie.Need-lines-requires
 lines-requires c κs =
     let start : tie.Start = search in
@@ -40,7 +48,16 @@ lines-requires c κs =
     let x = start .args in
     let few = within-fits 7 (x .settings) (omega arith) in
     let some = within-fits 8 (x .posts) (omega arith) in
-    (omega (arith, n .within .ensures, few .0), omega (arith, n .within .ensures, few .1), omega (arith, m .within2 .ensures, some .1), no1 .if1 .left)
+    let nothing : tie.After-nothing-asked = search in
+    let least : 1 ≤ n .within .result = omega (arith, n .within .ensures, few .0) in
+    let most : n .within .result ≤ 7 = omega (arith, n .within .ensures, few .1) in (
+      least,
+      most,
+      omega (arith, m .within2 .ensures, some .1),
+      no1 .if1 .left,
+      search needs,
+      (nothingAsked, nothing .nothing-asked .ensures (n .within .result) least most),
+    )
 
 returns-2 : tie.Need-returns-2
 returns-2 c =
@@ -48,9 +65,12 @@ returns-2 c =
     let no1 : tie.Else1 = search in
     let n : tie.After-within = search in
     let m : tie.After-within2 = search in
+    let nothing : tie.After-nothing-asked = search in
     let x = start .args in
+    let few = within-fits 7 (x .settings) (omega arith) in
     whole-read (x .before) (x .passes) (x .settings) (x .posts) (x .text .now) (c .lines .result .told) (c .lines .result .desk)
-    (n .within .ensures) (m .within2 .ensures) (no1 .if1 .left) (c .lines .ensures)
+    (n .within .ensures) (m .within2 .ensures) (no1 .if1 .left)
+    (c .lines .ensures nothingAsked (nothing .nothing-asked .ensures (n .within .result) (omega (arith, n .within .ensures, few .0)) (omega (arith, n .within .ensures, few .1))))
 
 pub question-of-spec : {M : Type 1} → statement M
 question-of-spec =
@@ -62,5 +82,7 @@ question-of-spec =
     within-requires
     cast-within-2
     within-requires-2
+    add-lines
+    nothing-asked-requires
     lines-requires
     returns-2)
