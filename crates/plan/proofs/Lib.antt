@@ -1,5 +1,5 @@
 -- The laws of plans and ranks. First acts and states, then layers and the bound on ranks, ranks, two systems compared, tables of ranks, the
--- plan written and its bytes, the check, what is so after a run, demand 3 and its converse (`Twins`), and what shows a rank or a "cannot" by
+-- plan written, a system without the sets that change nothing, a plan's bytes, the check, what is so after a run, demand 3 and its converse (`Twins`), and what shows a rank or a "cannot" by
 -- computation.
 pub mod Acts
 pub mod States
@@ -16,6 +16,8 @@ pub mod Compare
 pub mod Certificate
 pub mod Table
 pub mod Written
+pub mod Unchanged
+pub mod Without
 pub mod Size
 pub mod Encode
 pub mod Check
