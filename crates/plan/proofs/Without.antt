@@ -109,6 +109,13 @@ leaving-height (set-then i q b p) k =
     omega (arith, unless-height (changesNothing (digit 7 k) (Set i q b)) i q b (leavingOut (setTo k i b) p), leaving-height p (setTo k i b))
 leaving-height (look-then i q p r) k = omega (arith, leaving-height p (lookAt k i false), leaving-height r (lookAt k i true))
 
+-- what permits more permits more without such sets too
+pub without-more : {S R : System} → PermitsMore S R → PermitsMore (without S) (without R)
+without-more {S} {R} more = record {
+  acts = λ k a t. let (m, some) = may-exactly S k a .0 t in may-exactly R k a .1 (more .acts k a m, some);
+  goals = more .goals;
+}
+
 -- ---- the same heights and ranks
 
 module _ (S : System) where
