@@ -1,10 +1,11 @@
 -- The theorems of the finder, that its answer is one alone, and how far its refusals' places and its plans go; then the laws of its functions: the
--- refusals in their order, what the tables tell, a step, the plan written, the answer from the start.
+-- refusals in their order, what the tables tell, an answer without the sets that change nothing, a step, the plan written, the answer from the start.
 pub mod Theorems
 pub mod Unique
 pub mod Small
 pub mod FindLaws
 mod Tables
+mod Without
 mod StepLaws
 mod PlanLaws
 mod StartLaws

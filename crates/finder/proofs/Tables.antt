@@ -1,4 +1,4 @@
--- The finder's tables tell the question's system: a bit of the two tables is a post that may act, the two halves of the goal tell where it is settled,
+-- The finder's tables tell the system of the question's rules: a bit of the two tables is a post that may act, the two halves of the goal tell where it is settled,
 -- and what `fill_ranks` leaves is a certified table, so its bytes are the ranks.
 use mathlib.Core.Path.{_≡_, sym, ap, _∙_, subst}
 use mathlib.Core.Logic.{inl, inr}
@@ -30,11 +30,11 @@ use Rattle.finder_sides.specs.Tables.{entry, actingOn, PostTables, Made, Learnt
 use Rattle.finder_sides.proofs.Tables.{post-known, goal-at}
 use Rattle.finder_ranks.specs.Ranks.{rank, May, HasLower, by-set, by-look}
 use Rattle.finder_ranks.specs.Fills.{RankTable, FillsRanks}
-use Rattle.question.specs.Question.{systemOf}
+use Rattle.question.specs.Question.{ruledSystem}
 use Rattle.question.specs.Asks.{ValidQuestion}
 use Rattle.question.specs.declared.Question.{Question}
 use Rattle.question.proofs.PermitLaws.{set-given, look-given}
-use Rattle.question.proofs.SystemLaws.{few, lawful}
+use Rattle.question.proofs.SystemLaws.{few, ruled-lawful}
 use Rattle.finder.specs.Finds.{RanksFilled}
 use Rattle.finder.specs.Tables.{TablesTell}
 use Rattle.finder.proofs.StepLaws.{some-bit}
@@ -85,32 +85,32 @@ module _ {book : List ℕ} {q : Question} {goal : Goal} {n m : ℕ} (v : ValidQu
   hk : PostTables n book (actingOn (q .team) 0) look-rule look
   hk = subst (λ (x : ℕ). PostTables x book (actingOn (q .team) 0) look-rule look) counts hk′
 
-  law : Lawful n (systemOf n book q goal)
-  law = lawful v
+  law : Lawful n (ruledSystem n book q goal)
+  law = ruled-lawful v
 
-  goal-is : (k : ℕ) → goalAt n made learnt k ≡ systemOf n book q goal .goal k
-  unfolding systemOf goalSettled
+  goal-is : (k : ℕ) → goalAt n made learnt k ≡ ruledSystem n book q goal .goal k
+  unfolding ruledSystem goalSettled
   goal-is k =
       goal-at (goal .make) (goal .learn) (subst (λ (x : ℕ). Made x (goal .make) made) counts hm′)
       (subst (λ (x : ℕ). Learnt x (goal .learn) learnt) counts hl′) k
 
-  set-may : (k i p : ℕ) (b : Bool) → i < n → p < 8 → may (systemOf n book q goal) k (Set i p b) ≡ bit (entry set i (nowSideNumber n k)) p
-  unfolding systemOf offered
+  set-may : (k i p : ℕ) (b : Bool) → i < n → p < 8 → may (ruledSystem n book q goal) k (Set i p b) ≡ bit (entry set i (nowSideNumber n k)) p
+  unfolding ruledSystem offered
   set-may k i p b h l =
       rw (lt-ltb i n h, set-given n book (q .held) (digit 7 k) i p b)
       (acting-set (q .team) (q .held) i p (known n (digit 7 k) (rule book i p set-rule)) ∙ sym (post-known hs k i p h l))
 
-  look-may : (k i p : ℕ) → i < n → p < 8 → digit 7 k i ≡ 0 → may (systemOf n book q goal) k (Look i p) ≡ bit (entry look i (nowSideNumber n k)) p
-  unfolding systemOf offered
+  look-may : (k i p : ℕ) → i < n → p < 8 → digit 7 k i ≡ 0 → may (ruledSystem n book q goal) k (Look i p) ≡ bit (entry look i (nowSideNumber n k)) p
+  unfolding ruledSystem offered
   look-may k i p h l z =
       rw (lt-ltb i n h, look-given n book (q .held) (digit 7 k) i p, eq-eqb (digit 7 k i) 0 z)
       (acting-look (q .team) i p (known n (digit 7 k) (rule book i p look-rule)) ∙ sym (post-known hk k i p h l))
 
-  set-in : (k i p : ℕ) (b : Bool) → T (may (systemOf n book q goal) k (Set i p b)) → May set n k i
+  set-in : (k i p : ℕ) (b : Bool) → T (may (ruledSystem n book q goal) k (Set i p b)) → May set n k i
   set-in k i p b t =
       mask-some (entry set i (nowSideNumber n k)) p (subst T (set-may k i p b (law .setting-of k (Set i p b) t) (law .post-of k (Set i p b) t)) t)
 
-  look-in : (k i p : ℕ) → T (may (systemOf n book q goal) k (Look i p)) → May look n k i
+  look-in : (k i p : ℕ) → T (may (ruledSystem n book q goal) k (Look i p)) → May look n k i
   look-in k i p t =
       mask-some (entry look i (nowSideNumber n k)) p
       (subst T (look-may k i p (law .setting-of k (Look i p) t) (law .post-of k (Look i p) t) (law .looks-at k i p t)) t)
@@ -119,7 +119,7 @@ module _ {book : List ℕ} {q : Question} {goal : Goal} {n m : ℕ} (v : ValidQu
     table : RankTable n made learnt set look old ranks
     table = filled .filled (record { some = omega (arith, v .sound .settings .least); few = few v; room = room })
 
-    act-of : (k h : ℕ) → HasLower n set look ranks k h → (a : Act) × Leads (systemOf n book q goal) (rank ranks) k h a
+    act-of : (k h : ℕ) → HasLower n set look ranks k h → (a : Act) × Leads (ruledSystem n book q goal) (rank ranks) k h a
     act-of k h (by-set i b l m r) =
         let p = mask-post (entry set i (nowSideNumber n k)) (hs .bytes i (nowSideNumber n k)) m in (
           Set i (p .0) b,
@@ -131,14 +131,14 @@ module _ {book : List ℕ} {q : Question} {goal : Goal} {n m : ℕ} (v : ValidQu
           record { allowed = subst T (sym (look-may k i (p .0) l (p .1) z)) (p .2); lower = λ x. after-a-look (λ x. rank ranks x < h) r s },
         )
 
-    lowers-of : (k h : ℕ) (a : Act) → Leads (systemOf n book q goal) (rank ranks) k h a → HasLower n set look ranks k h
+    lowers-of : (k h : ℕ) (a : Act) → Leads (ruledSystem n book q goal) (rank ranks) k h a → HasLower n set look ranks k h
     lowers-of k h (Set i p b) l =
         by-set i b (law .setting-of k (Set i p b) (l .allowed)) (set-in k i p b (l .allowed)) (l .lower _ (after-set i p b))
     lowers-of k h (Look i p) l =
         by-look i (law .setting-of k (Look i p) (l .allowed)) (look-in k i p (l .allowed)) (law .looks-at k i p (l .allowed))
         (l .lower _ (after-look i p false)) (l .lower _ (after-look i p true))
 
-    good : Certified (λ k. k < 7 ^ n) (systemOf n book q goal) (rank ranks)
+    good : Certified (λ k. k < 7 ^ n) (ruledSystem n book q goal) (rank ranks)
     good = record {
       most = table .most;
       settled = λ k h g. table .settled k h (subst T (sym (goal-is k)) g);
@@ -146,7 +146,7 @@ module _ {book : List ℕ} {q : Question} {goal : Goal} {n m : ℕ} (v : ValidQu
       least = λ k h a x l. table .least k h x (lowers-of k x a l);
     }
 
-    pub tables-tell : TablesTell n set look ranks (systemOf n book q goal)
+    pub tables-tell : TablesTell n set look ranks (ruledSystem n book q goal)
     tables-tell = record {
       few = few v;
       law = law;
@@ -155,5 +155,5 @@ module _ {book : List ℕ} {q : Question} {goal : Goal} {n m : ℕ} (v : ValidQu
       ranked = λ k h. certified law (numbers-closed law) good (few v) k h;
     }
 
-    pub ranks-filled : RanksFilled n (systemOf n book q goal) old ranks
+    pub ranks-filled : RanksFilled n (ruledSystem n book q goal) old ranks
     ranks-filled = record { size = table .same-length; ranks = tables-tell .ranked; later = table .beyond }
