@@ -4,8 +4,8 @@ pub mod Theorems
 pub mod Unique
 pub mod Small
 pub mod FindLaws
+pub mod Without
 mod Tables
-mod Without
 mod StepLaws
 mod PlanLaws
 mod StartLaws

@@ -1,5 +1,6 @@
 -- Which acts change nothing: a set does exactly where its outcome is the state that it is done at, and no look does. A digit that tells the value
--- stays as it is when that value is set, by the seven rows, and after a set the digit tells the value that was set.
+-- stays as it is when that value is set, by the seven rows, and after a set the digit tells the value that was set. And which acts may be done in a
+-- system without such sets: those that may be done and change something.
 use mathlib.Core.Path.{_≡_, sym, ap, _∙_}
 use mathlib.Core.Logic.{_↔_}
 use mathlib.Core.Bool.{Bool, true, false, not, _||_}
@@ -7,7 +8,7 @@ use Prim.Native.Nat.{ℕ, _<_}
 use lib.Dec.{T, eqb, eqb→eq}
 use Rattle.ground.specs.Digits.{digit, put}
 use Rattle.ground.specs.Search.{all}
-use Rattle.ground.proofs.Bools.{eq→eqb}
+use Rattle.ground.proofs.Bools.{eq→eqb, and-in, and-left, and-right}
 use Rattle.ground.proofs.Digits.{digit-lt, put-digit}
 use Rattle.ground.proofs.Search.{all-at}
 use Rattle.knowledge_acts.specs.Seven.{told, nowTold, afterSet}
@@ -16,9 +17,12 @@ use Rattle.knowledge_acts.specs.declared.act.Act.{Act}
 use Rattle.knowledge_acts.specs.declared.act.Act.the-variants.{Set, Look}
 use Rattle.knowledge_acts.proofs.Seven.{now-set, look-known}
 use Rattle.knowledge_acts.proofs.Outcomes.{set-here, look-here}
-use Rattle.plan.specs.Plans.{System, may, Lawful, Outcome, after-set, after-look}
-use Rattle.plan.specs.Without.{changesNothing}
+use Rattle.plan.specs.declared.Permit.{Permit}
+use Rattle.plan.specs.declared.Permit.the-variants.{Given, Denied, ChangesNothing}
+use Rattle.plan.specs.Plans.{System, given, may, Lawful, Outcome, after-set, after-look}
+use Rattle.plan.specs.Without.{changesNothing, unlessNothing, without}
 use Rattle.plan.proofs.Acts.{after-a-set}
+use Rattle.plan.proofs.Compare.{PermitsMore}
 use Rattle.plan.proofs.Unknowns.{seven}
 
 -- a digit that tells the value stays as it is when that value is set
@@ -48,3 +52,44 @@ nothing-exactly law k (Look i q) m = (
   λ f. absurd (look-known false
       (sym (look-here k i false) ∙ ap (λ (x : ℕ). digit 7 x i) (f (lookAt k i false) (after-look i q false)) ∙ law .looks-at k i q m)),
 )
+
+-- ---- which acts may be done in a system without such sets
+
+given-unless : (c : Bool) (said : Permit) → T (given (unlessNothing c said)) ↔ (T (given said) × T (not c))
+given-unless true Given = (λ t. absurd t, λ t. t .1)
+given-unless true (Denied why) = (λ t. absurd t, λ t. t .1)
+given-unless true ChangesNothing = (λ t. absurd t, λ t. t .1)
+given-unless false said = (λ t. (t, tt), λ t. t .0)
+
+module _ (S : System) where
+  -- those that may be done and change something
+  pub may-exactly : (k : ℕ) (a : Act) → T (may (without S) k a) ↔ (T (may S k a) × T (not (changesNothing (digit 7 k) a)))
+  may-exactly k a = (
+    λ t.
+        let g = given-unless (changesNothing (digit 7 k) a) (S .permits k a) .0 (and-right (S .offers a) (given (without S .permits k a)) t) in
+        (and-in (S .offers a) (given (S .permits k a)) (and-left (S .offers a) (given (without S .permits k a)) t) (g .0), g .1),
+    λ t. and-in (S .offers a) (given (without S .permits k a)) (and-left (S .offers a) (given (S .permits k a)) (t .0))
+        (given-unless (changesNothing (digit 7 k) a) (S .permits k a) .1 (and-right (S .offers a) (given (S .permits k a)) (t .0), t .1)),
+  )
+
+  pub permits-fewer : PermitsMore (without S) S
+  permits-fewer = record { acts = λ k a t. may-exactly k a .0 t .0; goals = λ k g. g }
+
+  -- no look changes nothing
+  pub look-may : (k i q : ℕ) → T (may S k (Look i q)) → T (may (without S) k (Look i q))
+  unfolding changesNothing
+  look-may k i q m = may-exactly k (Look i q) .1 (m, tt)
+
+  pub without-lawful : {n : ℕ} → Lawful n S → Lawful n (without S)
+  without-lawful law = record {
+    setting-of = λ k a t. law .setting-of k a (may-exactly k a .0 t .0);
+    post-of = λ k a t. law .post-of k a (may-exactly k a .0 t .0);
+    looks-at = λ k i q t. law .looks-at k i q (may-exactly k (Look i q) .0 t .0);
+  }
+
+-- what permits more permits more without such sets too
+pub without-more : {S R : System} → PermitsMore S R → PermitsMore (without S) (without R)
+without-more {S} {R} more = record {
+  acts = λ k a t. let (m, some) = may-exactly S k a .0 t in may-exactly R k a .1 (more .acts k a m, some);
+  goals = more .goals;
+}

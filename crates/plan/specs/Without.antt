@@ -1,8 +1,8 @@
--- "Where the team knows the present value, setting that same value is no longer an act." Which sets these are, any system without them, and a plan
--- with them left out. d i is the digit of setting i (knowledge_acts/specs/Seven).
-use mathlib.Core.Bool.{Bool, true, false}
+-- "Where the team knows the present value, setting that same value is no longer an act." Which sets these are (idle ones, for short), any system without
+-- them, and a plan with them left out. d i is the digit of setting i (knowledge_acts/specs/Seven).
+use mathlib.Core.Bool.{Bool, true, false, not}
 use Prim.Native.Nat.{ℕ}
-use lib.Dec.{eqb}
+use lib.Dec.{T, eqb}
 use Rattle.ground.specs.Digits.{digit}
 use Rattle.knowledge_acts.specs.Seven.{told, nowTold}
 use Rattle.knowledge_acts.specs.Acts.{setTo, lookAt}
@@ -31,6 +31,12 @@ without S = record {
   permits = λ k a. unlessNothing (changesNothing (digit 7 k) a) (S .permits k a);
   goal = S .goal;
 }
+
+-- no set of the plan from k changes nothing where it stands
+abbrev pub NoneIdle : ℕ → Plan → Type 0
+NoneIdle k stop = Unit
+NoneIdle k (set-then i q b p) = T (not (changesNothing (digit 7 k) (Set i q b))) × NoneIdle (setTo k i b) p
+NoneIdle k (look-then i q p r) = NoneIdle (lookAt k i false) p × NoneIdle (lookAt k i true) r
 
 -- a set and what follows, or what follows alone where the set changes nothing
 abbrev pub setUnless : Bool → ℕ → ℕ → Bool → Plan → Plan

@@ -24,7 +24,7 @@ use Rattle.knowledge.proofs.Known.{known-at}
 use Rattle.plan.specs.Plans.{System, given}
 use Rattle.plan.specs.Without.{without}
 use Rattle.plan.proofs.Compare.{PermitsMore}
-use Rattle.plan.proofs.Without.{without-more}
+use Rattle.plan.proofs.Unchanged.{without-more}
 use Rattle.question.specs.Permitted.{ruled}
 use Rattle.question.specs.Question.{systemOf, ruledSystem}
 use Rattle.question.specs.Rows.{TeamFits}

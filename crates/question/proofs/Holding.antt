@@ -20,7 +20,7 @@ use Rattle.plan.specs.Plans.{System, given, may, Plan, stop, set-then, look-the
 use Rattle.plan.proofs.Size.{works-permitted}
 use Rattle.plan.specs.Without.{without}
 use Rattle.plan.proofs.Compare.{PermitsMore, works-more, permitted-more}
-use Rattle.plan.proofs.Without.{without-more}
+use Rattle.plan.proofs.Unchanged.{without-more}
 use Rattle.question.specs.Permitted.{ruled}
 use Rattle.question.specs.Question.{systemOf, ruledSystem, startOf}
 use Rattle.question.specs.Asks.{ValidQuestion}

@@ -25,7 +25,7 @@ use Rattle.knowledge.proofs.Number.{sum-lt, sum-short}
 use Rattle.knowledge.specs.Judgement.{known}
 use Rattle.plan.specs.Plans.{System, given, may, Lawful}
 use Rattle.plan.specs.Without.{changesNothing, without}
-use Rattle.plan.proofs.Without.{may-exactly, without-lawful}
+use Rattle.plan.proofs.Unchanged.{may-exactly, without-lawful}
 use Rattle.question.specs.Permitted.{ruled, permitted}
 use Rattle.question.specs.Question.{systemOf, ruledSystem, startOf}
 use Rattle.question.specs.Rows.{TeamFits, KnownFits}

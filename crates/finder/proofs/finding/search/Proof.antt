@@ -111,9 +111,9 @@ returns c =
     let numbered = after-number in
     let ranked = after-fill-ranks in
     let start = started ranked in (
-      asked start (λ (S : System). RanksFilled (start .args .n) S (start .args .ranks .now) (ranked .fill-ranks .last .1 .1 .1 .1 .1 .0)) (ranks-without (filled ranked)),
+      asked start (λ (S : System). RanksFilled (start .args .n) S (start .args .ranks .now) (ranked .fill-ranks .last .1 .1 .1 .1 .1 .0)) (ranks-without .0 (filled ranked)),
       asked start (λ (S : System). AnswersFrom S (startOf (start .args .question)) (start .args .plan .now) (answered .from-start .result) (answered .from-start .last .1 .1 .1 .1 .1 .0))
-          (answers-without (systemHere start) (startOf (start .args .question)) (start .args .plan .now) (answered .from-start .result) (answered .from-start .last .1 .1 .1 .1 .1 .0)
+          (answers-without (systemHere start) (startOf (start .args .question)) (start .args .plan .now) (answered .from-start .result) (answered .from-start .last .1 .1 .1 .1 .1 .0) .0
           (subst (λ (x : ℕ). AnswersFrom (systemHere start) x (start .args .plan .now) (answered .from-start .result) (answered .from-start .last .1 .1 .1 .1 .1 .0))
           (start-here numbered) (answered .from-start .ensures (systemHere start) (told ranked)))),
     )
