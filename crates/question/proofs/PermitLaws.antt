@@ -4,13 +4,11 @@ use mathlib.Core.Path.{_≡_, refl, sym, ap, _∙_}
 use mathlib.Core.Bool.{Bool, true, false, not, _&&_, cond}
 use mathlib.Core.List.{List}
 use Prim.Native.Nat.{ℕ, _≤_}
-use native.Mathlib.Omega.{arith}
 use lib.Dec.{eqb, leb}
 use lib.ListN.{drop}
 use borrow.Author.Tests.{eq-eqb, ne-eqb, le-leb}
 use Rattle.ground.specs.Digits.{bit}
 use Rattle.ground.proofs.Bools.{and-false, and-true}
-use Rattle.refusal.specs.declared.Why.{Why}
 use Rattle.refusal.specs.declared.Why.the-variants.{KnownSetting, NotKnown, HeldSetting}
 use Rattle.book_block.specs.Rule.{rule, rulePlace}
 use Rattle.book_block.specs.declared.rule.Right.{Right}
@@ -27,6 +25,7 @@ use Rattle.plan.specs.Plans.{given}
 use Rattle.plan.specs.declared.Permit.{Permit}
 use Rattle.plan.specs.declared.Permit.the-variants.{Given, Denied, ChangesNothing}
 use Rattle.plan.specs.Without.{changesNothing, unlessNothing}
+use Rattle.plan.proofs.Unchanged.{unless-denied}
 use Rattle.question.specs.Permitted.{byRule, byLook, bySet, ruled, permitted}
 
 given-rule : (j : Judgement) → given (byRule j) ≡ holds j
@@ -65,18 +64,6 @@ pub rule-judged : (n : ℕ) (book : List ℕ) (d : ℕ → ℕ) (i q : ℕ) (rig
 unfolding rule
 rule-judged n book d i q right few place e =
     rw (le-leb n 7 few, place) at e ∙ sym (judgement-take n (nowSide d) (drop (rulePlace book i q right) book) few)
-
--- what is denied stays denied, whether it changes nothing or not: 32 is "after 18 at the same byte"
-pub unless-denied : (c : Bool) (why : Why) → unlessNothing c (Denied why) ≡ Denied why
-unless-denied true why = refl
-unless-denied false why = refl
-
--- and nothing else is denied
-pub denied-before : (c : Bool) (said : Permit) (why : Why) → unlessNothing c said ≡ Denied why → said ≡ Denied why
-denied-before true Given why e = let z : _≡_ {A = ℕ} 0 1 = cc in absurd (omega arith)
-denied-before true (Denied w) why e = e
-denied-before true ChangesNothing why e = e
-denied-before false said why e = e
 
 -- what `permits` has found, of up to seven settings
 module _ {n : ℕ} (few : n ≤ 7) (book : List ℕ) (held : ℕ) (d : ℕ → ℕ) (i q : ℕ) where

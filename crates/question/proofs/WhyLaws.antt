@@ -26,8 +26,8 @@ use Rattle.knowledge.proofs.JudgementLaws.{now-is, false-exactly, neither-exact
 use Rattle.plan.specs.declared.Permit.{Permit}
 use Rattle.plan.specs.declared.Permit.the-variants.{Given, Denied, ChangesNothing}
 use Rattle.plan.specs.Without.{changesNothing, unlessNothing}
+use Rattle.plan.proofs.Unchanged.{unless-denied, denied-before}
 use Rattle.question.specs.Permitted.{byRule, ruled, permitted}
-use Rattle.question.proofs.PermitLaws.{unless-denied, denied-before}
 
 -- the rule that an act stands under
 abbrev pub ruleOf : List ℕ → Act → List ℕ
