@@ -1,4 +1,4 @@
-// The C interface of Parjolenc, version 3.0, for x86-64 Linux: what a host has to know stands in this file.
+// The C interface of Parjolenc, version 3.1, for x86-64 Linux: what a host has to know stands in this file.
 //
 // `rt staticlib exports` writes the library. A program is compiled with it by the ordinary line, in C99 or C++11:
 //
@@ -8,9 +8,10 @@
 // digits 1 to 8. For each setting and post it has two rules: where the post may look at the setting, and where it may
 // set it. A rule is a formula over the settings. A question is a book, a team of posts, what the team knows at the
 // start, which settings are held, and a goal: a make formula that is to hold in the end, and learn formulas whose truth
-// at the start is to be known in the end. No set may touch a held setting, though looks may. The answer is a plan with
-// the least height, or "cannot". A shift is what a recorder wrote down: acts that were done, one after the other, and
-// what each look saw. It is run against a book on true settings.
+// at the start is to be known in the end. No set may touch a held setting, though looks may. A set to the value that the
+// team knows a setting has is no act. The answer is a plan with the least height, or "cannot". A shift is what a recorder
+// wrote down: acts that were done, one after the other, and what each look saw. It is run against a book on true
+// settings; there such a set is an act.
 //
 // A table is 16 bytes: bit v mod 8 of byte v / 8, lowest first, is the formula's truth where setting i is bit i of v.
 // Bits at or past 2^n are 0. `team` has bit q for the post with index q; `known` has bit i for setting i, `values` the
@@ -40,9 +41,9 @@ extern "C" {
 // The version of this interface, and not of what is behind it. The first number grows where a program that was
 // written for the header before it would not compile or would mean something else, the second where something is added.
 #define PJ_VERSION_FIRST 3
-#define PJ_VERSION_SECOND 0
+#define PJ_VERSION_SECOND 1
 #define PJ_VERSION (100 * PJ_VERSION_FIRST + PJ_VERSION_SECOND)
-#define PJ_VERSION_TEXT "3.0"
+#define PJ_VERSION_TEXT "3.1"
 
 typedef unsigned char pj_u8;
 typedef unsigned long long pj_u64;
@@ -76,7 +77,8 @@ static inline pj_u64 pj_length(pj_u64 result) { return result & 0xffff; }
 // The numbers of the refusals, and when each is given: the words of docs/CONTRACTS.md, "Every refusal", which names the
 // definitions. Of several the first is given, in this order: pj_formula_read 5, 1, the lowest place of 2 or 3, 4;
 // pj_book_read 6, 7, 8, 9, 15; pj_book_write 5, 8, 6, 9, 15; pj_book_salvage 6, 30, 15; pj_find 6 to 11, 31, 12 to 14;
-// pj_find_plain 6 to 11, 31, 12; pj_plan_check 6 to 11, 31, 12, 16, then the first of 17 to 21 as the plan is read;
+// pj_find_plain 6 to 11, 31, 12; pj_plan_check 6 to 11, 31, 12, 16, then the first of 17 to 21 and 32 as the plan is
+// read, 17, 18, 32 at the same byte;
 // pj_rules 24, line by line 22, 23 and the formula's 1 to 4, then 15. pj_sheet and pj_ask print theirs: pj_sheet 24,
 // line by line 22, 23 and 1 to 4, and 25 directly after line 1; pj_ask the book's 6 to 9, 24, line by line 22, 23 and 1
 // to 4, then 13. pj_replay gives the book's 6 to 9, 26, then record by record 27, 28, 29.
@@ -147,7 +149,9 @@ enum {
     // The head block of a book to be salvaged has a wrong check, or is one that 8 is given for.
     PJ_REFUSED_SALVAGE_HEAD = 30,
     // A setting at or past n is held.
-    PJ_REFUSED_HELD = 31
+    PJ_REFUSED_HELD = 31,
+    // A set that would be permitted is to the value that the team knows its setting has there. [its index]
+    PJ_REFUSED_CHANGES_NOTHING = 32
 };
 
 // pj_second of 18, one more than its second number: why the act is not permitted. They are judged in this order.

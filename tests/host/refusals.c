@@ -331,6 +331,13 @@ int main(void) {
     denied("held before not known", checked_held(1, guess, 2), 0, PJ_SECOND_HELD_SETTING);
     wrong[2] = PJ_ACT(PJ_SET_TRUE, 1, 1);
     denied("held before surely false", checked_held(2, wrong, 8), 2, PJ_SECOND_HELD_SETTING);
+    wrong[2] = PJ_ACT(PJ_SET_TRUE, 0, 1);
+    refused("32: a set to what was set", checked(wrong, 8), PJ_REFUSED_CHANGES_NOTHING, 2);
+    denied("held before 32", checked_held(1, wrong, 8), 1, PJ_SECOND_HELD_SETTING);
+    wrong[1] = PJ_ACT(PJ_SET_FALSE, 2, 1);
+    denied("18 before 32: a set to what was seen, by a rule that is surely false", checked(wrong, 8), 1,
+           PJ_SECOND_SURELY_FALSE);
+    wrong[1] = steps[1];
     static const pj_u8 look[3] = {PJ_ACT(PJ_LOOK, 2, 1), 0, 0};
     refused("a look at a held setting is as before", checked_held(4, look, 3), PJ_REFUSED_NOT_SETTLED, 1);
     test("where c is held b can't be made, nor by the second finder", asked_held(3, 0, 0, 4, 16, 0, sizeof ranks, 8) == 0);

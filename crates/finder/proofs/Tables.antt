@@ -1,4 +1,4 @@
--- The finder's tables tell the question's system: a bit of the two tables is a post that may act, the two halves of the goal tell where it is settled,
+-- The finder's tables tell the system of the question's rules: a bit of the two tables is a post that may act, the two halves of the goal tell where it is settled,
 -- and what `fill_ranks` or `fill_first` leaves is a certified table, so its bytes are the ranks.
 use mathlib.Core.Path.{_≡_, sym, ap, ap₂, _∙_, subst}
 use mathlib.Core.Logic.{inl, inr}
@@ -34,11 +34,11 @@ use Rattle.finder_sides.specs.Tables.{entry, actingOn, PostTables, Made, Learnt
 use Rattle.finder_sides.proofs.Tables.{post-known, goal-at}
 use Rattle.finder_ranks.specs.Ranks.{rank, May, HasLower, by-set, by-look}
 use Rattle.finder_ranks.specs.Fills.{RanksFit, RankTable, FillsRanks, FillsFirst, goalThen}
-use Rattle.question.specs.Question.{systemOf}
+use Rattle.question.specs.Question.{ruledSystem}
 use Rattle.question.specs.Asks.{ValidQuestion}
 use Rattle.question.specs.declared.Question.{Question}
 use Rattle.question.proofs.PermitLaws.{set-given, look-given}
-use Rattle.question.proofs.SystemLaws.{few, lawful}
+use Rattle.question.proofs.SystemLaws.{few, ruled-lawful}
 use Rattle.finder.specs.Finds.{RanksFilled}
 use Rattle.finder.specs.Tables.{TablesTell}
 use Rattle.finder.proofs.StepLaws.{some-bit}
@@ -89,32 +89,32 @@ module _ {book : List ℕ} {q : Question} {goal : Goal} {n m : ℕ} (v : ValidQu
   hk : PostTables n book (actingOn (q .team) 0) look-rule look
   hk = subst (λ (x : ℕ). PostTables x book (actingOn (q .team) 0) look-rule look) counts hk′
 
-  law : Lawful n (systemOf n book q goal)
-  law = lawful v
+  law : Lawful n (ruledSystem n book q goal)
+  law = ruled-lawful v
 
-  goal-is : (k : ℕ) → goalAt n made learnt k ≡ systemOf n book q goal .goal k
-  unfolding systemOf goalSettled
+  goal-is : (k : ℕ) → goalAt n made learnt k ≡ ruledSystem n book q goal .goal k
+  unfolding ruledSystem goalSettled
   goal-is k =
       goal-at (goal .make) (goal .learn) (subst (λ (x : ℕ). Made x (goal .make) made) counts hm′)
       (subst (λ (x : ℕ). Learnt x (goal .learn) learnt) counts hl′) k
 
-  set-may : (k i p : ℕ) (b : Bool) → i < n → p < 8 → may (systemOf n book q goal) k (Set i p b) ≡ bit (entry set i (nowSideNumber n k)) p
-  unfolding systemOf offered
+  set-may : (k i p : ℕ) (b : Bool) → i < n → p < 8 → may (ruledSystem n book q goal) k (Set i p b) ≡ bit (entry set i (nowSideNumber n k)) p
+  unfolding ruledSystem offered
   set-may k i p b h l =
       rw (lt-ltb i n h, set-given n book (q .held) (digit 7 k) i p b)
       (acting-set (q .team) (q .held) i p (known n (digit 7 k) (rule book i p set-rule)) ∙ sym (post-known hs k i p h l))
 
-  look-may : (k i p : ℕ) → i < n → p < 8 → digit 7 k i ≡ 0 → may (systemOf n book q goal) k (Look i p) ≡ bit (entry look i (nowSideNumber n k)) p
-  unfolding systemOf offered
+  look-may : (k i p : ℕ) → i < n → p < 8 → digit 7 k i ≡ 0 → may (ruledSystem n book q goal) k (Look i p) ≡ bit (entry look i (nowSideNumber n k)) p
+  unfolding ruledSystem offered
   look-may k i p h l z =
       rw (lt-ltb i n h, look-given n book (q .held) (digit 7 k) i p, eq-eqb (digit 7 k i) 0 z)
       (acting-look (q .team) i p (known n (digit 7 k) (rule book i p look-rule)) ∙ sym (post-known hk k i p h l))
 
-  set-in : (k i p : ℕ) (b : Bool) → T (may (systemOf n book q goal) k (Set i p b)) → May set n k i
+  set-in : (k i p : ℕ) (b : Bool) → T (may (ruledSystem n book q goal) k (Set i p b)) → May set n k i
   set-in k i p b t =
       mask-some (entry set i (nowSideNumber n k)) p (subst T (set-may k i p b (law .setting-of k (Set i p b) t) (law .post-of k (Set i p b) t)) t)
 
-  look-in : (k i p : ℕ) → T (may (systemOf n book q goal) k (Look i p)) → May look n k i
+  look-in : (k i p : ℕ) → T (may (ruledSystem n book q goal) k (Look i p)) → May look n k i
   look-in k i p t =
       mask-some (entry look i (nowSideNumber n k)) p
       (subst T (look-may k i p (law .setting-of k (Look i p) t) (law .post-of k (Look i p) t) (law .looks-at k i p t)) t)
@@ -123,7 +123,7 @@ module _ {book : List ℕ} {q : Question} {goal : Goal} {n m : ℕ} (v : ValidQu
   module _ {settled wanted : ℕ → Bool} (same : (k : ℕ) → k < 7 ^ n → settled k ≡ wanted k) {old ranks : List ℕ}
       (table : RankTable n settled set look old ranks) where
     abbrev S : System
-    S = withGoal (systemOf n book q goal) wanted
+    S = withGoal (ruledSystem n book q goal) wanted
 
     S-law : Lawful n S
     S-law = lawful-goal wanted law
@@ -174,10 +174,10 @@ module _ {book : List ℕ} {q : Question} {goal : Goal} {n m : ℕ} (v : ValidQu
   -- ---- one leg
 
   module _ {old ranks : List ℕ} (filled : FillsRanks n made learnt set look old ranks) (room : 7 ^ n ≤ length old) where
-    pub tables-tell : TablesTell n set look ranks (systemOf n book q goal)
+    pub tables-tell : TablesTell n set look ranks (ruledSystem n book q goal)
     tables-tell = told (λ k h. goal-is k) (filled .filled (fits room))
 
-    pub ranks-filled : RanksFilled n (systemOf n book q goal) old ranks
+    pub ranks-filled : RanksFilled n (ruledSystem n book q goal) old ranks
     ranks-filled = counted (λ k h. goal-is k) (filled .filled (fits room))
 
   -- ---- the first of two legs, before the system R of the second, whose ranks are in `second`
@@ -195,14 +195,14 @@ module _ {book : List ℕ} {q : Question} {goal : Goal} {n m : ℕ} (v : ValidQu
         ]))
         (λ t. false→T (ne-eqb (rank second k) 255 (λ e. omega (arith, can .1 t))))
 
-    goal-then : (k : ℕ) → k < 7 ^ n → goalThen n made learnt second k ≡ firstLeg n (systemOf n book q goal) R .goal k
+    goal-then : (k : ℕ) → k < 7 ^ n → goalThen n made learnt second k ≡ firstLeg n (ruledSystem n book q goal) R .goal k
     unfolding goalThen firstLeg
     goal-then k h = ap₂ (λ (a b : Bool). a && b) (goal-is k) (has k h)
 
-    pub first-tells : TablesTell n set look ranks (firstLeg n (systemOf n book q goal) R)
+    pub first-tells : TablesTell n set look ranks (firstLeg n (ruledSystem n book q goal) R)
     unfolding firstLeg
     first-tells = told goal-then (filled .filled (fits there) (fits room))
 
-    pub first-filled : RanksFilled n (firstLeg n (systemOf n book q goal) R) old ranks
+    pub first-filled : RanksFilled n (firstLeg n (ruledSystem n book q goal) R) old ranks
     unfolding firstLeg
     first-filled = counted goal-then (filled .filled (fits there) (fits room))

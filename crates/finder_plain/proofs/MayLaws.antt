@@ -19,7 +19,7 @@ use Rattle.knowledge.specs.Judgement.{judgement, holds, known}
 use Rattle.knowledge.specs.declared.judgement.Judgement.{Judgement}
 use Rattle.knowledge.proofs.Number.{digits-are}
 use Rattle.plan.specs.Plans.{given}
-use Rattle.question.specs.Permitted.{permitted}
+use Rattle.question.specs.Permitted.{ruled}
 use Rattle.question.proofs.PermitLaws.{set-given, look-given}
 use Rattle.finder_plain.specs.Tries.{mayDo, byPost, Someone}
 
@@ -31,28 +31,28 @@ unfolding known
 rule-known n d table e f = ap holds (sym f ∙ e)
 
 module _ (n : ℕ) (book : List ℕ) (held : ℕ) (d : ℕ → ℕ) {a : Act} {i q : ℕ} {r : Bool} where
-  pub set-permitted : {b : Bool} → a ≡ Set i q b → bit held i ≡ false → r ≡ known n d (rule book i q set-rule) → r ≡ given (permitted n book held d a)
+  pub set-permitted : {b : Bool} → a ≡ Set i q b → bit held i ≡ false → r ≡ known n d (rule book i q set-rule) → r ≡ given (ruled n book held d a)
   set-permitted {b} e free f =
       rw e (f ∙ sym (and-true _) ∙ ap (λ (h : Bool). known n d (rule book i q set-rule) && not h) (sym free) ∙ sym (set-given n book held d i q b))
 
-  pub look-permitted : a ≡ Look i q → d i ≡ 0 → r ≡ known n d (rule book i q look-rule) → r ≡ given (permitted n book held d a)
+  pub look-permitted : a ≡ Look i q → d i ≡ 0 → r ≡ known n d (rule book i q look-rule) → r ≡ given (ruled n book held d a)
   look-permitted e z f = rw e (f ∙ sym (and-true _) ∙ ap (λ (b : Bool). known n d (rule book i q look-rule) && b) (sym (eq-eqb (d i) 0 z)) ∙ sym (look-given n book held d i q))
 
 module _ (n : ℕ) (book : List ℕ) (held : ℕ) (d : ℕ → ℕ) {a : Act} {i q : ℕ} where
-  pub set-held : {b : Bool} → a ≡ Set i q b → bit held i ≡ true → false ≡ given (permitted n book held d a)
+  pub set-held : {b : Bool} → a ≡ Set i q b → bit held i ≡ true → false ≡ given (ruled n book held d a)
   set-held {b} e h =
       rw e (sym (set-given n book held d i q b ∙ ap (λ (x : Bool). known n d (rule book i q set-rule) && not x) h ∙ and-false (known n d (rule book i q set-rule))))
 
-  pub look-barred : a ≡ Look i q → (d i ≡ 0 → ⊥) → false ≡ given (permitted n book held d a)
+  pub look-barred : a ≡ Look i q → (d i ≡ 0 → ⊥) → false ≡ given (ruled n book held d a)
   look-barred e ne =
       rw e (sym (look-given n book held d i q ∙ ap (λ (b : Bool). known n d (rule book i q look-rule) && b) (ne-eqb (d i) 0 ne) ∙ and-false (known n d (rule book i q look-rule))))
 
 -- the state of a number has its digits
 pub at-number : (n : ℕ) (book : List ℕ) (team held k : ℕ) (a : Act) {ds : List ℕ} {r : Bool} → k < 7 ^ 7 → ds ≡ digitsOf k
-    → r ≡ (offered n team a && given (permitted n book held (digitIn ds) a)) → r ≡ mayDo n book team held k a
+    → r ≡ (offered n team a && given (ruled n book held (digitIn ds) a)) → r ≡ mayDo n book team held k a
 at-number n book team held k a small state e =
-    e ∙ ap (λ (l : List ℕ). offered n team a && given (permitted n book held (digitIn l) a)) state
-    ∙ ap (λ (d : ℕ → ℕ). offered n team a && given (permitted n book held d a)) (digits-are k small)
+    e ∙ ap (λ (l : List ℕ). offered n team a && given (ruled n book held (digitIn l) a)) state
+    ∙ ap (λ (d : ℕ → ℕ). offered n team a && given (ruled n book held d a)) (digits-are k small)
 
 -- ---- a search over the posts
 

@@ -16,7 +16,7 @@ use Rattle.plan.specs.Plans.{System, may, Outcome}
 use Rattle.plan.specs.Layers.{below}
 use Rattle.plan.proofs.Layers.{layer-goal}
 use Rattle.plan.proofs.Certificate.{outcome-lt}
-use Rattle.question.specs.Question.{systemOf}
+use Rattle.question.specs.Question.{ruledSystem}
 use Rattle.question.specs.declared.Question.{Question}
 use Rattle.finder_plain.specs.Tries.{mayDo, Asks, Blocked, Opens, Foresees}
 use Rattle.finder_plain.specs.Entries.{Bars, Searches, AsksGoal, Grown, Raised, Searched, SearchedBy}
@@ -31,25 +31,25 @@ no-yes e = let z : _≡_ {A = ℕ} 0 1 = cc in absurd (omega arith)
 yes-no : {A : Type 0} → true ≡ false → A
 yes-no e = let z : _≡_ {A = ℕ} 0 1 = cc in absurd (omega arith)
 
--- ---- the question's system
+-- ---- the system of the question's rules
 
 module _ (n : ℕ) (book : List ℕ) (q : Question) (goal : Goal) (k : ℕ) where
   -- what lies ahead by the rules lies ahead in the system
   pub in-system : (entries : List ℕ) (a : Act) (h : ℕ) {r : Ahead} (s : Ahead) → r ≡ s → Foresees (mayDo n book (q .team) (q .held) k) entries k a h r
-      → Foresees (may (systemOf n book q goal) k) entries k a h s
-  unfolding systemOf
+      → Foresees (may (ruledSystem n book q goal) k) entries k a h s
+  unfolding ruledSystem
   in-system entries a h s e f = subst (Foresees (mayDo n book (q .team) (q .held) k) entries k a h) e f
 
-  pub goal-yes : {r : Bool} → r ≡ goalSettled n goal k → r ≡ true → T (systemOf n book q goal .goal k)
-  unfolding systemOf
+  pub goal-yes : {r : Bool} → r ≡ goalSettled n goal k → r ≡ true → T (ruledSystem n book q goal .goal k)
+  unfolding ruledSystem
   goal-yes e f = true→T (sym e ∙ f)
 
-  pub goal-no : {r : Bool} → r ≡ goalSettled n goal k → r ≡ false → T (systemOf n book q goal .goal k) → ⊥
-  unfolding systemOf
+  pub goal-no : {r : Bool} → r ≡ goalSettled n goal k → r ≡ false → T (ruledSystem n book q goal .goal k) → ⊥
+  unfolding ruledSystem
   goal-no e f g = both (goalSettled n goal k) g (false→T (sym e ∙ f))
 
-  pub asks-goal : {entries : List ℕ} → Searches n (systemOf n book q goal) k entries → AsksGoal n goal k entries
-  unfolding systemOf
+  pub asks-goal : {entries : List ℕ} → Searches n (ruledSystem n book q goal) k entries → AsksGoal n goal k entries
+  unfolding ruledSystem
   asks-goal s = record { few = s .few; there = states-most (s .few) (s .state); unsettled = λ l g. s .bars .unsettled k (s .state) l g }
 
 pub not-settled : {n k : ℕ} {goal : Goal} {entries : List ℕ} → AsksGoal n goal k entries → 0 < getD entries k 0 → false ≡ goalSettled n goal k

@@ -24,7 +24,7 @@ use Rattle.knowledge.proofs.Number.{digit-in}
 use Rattle.plan.specs.Plans.{System, given, may, Lawful, Outcome, after-set, after-look}
 use Rattle.plan.specs.Layers.{below}
 use Rattle.plan.proofs.Layers.{layer-act}
-use Rattle.question.specs.Permitted.{permitted}
+use Rattle.question.specs.Permitted.{ruled}
 use Rattle.question.proofs.PermitLaws.{look-given}
 use Rattle.question.proofs.QuestionLaws.{bits-low}
 use Rattle.finder_plain.specs.Tries.{mayDo, byPost, Someone, Asks, Blocked, Opens, Foresees}
@@ -141,7 +141,7 @@ look-opens e f s = record {
 pub look-known : (n : ℕ) (book : List ℕ) (team held : ℕ) {k i h : ℕ} {entries : List ℕ} → (digit 7 k i ≡ 0 → ⊥) → Blocked (mayDo n book team held k) entries k (Look i 0) h
 look-known n book team held {k} {i} ne = record {
   outcome = λ q t.
-      let g = and-right (offered n team (Look i q)) (given (permitted n book held (digit 7 k) (Look i q))) t in
+      let g = and-right (offered n team (Look i q)) (given (ruled n book held (digit 7 k) (Look i q))) t in
       absurd (ne (eqb→eq (digit 7 k i) 0
       (and-right (known n (digit 7 k) (rule book i q look-rule)) (eqb (digit 7 k i) 0) (rw (look-given n book held (digit 7 k) i q) at g))));
 }
@@ -174,9 +174,9 @@ module _ {n k i : ℕ} {entries : List ℕ} (a : Asks n k i entries) where
 pub post-few : (n : ℕ) (book : List ℕ) (team held k : ℕ) (a : Act) (q : ℕ) → team < 256 → T (mayDo n book team held k (byPost a q)) → q < 8
 unfolding offered
 post-few n book team held k (Set i p b) q l t =
-    bits-low 8 team l q (and-right (ltb i n) (bit team q) (and-left (ltb i n && bit team q) (given (permitted n book held (digit 7 k) (Set i q b))) t))
+    bits-low 8 team l q (and-right (ltb i n) (bit team q) (and-left (ltb i n && bit team q) (given (ruled n book held (digit 7 k) (Set i q b))) t))
 post-few n book team held k (Look i p) q l t =
-    bits-low 8 team l q (and-right (ltb i n) (bit team q) (and-left (ltb i n && bit team q) (given (permitted n book held (digit 7 k) (Look i q))) t))
+    bits-low 8 team l q (and-right (ltb i n) (bit team q) (and-left (ltb i n && bit team q) (given (ruled n book held (digit 7 k) (Look i q))) t))
 
 -- ---- an act by its case
 

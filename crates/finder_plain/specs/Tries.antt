@@ -11,13 +11,13 @@ use Rattle.knowledge_acts.specs.Acts.{offered}
 use Rattle.knowledge_acts.specs.declared.act.Act.{Act}
 use Rattle.knowledge_acts.specs.declared.act.Act.the-variants.{Set, Look}
 use Rattle.plan.specs.Plans.{given, Outcome}
-use Rattle.question.specs.Permitted.{permitted}
+use Rattle.question.specs.Permitted.{ruled}
 use Rattle.finder_plain.specs.declared.ahead.Ahead.{Ahead}
 use Rattle.finder_plain.specs.declared.ahead.Ahead.the-variants.{Nothing, One, Two}
 
 -- the team may do the act at the state k, by the book's rules and the held settings: what `may` says of a question's system
 abbrev pub mayDo : ℕ → List ℕ → ℕ → ℕ → ℕ → Act → Bool
-mayDo n book team held k a = offered n team a && given (permitted n book held (digit 7 k) a)
+mayDo n book team held k a = offered n team a && given (ruled n book held (digit 7 k) a)
 
 -- "posts whose acts have the same outcome are one try": the act by another post
 abbrev pub byPost : Act → ℕ → Act

@@ -11,7 +11,7 @@ use refusal::Refusal;
 ghost use mathlib.Core.Path.{_≡_};
 ghost use Prim.Native.Nat.{suc, _-_, _^_, _≤_};
 ghost use Rattle.knowledge.specs.Goal.{goalOf};
-ghost use Rattle.question.specs.Question.{systemOf};
+ghost use Rattle.question.specs.Question.{ruledSystem};
 ghost use Rattle.finder_plain.specs.Entries.{Searches};
 ghost use Rattle.finder_plain.specs.Finds.{AnswersPlainly, FindsPlain};
 
@@ -43,8 +43,8 @@ fn first_height(
     start: u32,
     entries: &mut [u8; STATES],
 ) -> PlainAnswer
-    requires { ⌜ Searches n (systemOf n (now book) question (goalOf (now make) (now learn))) start (now entries) ⌝ }
-    ensures { λ r. ⌜ AnswersPlainly (systemOf n (now (book .entry)) question (goalOf (now (make .entry)) (now (learn .entry)))) start r ⌝ }
+    requires { ⌜ Searches n (ruledSystem n (now book) question (goalOf (now make) (now learn))) start (now entries) ⌝ }
+    ensures { λ r. ⌜ AnswersPlainly (ruledSystem n (now (book .entry)) question (goalOf (now (make .entry)) (now (learn .entry)))) start r ⌝ }
 {
     let count = heights(n);
     let mut height: u8 = 0;

@@ -18,7 +18,7 @@ ghost use Rattle.knowledge_acts.specs.Acts.{offered};
 ghost use Rattle.knowledge.specs.Number.{digitIn};
 ghost use Rattle.knowledge.specs.Judgement.{known};
 ghost use Rattle.plan.specs.Plans.{given};
-ghost use Rattle.question.specs.Permitted.{permitted};
+ghost use Rattle.question.specs.Permitted.{ruled};
 ghost use Rattle.finder_plain.specs.Tries.{mayDo, Someone};
 
 // The posts that there can be.
@@ -42,10 +42,11 @@ fn holds(state: Knowledge, n: u8, book: &[u8], setting: u8, post: u8, right: Rig
     }
 }
 
-// Whether the act is permitted, by the held settings and the book's rules.
+// Whether the act is permitted, by the held settings and the book's rules: a set that changes nothing too, which
+// `foresee` leaves out before this is asked.
 fn is_permitted(state: Knowledge, n: u8, book: &[u8], held: u8, act: Act) -> bool
     requires { ⌜ n ≤ 7 ⌝ }
-    ensures { λ r. ⌜ r ≡ given (permitted n (now (book .entry)) held (digitIn (state .digits)) act) ⌝ }
+    ensures { λ r. ⌜ r ≡ given (ruled n (now (book .entry)) held (digitIn (state .digits)) act) ⌝ }
 {
     match act {
         Act::Set {
@@ -70,7 +71,7 @@ fn is_permitted(state: Knowledge, n: u8, book: &[u8], held: u8, act: Act) -> boo
 // Whether the act is one of the team's, and permitted.
 fn may_do(state: Knowledge, n: u8, book: &[u8], team: u8, held: u8, act: Act) -> bool
     requires { ⌜ n ≤ 7 ⌝ }
-    ensures { λ r. ⌜ r ≡ (offered n team act && given (permitted n (now (book .entry)) held (digitIn (state .digits)) act)) ⌝ }
+    ensures { λ r. ⌜ r ≡ (offered n team act && given (ruled n (now (book .entry)) held (digitIn (state .digits)) act)) ⌝ }
 {
     if !act.offered(n, team) {
         return false;

@@ -13,7 +13,7 @@ ghost use mathlib.Core.Path.{_≡_};
 ghost use Prim.Native.Nat.{_<_};
 ghost use Rattle.knowledge_acts.specs.Acts.{settingOf};
 ghost use Rattle.knowledge.specs.Goal.{goalOf, goalSettled};
-ghost use Rattle.question.specs.Question.{systemOf};
+ghost use Rattle.question.specs.Question.{ruledSystem};
 ghost use Rattle.finder_plain.specs.Entries.{AsksGoal, Searches, Raised, Searched, SearchedBy};
 
 // Whether the goal is settled at the state k. Where its entry is above 0 it is not, and is not judged again.
@@ -50,8 +50,8 @@ fn works_by(
     h: u8,
     entries: &mut [u8; STATES],
 ) -> bool
-    requires { ⌜ Searches n (systemOf n (now book) question (goalOf (now make) (now learn))) k (now entries) × (settingOf act < n) ⌝ }
-    ensures { λ r. ⌜ SearchedBy n (systemOf n (now (book .entry)) question (goalOf (now (make .entry)) (now (learn .entry)))) k act h (now (entries .entry)) (now (entries .exit)) r ⌝ }
+    requires { ⌜ Searches n (ruledSystem n (now book) question (goalOf (now make) (now learn))) k (now entries) × (settingOf act < n) ⌝ }
+    ensures { λ r. ⌜ SearchedBy n (ruledSystem n (now (book .entry)) question (goalOf (now (make .entry)) (now (learn .entry)))) k act h (now (entries .entry)) (now (entries .exit)) r ⌝ }
 {
     match foresee(n, book, question.team, question.held, k, act, h, entries) {
         Ahead::Nothing => false,
@@ -76,8 +76,8 @@ pub(crate) fn works_below(
     h: u8,
     entries: &mut [u8; STATES],
 ) -> bool
-    requires { ⌜ Searches n (systemOf n (now book) question (goalOf (now make) (now learn))) k (now entries) ⌝ }
-    ensures { λ r. ⌜ Searched n (systemOf n (now (book .entry)) question (goalOf (now (make .entry)) (now (learn .entry)))) k h (now (entries .entry)) (now (entries .exit)) r ⌝ }
+    requires { ⌜ Searches n (ruledSystem n (now book) question (goalOf (now make) (now learn))) k (now entries) ⌝ }
+    ensures { λ r. ⌜ Searched n (ruledSystem n (now (book .entry)) question (goalOf (now (make .entry)) (now (learn .entry)))) k h (now (entries .entry)) (now (entries .exit)) r ⌝ }
 {
     if h <= entries[k as usize] {
         return false;

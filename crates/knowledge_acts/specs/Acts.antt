@@ -1,6 +1,5 @@
--- "Acts, by a post of the team: set a setting false or true, ..; look, .. A look has two outcomes, digits 3 and 6. Setting a value
--- already there is an act." And "Plans as bytes": the byte of an act. Where an act is permitted is told by what is known of its rule
--- (question/specs/Permitted).
+-- "Acts, by a post of the team: set a setting false or true, ..; look, .. A look has two outcomes, digits 3 and 6." And "Plans as bytes": the byte
+-- of an act. Where an act is permitted is told by what is known of its rule and of its setting (question/specs/Permitted).
 use mathlib.Core.Bool.{Bool, true, false, _&&_}
 use Prim.Native.Nat.{ℕ, zero, suc, _+_, _*_, _/_, _%_, _-_}
 use lib.Dec.{ltb, leb}

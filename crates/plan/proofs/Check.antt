@@ -16,16 +16,17 @@ use Rattle.knowledge_acts.specs.declared.act.Named.{Named}
 use Rattle.knowledge_acts.specs.declared.act.Named.the-variants.{One, Nothing}
 use Rattle.refusal.specs.declared.Why.{Why}
 use Rattle.plan.specs.declared.Permit.{Permit}
-use Rattle.plan.specs.declared.Permit.the-variants.{Given, Denied}
+use Rattle.plan.specs.declared.Permit.the-variants.{Given, Denied, ChangesNothing}
 use Rattle.plan.specs.Plans.{System, given, may, Lawful, Plan, stop, set-then, look-then, Works}
 use Rattle.plan.specs.Bytes.{encode}
-use Rattle.plan.specs.Check.{Fault, no-act, not-permitted, not-settled, Verdict, accepted, faulty, Reading, goes-on, fails, outcomes, readAct, readNamed, readStop, readByte, judge, check}
+use Rattle.plan.specs.Check.{Fault, no-act, not-permitted, changes-nothing, not-settled, Verdict, accepted, faulty, Reading, goes-on, fails, outcomes, readAct, readNamed, readStop, readByte, judge, check}
 use Rattle.knowledge_acts.proofs.Acts.{act-of-byte}
 use Rattle.plan.proofs.Bytes.{byte-of-act, byte-positive}
 
 given-only : (p : Permit) → T (given p) → p ≡ Given
 given-only Given t = refl
 given-only (Denied why) t = absurd t
+given-only ChangesNothing t = absurd t
 
 module _ (S : System) (k : ℕ) where
   -- what a byte comes to, case by case
@@ -49,6 +50,10 @@ module _ (S : System) (k : ℕ) where
       → readByte S k c ≡ fails (not-permitted why)
   read-forbidden c a why h e o p = read-named c h ∙ rw (e, T→true (S .offers a) o, p)
 
+  pub read-idle : (c : ℕ) (a : Act) → 0 < c → actOf c ≡ One a → T (S .offers a) → S .permits k a ≡ ChangesNothing
+      → readByte S k c ≡ fails changes-nothing
+  read-idle c a h e o p = read-named c h ∙ rw (e, T→true (S .offers a) o, p)
+
   pub read-act : (c : ℕ) (a : Act) → 0 < c → actOf c ≡ One a → T (may S k a) → readByte S k c ≡ goes-on (outcomes k a)
   read-act c a h e m =
       read-named c h
@@ -70,6 +75,7 @@ module _ (S : System) (k : ℕ) where
       go : (o : Bool) (p : Permit) → S .offers a ≡ o → S .permits k a ≡ p → readAct o p (outcomes k a) ≡ goes-on new → Good c new
       go false p eo ep s = absurd (let z : _≡_ {A = ℕ} 0 1 = cc in omega arith)
       go true (Denied why) eo ep s = absurd (let z : _≡_ {A = ℕ} 0 1 = cc in omega arith)
+      go true ChangesNothing eo ep s = absurd (let z : _≡_ {A = ℕ} 0 1 = cc in omega arith)
       go true Given eo ep s =
           let same : outcomes k a ≡ new = cc in
           rw (← same) (good-act c a h e (and-in (S .offers a) (given (S .permits k a)) (true→T eo) (true→T (ap given ep))))

@@ -1,6 +1,6 @@
 -- The laws of plans and ranks. First acts and states, then layers and the bound on ranks, ranks, two systems compared, two legs, tables of ranks, the
--- plan written and its bytes, the check, what is so after a run, demand 3 and its converse (`Twins`), and what shows a rank or a "cannot" by
--- computation.
+-- plan written and its bytes, a system without the sets that change nothing (`Unchanged`, `LeavingOut`, `Without`), the check, what is so after a run,
+-- demand 3 and its converse (`Twins`), and what shows a rank or a "cannot" by computation.
 pub mod Acts
 pub mod States
 pub mod Bytes
@@ -18,6 +18,9 @@ pub mod Certificate
 pub mod Table
 pub mod Written
 pub mod Size
+pub mod Unchanged
+pub mod LeavingOut
+pub mod Without
 pub mod Encode
 pub mod Check
 pub mod Faults

@@ -1,4 +1,4 @@
--- The verdict on a plan's bytes: "the first fault in reading order, 17 before 18". Reading goes on from a list of pending states:
+-- The verdict on a plan's bytes: "the first fault in reading order, 17 before 18", and 32 after 18. Reading goes on from a list of pending states:
 -- the next byte is for the first of them; the true outcome of a look waits behind the false one.
 use mathlib.Core.Bool.{Bool, true, false}
 use mathlib.Core.List.{List, [], _∷_, _++_}
@@ -11,13 +11,15 @@ use Rattle.knowledge_acts.specs.declared.act.Named.the-variants.{One, Nothing}
 use Rattle.refusal.specs.declared.Why.{Why}
 use Rattle.plan.specs.Plans.{System}
 use Rattle.plan.specs.declared.Permit.{Permit}
-use Rattle.plan.specs.declared.Permit.the-variants.{Given, Denied}
+use Rattle.plan.specs.declared.Permit.the-variants.{Given, Denied, ChangesNothing}
 
 pub data Fault : Type 0 where
   -- 17 "byte names no act of this book and team"
   no-act : Fault
   -- 18 "act not permitted here, or look at a known setting", and why
   not-permitted : Why → Fault
+  -- 32 a set to the value that the team knows is there: "32 with the index, after 18 at the same byte"
+  changes-nothing : Fault
   -- 19 "stop where the goal isn't settled"
   not-settled : Fault
   -- 20 "plan ends too soon", at its length
@@ -41,10 +43,11 @@ abbrev pub outcomes : ℕ → Act → List ℕ
 outcomes k (Set i q b) = setTo k i b ∷ []
 outcomes k (Look i q) = lookAt k i false ∷ lookAt k i true ∷ []
 
--- an act: is it of this book and team, and is it permitted here: "17 before 18"
+-- an act: is it of this book and team, is it permitted here, and does it change something: "17 before 18", and 32 "after 18"
 abbrev pub readAct : Bool → Permit → List ℕ → Reading
 readAct false permit new = fails no-act
 readAct true (Denied why) new = fails (not-permitted why)
+readAct true ChangesNothing new = fails changes-nothing
 readAct true Given new = goes-on new
 
 abbrev pub readNamed : System → ℕ → Named → Reading

@@ -10,13 +10,14 @@ use Rattle.knowledge_acts.specs.Acts.{settingOf, postOf, setTo, lookAt}
 use Rattle.knowledge_acts.specs.declared.act.Act.{Act}
 use Rattle.knowledge_acts.specs.declared.act.Act.the-variants.{Set, Look}
 use Rattle.plan.specs.declared.Permit.{Permit}
-use Rattle.plan.specs.declared.Permit.the-variants.{Given, Denied}
+use Rattle.plan.specs.declared.Permit.the-variants.{Given, Denied, ChangesNothing}
 
 abbrev pub given : Permit → Bool
 given Given = true
 given (Denied why) = false
+given ChangesNothing = false
 
--- what a question fixes: the acts of its book and team (any other is 17), those that are permitted at a state (else 18, and why), and the
+-- what a question fixes: the acts of its book and team (any other is 17), those that are permitted at a state (else 18, and why, or 32), and the
 -- states at which the goal is settled (else 19)
 pub record System : Type 0 where
   pub offers : Act → Bool

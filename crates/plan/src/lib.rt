@@ -8,4 +8,6 @@ pub enum Permit {
     Given,
     // It is not permitted, and why.
     Denied(Why),
+    // It would be, but it sets the value that the team knows is already there.
+    ChangesNothing,
 }

@@ -1,4 +1,4 @@
--- What a byte can come to at a state: a stop, an act that may be done, or one of three faults, each with its reason in paper 01's words. By the
+-- What a byte can come to at a state: a stop, an act that may be done, or one of four faults, each with its reason in paper 01's words. By the
 -- tests that the reading makes.
 use mathlib.Core.Path.{_≡_, refl, ap, subst}
 use mathlib.Core.Logic.{inl, inr, _↔_}
@@ -14,11 +14,11 @@ use Rattle.knowledge_acts.specs.declared.act.Act.the-variants.{Set, Look}
 use Rattle.knowledge_acts.specs.declared.act.Named.{Named}
 use Rattle.knowledge_acts.specs.declared.act.Named.the-variants.{One, Nothing}
 use Rattle.plan.specs.declared.Permit.{Permit}
-use Rattle.plan.specs.declared.Permit.the-variants.{Given, Denied}
+use Rattle.plan.specs.declared.Permit.the-variants.{Given, Denied, ChangesNothing}
 use Rattle.plan.specs.Plans.{System, given, may}
-use Rattle.plan.specs.Check.{Fault, no-act, not-permitted, not-settled, too-soon, left-over}
+use Rattle.plan.specs.Check.{Fault, no-act, not-permitted, changes-nothing, not-settled, too-soon, left-over}
 use Rattle.plan.specs.Check.{Reading, goes-on, fails, outcomes, readAct, readNamed, readStop, readByte}
-use Rattle.plan.proofs.Check.{read-unsettled, read-nothing, read-other, read-forbidden}
+use Rattle.plan.proofs.Check.{read-unsettled, read-nothing, read-other, read-forbidden, read-idle}
 
 -- what is wrong with the byte c at the state k; a byte is never "too soon" or "after a whole plan" by itself
 abbrev pub FaultAt : System → ℕ → ℕ → Fault → Type 0
@@ -26,6 +26,8 @@ abbrev pub FaultAt : System → ℕ → ℕ → Fault → Type 0
 FaultAt S k c no-act = (0 < c) × ((a : Act) → actOf c ≡ One a → T (S .offers a) → ⊥)
 -- 18 "act not permitted here, or look at a known setting", and why
 FaultAt S k c (not-permitted why) = (a : Act) × (actOf c ≡ One a) × T (S .offers a) × (S .permits k a ≡ Denied why)
+-- 32 a set to the value that the team knows is there
+FaultAt S k c changes-nothing = (a : Act) × (actOf c ≡ One a) × T (S .offers a) × (S .permits k a ≡ ChangesNothing)
 -- 19 "stop where the goal isn't settled"
 FaultAt S k c not-settled = (c ≡ 0) × T (not (S .goal k))
 FaultAt S k c too-soon = ⊥
@@ -50,6 +52,7 @@ module _ (S : System) (k : ℕ) where
   step-act c a false p h e f g =
       faults no-act (h, λ b d t. let same : b ≡ a = cc in both (S .offers a) (subst (λ (x : Act). T (S .offers x)) same t) (false→T f))
   step-act c a true (Denied why) h e f g = faults (not-permitted why) (a, e, true→T f, g)
+  step-act c a true ChangesNothing h e f g = faults changes-nothing (a, e, true→T f, g)
   step-act c a true Given h e f g = step-done c a (and-in (S .offers a) (given (S .permits k a)) (true→T f) (true→T (ap given g)))
 
   step-named : (c : ℕ) (x : Named) → 0 < c → actOf c ≡ x → Step S k c (readNamed S k x)
@@ -79,6 +82,7 @@ module _ (S : System) (k : ℕ) where
   fails-by : (c : ℕ) (f : Fault) → FaultAt S k c f → readByte S k c ≡ fails f
   fails-by c no-act w = unnamed c (actOf c) (w .0) refl (w .1)
   fails-by c (not-permitted why) (a, e, o, p) = read-forbidden S k c a why (named-positive c a e) e o p
+  fails-by c changes-nothing (a, e, o, p) = read-idle S k c a (named-positive c a e) e o p
   fails-by c not-settled w = rw (w .0) (read-unsettled S k (w .1))
   fails-by c too-soon w = absurd w
   fails-by c left-over w = absurd w

@@ -23,7 +23,8 @@ use Rattle.knowledge.specs.Goal.{Goal, goalOf, learnTable, allSettled, goalSett
 use Rattle.plan.specs.Plans.{given, may}
 use Rattle.plan.proofs.Check.{judge-on, judge-fails, read-act, read-unsettled}
 use Rattle.plan.specs.Check.{not-settled, faulty, check}
-use Rattle.question.specs.Permitted.{byRule, permitted}
+use Rattle.plan.specs.Without.{changesNothing}
+use Rattle.question.specs.Permitted.{byRule, ruled, permitted}
 use Rattle.question.specs.Question.{systemOf, startOf}
 use Rattle.question.specs.Asks.{ValidQuestion}
 use Rattle.question.specs.declared.Question.{Question}
@@ -49,7 +50,7 @@ p9-goal = goalOf not-a is-a
 
 -- "n = 1, look and set rules `1`, make `~a`, learn `a`", "the plan 1, 0": the look rule is not asked for. Its first byte is a set that may be done
 first-set : (book : List ℕ) → rule book 0 0 set-rule ≡ always-true → T (may (systemOf 1 book p9-question p9-goal) 0 (Set 0 0 false))
-unfolding systemOf offered permitted judgement always fits agrees nowTold truth all digit bit
+unfolding systemOf offered permitted ruled changesNothing judgement always fits agrees nowTold truth all digit bit
 first-set book e = subst (λ (t : List ℕ). T (given (byRule (judgement 1 (nowSide (digit 7 0)) t)))) (sym e) tt
 
 -- after which nothing is known of the start, so that the learn formula is not settled

@@ -7,7 +7,7 @@ use native.Mathlib.Omega.{arith}
 use lib.Dec.{leb, ltb, ltb→lt}
 use Rattle.ground.specs.Digits.{digit, bit}
 use Rattle.ground.proofs.Bools.{true→T, and-left}
-use Rattle.refusal.specs.declared.Refusal.the-variants.{NoAct, NotPermitted, NotSettled}
+use Rattle.refusal.specs.declared.Refusal.the-variants.{NoAct, NotPermitted, ChangesNothing as ThirtyTwo, NotSettled}
 use Rattle.refusal.specs.declared.Why.{Why}
 use Rattle.refusal.specs.declared.Why.the-variants.{NotKnown}
 use Rattle.knowledge_acts.specs.Acts.{settingOf, postOf, actOf, offered, setTo, lookAt}
@@ -20,7 +20,7 @@ use Rattle.knowledge.specs.Goal.{Goal, goalSettled}
 use Rattle.knowledge.proofs.Number.{digits-are}
 use Rattle.knowledge_judging.proofs.GoalLaws.{within-seven, unguarded}
 use Rattle.plan.specs.declared.Permit.{Permit}
-use Rattle.plan.specs.declared.Permit.the-variants.{Given, Denied}
+use Rattle.plan.specs.declared.Permit.the-variants.{Given, Denied, ChangesNothing}
 use Rattle.plan.specs.Check.{goes-on, outcomes, readAct, readNamed, readByte}
 use Rattle.plan.proofs.Check.{read-named}
 use Rattle.question.specs.Permitted.{permitted}
@@ -54,6 +54,9 @@ module _ (at k : ℕ) (a : Act) where
 
   pub act-forbidden : {o : Bool} {p : Permit} {why : Why} → o ≡ true → p ≡ Denied why → Fails (NotPermitted at why) ≡ readingOf at (readAct o p (outcomes k a))
   act-forbidden e f = rw (e, f)
+
+  pub act-idle : {o : Bool} {p : Permit} → o ≡ true → p ≡ ChangesNothing → Fails (ThirtyTwo at) ≡ readingOf at (readAct o p (outcomes k a))
+  act-idle e f = rw (e, f)
 
   -- an act that may be done has no fault, so its index does not count
   any-place : (a : Act) → readingOf 0 (goes-on (outcomes k a)) ≡ readingOf at (goes-on (outcomes k a))

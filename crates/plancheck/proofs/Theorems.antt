@@ -52,7 +52,7 @@ module _ (book : List ℕ) (q : Question) (goal : Goal) (plan : List ℕ) (r : C
   pub question-refused : (w : Refusal) → First (questionRows book q goal) w → r ≡ Refused w
   question-refused w f = checks-one book q goal plan r (Refused w) answer (question-row book q goal plan f)
 
-  -- and a refusal that is not one of a plan's own, 16 to 21, is given exactly where they give it
+  -- and a refusal that is not one of a plan's own, 16 to 21 and 32, is given exactly where they give it
   pub question-exact : (w : Refusal) → (w ≡ PlanLength → ⊥) → ((f : Fault) (i : ℕ) → w ≡ refusalOf f i → ⊥)
       → (r ≡ Refused w) ↔ First (questionRows book q goal) w
   question-exact w not-length no-fault = (
@@ -107,7 +107,7 @@ module _ {book : List ℕ} {q : Question} {goal : Goal} {n m : ℕ} (valid : Val
     )
 
     module _ (short : length plan ≤ 32640) where
-      -- 17 to 21: "the first fault in reading order". All bytes before it read without one, and it is the fault of the byte that stands
+      -- 17 to 21 and 32: "the first fault in reading order". All bytes before it read without one, and it is the fault of the byte that stands
       -- there, or of the end; `fault-means` of plancheck/proofs/ByteLaws says in paper 01's words what a byte's fault is
       pub fault-exact : (f : Fault) (i : ℕ) → (r ≡ Refused (refusalOf f i)) ↔ Faults.First (systemOf n book q goal) (startOf q ∷ []) plan f i
       fault-exact f i = (

@@ -1,5 +1,5 @@
--- "Plan check: the same through 12, then 16, then the first fault in reading order, 17 before 18; acceptance is a bare yes." What `check`
--- answers, for every book, question, goal and plan; it writes nothing.
+-- "Plan check: the same through 12, then 16, then the first fault in reading order, 17 before 18; acceptance is a bare yes." And "32 .., after 18
+-- at the same byte". What `check` answers, for every book, question, goal and plan; it writes nothing.
 use mathlib.Core.Path.{_≡_}
 use mathlib.Core.List.{List, [], _∷_, _++_}
 use mathlib.Core.Logic.{_⊎_}

@@ -47,7 +47,7 @@ fn outcomes_of(k: u32, act: Act) -> ByteReading
     }
 }
 
-// An act: 17 before 18.
+// An act: 17 before 18, and 32 after it.
 fn read_act(n: u8, book: &[u8], team: u8, held: u8, k: u32, at: usize, act: Act) -> ByteReading
     requires { ⌜ (n ≤ 7) × (k < 7 ^ 7) ⌝ }
     ensures { λ r. ⌜ r ≡ readingOf at (readAct (offered n team act) (permitted n (now (book .entry)) held (digit 7 k) act) (outcomes k act)) ⌝ }
@@ -57,6 +57,7 @@ fn read_act(n: u8, book: &[u8], team: u8, held: u8, k: u32, at: usize, act: Act)
     }
     match permits(Knowledge::from_number(k), n, book, held, act) {
         Permit::Denied(why) => ByteReading::Fails(Refusal::NotPermitted(at, why)),
+        Permit::ChangesNothing => ByteReading::Fails(Refusal::ChangesNothing(at)),
         Permit::Given => outcomes_of(k, act),
     }
 }

@@ -27,7 +27,7 @@ const QUESTION_ROOM: usize = TEXT_MOST + 1;
 
 const PLAN_ROOM: usize = PLAN_TEXT_MOST + 1;
 
-// "No" is a refusal of the plan check with 17 to 21; its 16 is a refusal like any other.
+// "No" is a refusal of the plan check with 17 to 21, or 32; its 16 is a refusal like any other.
 fn plan_outcome(number: u64) -> Outcome
     ensures { λ r. ⌜ (number < 17 → r ≡ Outcome.Refused) × (17 ≤ number → r ≡ Outcome.No) ⌝ }
 {

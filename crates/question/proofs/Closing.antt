@@ -21,13 +21,16 @@ use Rattle.knowledge.specs.Goal.{Goal}
 use Rattle.knowledge.specs.Judgement.{known}
 use Rattle.knowledge.proofs.JudgementLaws.{some-fits, now-is}
 use Rattle.knowledge.proofs.Known.{known-at}
-use Rattle.plan.specs.Plans.{given}
+use Rattle.plan.specs.Plans.{System, given}
+use Rattle.plan.specs.Without.{without}
 use Rattle.plan.proofs.Compare.{PermitsMore}
-use Rattle.question.specs.Permitted.{permitted}
-use Rattle.question.specs.Question.{systemOf}
+use Rattle.plan.proofs.Unchanged.{without-more}
+use Rattle.question.specs.Permitted.{ruled}
+use Rattle.question.specs.Question.{systemOf, ruledSystem}
 use Rattle.question.specs.Rows.{TeamFits}
 use Rattle.question.specs.declared.Question.{Question}
 use Rattle.question.proofs.PermitLaws.{set-given, look-given}
+use Rattle.question.proofs.SystemLaws.{from-ruled}
 
 -- ---- a closed rule: its 16 bytes are zero
 
@@ -50,7 +53,7 @@ module _ {n m : ℕ} {book other : List ℕ} (closes : ClosesRules n m book othe
     | inr e ↦ absurd (closed-unknown n d (subst (λ (r : List ℕ). T (known n d r)) e t))
   ]
 
-  given-other : (held : ℕ) (d : ℕ → ℕ) (a : Act) → settingOf a < n → postOf a < m → T (given (permitted n book held d a)) → T (given (permitted n other held d a))
+  given-other : (held : ℕ) (d : ℕ → ℕ) (a : Act) → settingOf a < n → postOf a < m → T (given (ruled n book held d a)) → T (given (ruled n other held d a))
   given-other held d (Set i q b) hi hq t =
       let h = rw (set-given n book held d i q b) at t in
       rw (set-given n other held d i q b)
@@ -64,16 +67,21 @@ module _ {n m : ℕ} {book other : List ℕ} (closes : ClosesRules n m book othe
       (known-other d i q look-rule hi hq (and-left (known n d (rule book i q look-rule)) (eqb (d i) 0) h))
       (and-right (known n d (rule book i q look-rule)) (eqb (d i) 0) h))
 
-  -- closing never opens: the other book permits whatever this one does, to any team of its posts
-  pub closing-permits : (q : Question) (goal : Goal) → TeamFits m (q .team) → PermitsMore (systemOf n book q goal) (systemOf n other q goal)
-  unfolding systemOf offered
-  closing-permits q goal team = record {
+  closing-ruled : (q : Question) (goal : Goal) → TeamFits m (q .team) → PermitsMore (ruledSystem n book q goal) (ruledSystem n other q goal)
+  unfolding ruledSystem offered
+  closing-ruled q goal team = record {
     acts = λ k a t.
-        let offer : T (ltb (settingOf a) n && bit (q .team) (postOf a)) = and-left (offered n (q .team) a) (given (permitted n book (q .held) (digit 7 k) a)) t in
-        and-in (offered n (q .team) a) (given (permitted n other (q .held) (digit 7 k) a)) offer
+        let offer : T (ltb (settingOf a) n && bit (q .team) (postOf a)) = and-left (offered n (q .team) a) (given (ruled n book (q .held) (digit 7 k) a)) t in
+        and-in (offered n (q .team) a) (given (ruled n other (q .held) (digit 7 k) a)) offer
         (given-other (q .held) (digit 7 k) a
         (ltb→lt (settingOf a) n (and-left (ltb (settingOf a) n) (bit (q .team) (postOf a)) offer))
         (team .posts (postOf a) (and-right (ltb (settingOf a) n) (bit (q .team) (postOf a)) offer))
-        (and-right (offered n (q .team) a) (given (permitted n book (q .held) (digit 7 k) a)) t));
+        (and-right (offered n (q .team) a) (given (ruled n book (q .held) (digit 7 k) a)) t));
     goals = λ k g. g;
   }
+
+  -- closing never opens: the other book permits whatever this one does, to any team of its posts
+  pub closing-permits : (q : Question) (goal : Goal) → TeamFits m (q .team) → PermitsMore (systemOf n book q goal) (systemOf n other q goal)
+  closing-permits q goal team =
+      from-ruled n book q goal (λ (S : System). PermitsMore S (systemOf n other q goal))
+      (from-ruled n other q goal (PermitsMore (without (ruledSystem n book q goal))) (without-more (closing-ruled q goal team)))

@@ -16,14 +16,17 @@ use Rattle.knowledge_acts.specs.declared.act.Act.{Act}
 use Rattle.knowledge_acts.specs.declared.act.Act.the-variants.{Set, Look}
 use Rattle.knowledge.specs.Goal.{Goal}
 use Rattle.knowledge.specs.Judgement.{known}
-use Rattle.plan.specs.Plans.{given, may, Plan, stop, set-then, look-then, Permitted, Works}
+use Rattle.plan.specs.Plans.{System, given, may, Plan, stop, set-then, look-then, Permitted, Works}
 use Rattle.plan.proofs.Size.{works-permitted}
+use Rattle.plan.specs.Without.{without}
 use Rattle.plan.proofs.Compare.{PermitsMore, works-more, permitted-more}
-use Rattle.question.specs.Permitted.{permitted}
-use Rattle.question.specs.Question.{systemOf, startOf}
+use Rattle.plan.proofs.Unchanged.{without-more}
+use Rattle.question.specs.Permitted.{ruled}
+use Rattle.question.specs.Question.{systemOf, ruledSystem, startOf}
 use Rattle.question.specs.Asks.{ValidQuestion}
 use Rattle.question.specs.declared.Question.{Question}
 use Rattle.question.proofs.PermitLaws.{set-given, look-given}
+use Rattle.question.proofs.SystemLaws.{from-ruled, may-ruled}
 
 -- the question with these settings held
 abbrev pub holding : Question → ℕ → Question
@@ -49,7 +52,7 @@ module _ {less more : ℕ} (holds : HoldsMore less more) where
     goal = v .goal;
   }
 
-  given-less : (n : ℕ) (book : List ℕ) (d : ℕ → ℕ) (a : Act) → T (given (permitted n book more d a)) → T (given (permitted n book less d a))
+  given-less : (n : ℕ) (book : List ℕ) (d : ℕ → ℕ) (a : Act) → T (given (ruled n book more d a)) → T (given (ruled n book less d a))
   given-less n book d (Set i s b) t =
       let rules : Bool = known n d (rule book i s set-rule) in
       let h = rw (set-given n book more d i s b) at t in
@@ -58,16 +61,21 @@ module _ {less more : ℕ} (holds : HoldsMore less more) where
       (not-T (bit less i) (λ on. both (bit more i) (holds .held i on) (and-right rules (not (bit more i)) h))))
   given-less n book d (Look i s) t = subst T (look-given n book more d i s ∙ sym (look-given n book less d i s)) t
 
-  -- holding less permits whatever holding more does
-  pub holding-permits : (n : ℕ) (book : List ℕ) (q : Question) (goal : Goal) → PermitsMore (systemOf n book (holding q more) goal) (systemOf n book (holding q less) goal)
-  unfolding systemOf
-  holding-permits n book q goal = record {
+  holding-ruled : (n : ℕ) (book : List ℕ) (q : Question) (goal : Goal) → PermitsMore (ruledSystem n book (holding q more) goal) (ruledSystem n book (holding q less) goal)
+  unfolding ruledSystem
+  holding-ruled n book q goal = record {
     acts = λ k a t.
-        and-in (offered n (q .team) a) (given (permitted n book less (digit 7 k) a))
-        (and-left (offered n (q .team) a) (given (permitted n book more (digit 7 k) a)) t)
-        (given-less n book (digit 7 k) a (and-right (offered n (q .team) a) (given (permitted n book more (digit 7 k) a)) t));
+        and-in (offered n (q .team) a) (given (ruled n book less (digit 7 k) a))
+        (and-left (offered n (q .team) a) (given (ruled n book more (digit 7 k) a)) t)
+        (given-less n book (digit 7 k) a (and-right (offered n (q .team) a) (given (ruled n book more (digit 7 k) a)) t));
     goals = λ k g. g;
   }
+
+  -- holding less permits whatever holding more does
+  pub holding-permits : (n : ℕ) (book : List ℕ) (q : Question) (goal : Goal) → PermitsMore (systemOf n book (holding q more) goal) (systemOf n book (holding q less) goal)
+  holding-permits n book q goal =
+      from-ruled n book (holding q more) goal (λ (S : System). PermitsMore S (systemOf n book (holding q less) goal))
+      (from-ruled n book (holding q less) goal (PermitsMore (without (ruledSystem n book (holding q more) goal))) (without-more (holding-ruled n book q goal)))
 
 -- ---- the plans that count
 
@@ -85,29 +93,43 @@ module _ (n : ℕ) (book : List ℕ) (q : Question) (goal : Goal) where
   abbrev holds-some : PermitsMore (systemOf n book q goal) (systemOf n book (holding q 0) goal)
   holds-some = holding-permits (none-held (q .held)) n book q goal
 
-  set-free : (k i s : ℕ) (b : Bool) → T (may (systemOf n book q goal) k (Set i s b)) → T (bit (q .held) i) → ⊥
-  unfolding systemOf
-  set-free k i s b t on =
-      let h = and-right (offered n (q .team) (Set i s b)) (given (permitted n book (q .held) (digit 7 k) (Set i s b))) t in
+  ruled-free : (k i s : ℕ) (b : Bool) → T (may (ruledSystem n book q goal) k (Set i s b)) → T (bit (q .held) i) → ⊥
+  unfolding ruledSystem
+  ruled-free k i s b t on =
+      let h = and-right (offered n (q .team) (Set i s b)) (given (ruled n book (q .held) (digit 7 k) (Set i s b))) t in
       both (bit (q .held) i) on
       (and-right (known n (digit 7 k) (rule book i s set-rule)) (not (bit (q .held) i)) (rw (set-given n book (q .held) (digit 7 k) i s b) at h))
 
-  set-back : (k i s : ℕ) (b : Bool) → (T (bit (q .held) i) → ⊥) → T (may (systemOf n book (holding q 0) goal) k (Set i s b)) → T (may (systemOf n book q goal) k (Set i s b))
-  unfolding systemOf
-  set-back k i s b free t =
+  ruled-set : (k i s : ℕ) (b : Bool) → (T (bit (q .held) i) → ⊥) → T (may (ruledSystem n book (holding q 0) goal) k (Set i s b)) → T (may (ruledSystem n book q goal) k (Set i s b))
+  unfolding ruledSystem
+  ruled-set k i s b free t =
       let rules : Bool = known n (digit 7 k) (rule book i s set-rule) in
-      let h = and-right (offered n (q .team) (Set i s b)) (given (permitted n book 0 (digit 7 k) (Set i s b))) t in
-      and-in (offered n (q .team) (Set i s b)) (given (permitted n book (q .held) (digit 7 k) (Set i s b)))
-      (and-left (offered n (q .team) (Set i s b)) (given (permitted n book 0 (digit 7 k) (Set i s b))) t)
+      let h = and-right (offered n (q .team) (Set i s b)) (given (ruled n book 0 (digit 7 k) (Set i s b))) t in
+      and-in (offered n (q .team) (Set i s b)) (given (ruled n book (q .held) (digit 7 k) (Set i s b)))
+      (and-left (offered n (q .team) (Set i s b)) (given (ruled n book 0 (digit 7 k) (Set i s b))) t)
       (rw (set-given n book (q .held) (digit 7 k) i s b)
       (and-in rules (not (bit (q .held) i))
       (and-left rules (not (bit 0 i)) (rw (set-given n book 0 (digit 7 k) i s b) at h)) (not-T (bit (q .held) i) free)))
 
   -- looks are as before
-  look-back : (k i s : ℕ) → T (may (systemOf n book (holding q 0) goal) k (Look i s)) → T (may (systemOf n book q goal) k (Look i s))
-  unfolding systemOf
-  look-back k i s t =
+  ruled-look : (k i s : ℕ) → T (may (ruledSystem n book (holding q 0) goal) k (Look i s)) → T (may (ruledSystem n book q goal) k (Look i s))
+  unfolding ruledSystem
+  ruled-look k i s t =
       subst (λ (b : Bool). T (offered n (q .team) (Look i s) && b)) (look-given n book 0 (digit 7 k) i s ∙ sym (look-given n book (q .held) (digit 7 k) i s)) t
+
+  -- and so with the acts that change something
+  set-free : (k i s : ℕ) (b : Bool) → T (may (systemOf n book q goal) k (Set i s b)) → T (bit (q .held) i) → ⊥
+  set-free k i s b t = ruled-free k i s b (may-ruled n book q goal k (Set i s b) .0 t .0)
+
+  set-back : (k i s : ℕ) (b : Bool) → (T (bit (q .held) i) → ⊥) → T (may (systemOf n book (holding q 0) goal) k (Set i s b)) → T (may (systemOf n book q goal) k (Set i s b))
+  set-back k i s b free t =
+      let (m, some) = may-ruled n book (holding q 0) goal k (Set i s b) .0 t in
+      may-ruled n book q goal k (Set i s b) .1 (ruled-set k i s b free m, some)
+
+  look-back : (k i s : ℕ) → T (may (systemOf n book (holding q 0) goal) k (Look i s)) → T (may (systemOf n book q goal) k (Look i s))
+  look-back k i s t =
+      let (m, some) = may-ruled n book (holding q 0) goal k (Look i s) .0 t in
+      may-ruled n book q goal k (Look i s) .1 (ruled-look k i s m, some)
 
   permitted-free : (p : Plan) (k : ℕ) → Permitted (systemOf n book q goal) k p → SetsNone (q .held) p
   permitted-free stop k w = tt

@@ -1,8 +1,9 @@
--- The laws of questions, in this order: what the book's rules permit and why not, the system and the start, a book with rules closed, the tests on a
--- question, its rows; that what `ask` gives is settled, how far the places of its refusals go, what "cannot" means for a secret; the same question
--- with other settings held; and a question of two legs.
+-- The laws of questions, in this order: what the book's rules permit and why not, when 32 is said, the system and the start, a book with rules closed,
+-- the tests on a question, its rows; that what `ask` gives is settled, how far the places of its refusals go, what "cannot" means for a secret; the same
+-- question with other settings held; and a question of two legs.
 pub mod PermitLaws
 pub mod WhyLaws
+pub mod NothingLaws
 pub mod SystemLaws
 pub mod Closing
 pub mod QuestionLaws

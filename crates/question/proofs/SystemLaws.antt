@@ -1,9 +1,10 @@
--- A question's system is lawful: an act of this book and team has a setting below n and a post with a bit in the team's byte, and a look is permitted
--- at the digit 0 alone. And its start is one of the 7^n knowledge numbers: a setting that is not known has the digit 0.
+-- A question's system is the one that its rules alone fix, without the sets that change nothing; and it is lawful: an act of this book and team has a
+-- setting below n and a post with a bit in the team's byte, and a look is permitted at the digit 0 alone. And its start is one of the 7^n knowledge
+-- numbers: a setting that is not known has the digit 0.
 use mathlib.Core.Path.{_≡_, refl, sym, subst}
-use mathlib.Core.Logic.{inl, inr}
+use mathlib.Core.Logic.{inl, inr, _↔_}
 use mathlib.Core.List.{List}
-use mathlib.Core.Bool.{_&&_}
+use mathlib.Core.Bool.{not, _&&_}
 use Prim.Native.Nat.{ℕ, _^_, _≤_, _<_}
 use native.Mathlib.Omega.{arith}
 use lib.Dec.{T, eqb, ltb, eqb→eq, ltb→lt, lit<}
@@ -22,9 +23,11 @@ use Rattle.knowledge.specs.Number.{firstAt}
 use Rattle.knowledge.specs.Goal.{Goal}
 use Rattle.knowledge.proofs.Number.{sum-lt, sum-short}
 use Rattle.knowledge.specs.Judgement.{known}
-use Rattle.plan.specs.Plans.{given, may, Lawful}
-use Rattle.question.specs.Permitted.{permitted}
-use Rattle.question.specs.Question.{systemOf, startOf}
+use Rattle.plan.specs.Plans.{System, given, may, Lawful}
+use Rattle.plan.specs.Without.{changesNothing, without}
+use Rattle.plan.proofs.Unchanged.{may-exactly, without-lawful}
+use Rattle.question.specs.Permitted.{ruled, permitted}
+use Rattle.question.specs.Question.{systemOf, ruledSystem, startOf}
 use Rattle.question.specs.Rows.{TeamFits, KnownFits}
 use Rattle.question.specs.Asks.{ValidQuestion}
 use Rattle.question.specs.declared.Question.{Question}
@@ -33,25 +36,43 @@ use Rattle.question.proofs.QuestionLaws.{low-bits, bits-low}
 
 -- ---- the system
 
-module _ (n : ℕ) (book : List ℕ) (q : Question) (goal : Goal) (byte : q .team < 256) where
-  offer : (k : ℕ) (a : Act) → T (may (systemOf n book q goal) k a) → T (ltb (settingOf a) n && bit (q .team) (postOf a))
-  unfolding offered systemOf
-  offer k a m = and-left (offered n (q .team) a) (given (permitted n book (q .held) (digit 7 k) a)) m
+module _ (n : ℕ) (book : List ℕ) (q : Question) (goal : Goal) where
+  pub system-without : systemOf n book q goal ≡ without (ruledSystem n book q goal)
+  unfolding systemOf ruledSystem permitted
+  system-without = refl
 
-  digit-nought : (k i p : ℕ) → T (may (systemOf n book q goal) k (Look i p)) → digit 7 k i ≡ 0
-  unfolding systemOf
+  -- so that what holds without such sets holds of the question's system
+  pub from-ruled : (P : System → Type 0) → P (without (ruledSystem n book q goal)) → P (systemOf n book q goal)
+  from-ruled P h = subst P (sym system-without) h
+
+  -- an act may be done where the rules and the held settings permit it and it changes something
+  pub may-ruled : (k : ℕ) (a : Act) → T (may (systemOf n book q goal) k a) ↔ (T (may (ruledSystem n book q goal) k a) × T (not (changesNothing (digit 7 k) a)))
+  may-ruled k a =
+      from-ruled (λ (S : System). T (may S k a) ↔ (T (may (ruledSystem n book q goal) k a) × T (not (changesNothing (digit 7 k) a))))
+      (may-exactly (ruledSystem n book q goal) k a)
+
+module _ (n : ℕ) (book : List ℕ) (q : Question) (goal : Goal) (byte : q .team < 256) where
+  offer : (k : ℕ) (a : Act) → T (may (ruledSystem n book q goal) k a) → T (ltb (settingOf a) n && bit (q .team) (postOf a))
+  unfolding offered ruledSystem
+  offer k a m = and-left (offered n (q .team) a) (given (ruled n book (q .held) (digit 7 k) a)) m
+
+  digit-nought : (k i p : ℕ) → T (may (ruledSystem n book q goal) k (Look i p)) → digit 7 k i ≡ 0
+  unfolding ruledSystem
   digit-nought k i p m =
-      let h = and-right (offered n (q .team) (Look i p)) (given (permitted n book (q .held) (digit 7 k) (Look i p))) m in
+      let h = and-right (offered n (q .team) (Look i p)) (given (ruled n book (q .held) (digit 7 k) (Look i p))) m in
       eqb→eq (digit 7 k i) 0
       (and-right (known n (digit 7 k) (rule book i p look-rule)) (eqb (digit 7 k i) 0) (rw (look-given n book (q .held) (digit 7 k) i p) at h))
 
   -- whatever the team's byte is
-  pub team-lawful : Lawful n (systemOf n book q goal)
-  team-lawful = record {
+  team-ruled : Lawful n (ruledSystem n book q goal)
+  team-ruled = record {
     setting-of = λ k a m. ltb→lt (settingOf a) n (and-left (ltb (settingOf a) n) (bit (q .team) (postOf a)) (offer k a m));
     post-of = λ k a m. bits-low 8 (q .team) byte (postOf a) (and-right (ltb (settingOf a) n) (bit (q .team) (postOf a)) (offer k a m));
     looks-at = digit-nought;
   }
+
+  pub team-lawful : Lawful n (systemOf n book q goal)
+  team-lawful = from-ruled n book q goal (Lawful n) (without-lawful (ruledSystem n book q goal) team-ruled)
 
 -- a team of the book's posts is a byte
 team-byte : {m team : ℕ} → m ≤ 8 → TeamFits m team → team < 256
@@ -81,6 +102,9 @@ start-small q = sum-lt (lit< tt) (firstAt (q .known) (q .values)) 7 (λ i l. fir
 module _ {book : List ℕ} {q : Question} {goal : Goal} {n m : ℕ} (v : ValidQuestion book q goal n m) where
   pub few : n ≤ 7
   few = v .sound .settings .most
+
+  pub ruled-lawful : Lawful n (ruledSystem n book q goal)
+  ruled-lawful = team-ruled n book q goal (team-byte (v .sound .posts .most) (v .team))
 
   pub lawful : Lawful n (systemOf n book q goal)
   lawful = team-lawful n book q goal (team-byte (v .sound .posts .most) (v .team))

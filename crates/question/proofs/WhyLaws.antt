@@ -24,8 +24,10 @@ use Rattle.knowledge.specs.declared.judgement.Judgement.{Judgement}
 use Rattle.knowledge.specs.declared.judgement.Judgement.the-variants.{TrueAtAll, FalseAtAll, Neither}
 use Rattle.knowledge.proofs.JudgementLaws.{now-is, false-exactly, neither-exactly}
 use Rattle.plan.specs.declared.Permit.{Permit}
-use Rattle.plan.specs.declared.Permit.the-variants.{Given, Denied}
-use Rattle.question.specs.Permitted.{byRule, permitted}
+use Rattle.plan.specs.declared.Permit.the-variants.{Given, Denied, ChangesNothing}
+use Rattle.plan.specs.Without.{changesNothing, unlessNothing}
+use Rattle.plan.proofs.Unchanged.{unless-denied, denied-before}
+use Rattle.question.specs.Permitted.{byRule, ruled, permitted}
 
 -- the rule that an act stands under
 abbrev pub ruleOf : List ℕ → Act → List ℕ
@@ -63,6 +65,7 @@ judgedSo (Denied HeldSetting) = TrueAtAll
 judgedSo (Denied KnownSetting) = TrueAtAll
 judgedSo (Denied SurelyFalse) = FalseAtAll
 judgedSo (Denied NotKnown) = Neither
+judgedSo ChangesNothing = TrueAtAll
 
 judged-back : (j : Judgement) → judgedSo (byRule j) ≡ j
 unfolding judgedSo
@@ -106,19 +109,19 @@ at-nought x h = elim (ℕ-discrete x 0) [ yes z ↦ z | no ne ↦ absurd (h ne) 
 
 module _ (n : ℕ) (book : List ℕ) (held : ℕ) (d : ℕ → ℕ) where
   -- a setting that is not held: the rule decides, and else nothing is asked of it
-  set-free : (i q : ℕ) (b : Bool) → (T (bit held i) → ⊥) → permitted n book held d (Set i q b) ≡ byRule (judged n d (rule book i q set-rule))
-  unfolding permitted
+  set-free : (i q : ℕ) (b : Bool) → (T (bit held i) → ⊥) → ruled n book held d (Set i q b) ≡ byRule (judged n d (rule book i q set-rule))
+  unfolding ruled
   set-free i q b free = rw (T-iff (bit held i) false free (λ none. absurd none))
 
-  set-held : (i q : ℕ) (b : Bool) → T (bit held i) → permitted n book held d (Set i q b) ≡ Denied HeldSetting
-  unfolding permitted
+  set-held : (i q : ℕ) (b : Bool) → T (bit held i) → ruled n book held d (Set i q b) ≡ Denied HeldSetting
+  unfolding ruled
   set-held i q b on = rw (T→true (bit held i) on)
 
   -- any other reason shows that the setting is not held
-  held-alone : (i q : ℕ) (b : Bool) (why : Why) → permitted n book held d (Set i q b) ≡ Denied why → (why ≡ HeldSetting → ⊥) → T (bit held i) → ⊥
+  held-alone : (i q : ℕ) (b : Bool) (why : Why) → ruled n book held d (Set i q b) ≡ Denied why → (why ≡ HeldSetting → ⊥) → T (bit held i) → ⊥
   held-alone i q b why e ne on = ne (let same : _≡_ {A = Permit} (Denied why) (Denied HeldSetting) = sym e ∙ set-held i q b on in cc)
 
-  set-why : (i q : ℕ) (b : Bool) (why : Why) → permitted n book held d (Set i q b) ≡ Denied why ↔ WhyNot n book held d (Set i q b) why
+  set-why : (i q : ℕ) (b : Bool) (why : Why) → ruled n book held d (Set i q b) ≡ Denied why ↔ WhyNot n book held d (Set i q b) why
   set-why i q b HeldSetting = (
     λ e. elim (decide (bit held i)) [
       | inl on ↦ on
@@ -143,22 +146,22 @@ module _ (n : ℕ) (book : List ℕ) (held : ℕ) (d : ℕ → ℕ) where
   )
 
   -- at the digit 0 the rule decides, and else nothing is asked of it
-  look-first : (i q : ℕ) → d i ≡ 0 → permitted n book held d (Look i q) ≡ byRule (judged n d (rule book i q look-rule))
-  unfolding permitted
+  look-first : (i q : ℕ) → d i ≡ 0 → ruled n book held d (Look i q) ≡ byRule (judged n d (rule book i q look-rule))
+  unfolding ruled
   look-first i q z = rw (eq-eqb (d i) 0 z)
 
-  look-known : (i q : ℕ) → (d i ≡ 0 → ⊥) → permitted n book held d (Look i q) ≡ Denied KnownSetting
-  unfolding permitted
+  look-known : (i q : ℕ) → (d i ≡ 0 → ⊥) → ruled n book held d (Look i q) ≡ Denied KnownSetting
+  unfolding ruled
   look-known i q ne = rw (ne-eqb (d i) 0 ne)
 
   -- any other reason shows that the digit is 0
-  known-alone : (i q : ℕ) (why : Why) → permitted n book held d (Look i q) ≡ Denied why → (why ≡ KnownSetting → ⊥) → d i ≡ 0
+  known-alone : (i q : ℕ) (why : Why) → ruled n book held d (Look i q) ≡ Denied why → (why ≡ KnownSetting → ⊥) → d i ≡ 0
   known-alone i q why e ne = elim (ℕ-discrete (d i) 0) [
     | yes z ↦ z
     | no known ↦ absurd (ne (let same : _≡_ {A = Permit} (Denied why) (Denied KnownSetting) = sym e ∙ look-known i q known in cc))
   ]
 
-  look-why : (i q : ℕ) (why : Why) → permitted n book held d (Look i q) ≡ Denied why ↔ WhyNot n book held d (Look i q) why
+  look-why : (i q : ℕ) (why : Why) → ruled n book held d (Look i q) ≡ Denied why ↔ WhyNot n book held d (Look i q) why
   look-why i q KnownSetting = (
     λ e z. never-known (judged n d (rule book i q look-rule)) (sym (look-first i q z) ∙ e),
     λ h. look-known i q h,
@@ -179,6 +182,14 @@ module _ (n : ℕ) (book : List ℕ) (held : ℕ) (d : ℕ → ℕ) where
     λ h. look-first i q (at-nought (d i) (h .1)) ∙ rule-open n d (rule book i q look-rule) .1 (h .2),
   )
 
+  ruled-why : (a : Act) (why : Why) → ruled n book held d a ≡ Denied why ↔ WhyNot n book held d a why
+  ruled-why (Set i q b) why = set-why i q b why
+  ruled-why (Look i q) why = look-why i q why
+
+  -- whether it changes nothing is asked after that
   pub why-exactly : (a : Act) (why : Why) → permitted n book held d a ≡ Denied why ↔ WhyNot n book held d a why
-  why-exactly (Set i q b) why = set-why i q b why
-  why-exactly (Look i q) why = look-why i q why
+  unfolding permitted
+  why-exactly a why = (
+    λ e. ruled-why a why .0 (denied-before (changesNothing d a) (ruled n book held d a) why e),
+    λ w. ap (unlessNothing (changesNothing d a)) (ruled-why a why .1 w) ∙ unless-denied (changesNothing d a) why,
+  )

@@ -16,6 +16,7 @@ use Rattle.knowledge.specs.declared.judgement.Judgement.{Judgement}
 use Rattle.knowledge.specs.declared.judgement.Judgement.the-variants.{TrueAtAll, FalseAtAll, Neither}
 use Rattle.plan.specs.declared.Permit.{Permit}
 use Rattle.plan.specs.declared.Permit.the-variants.{Given, Denied}
+use Rattle.plan.specs.Without.{changesNothing, unlessNothing}
 
 -- by the judgement of the act's rule: "1 surely false, 2 not known"
 abbrev pub byRule : Judgement → Permit
@@ -33,8 +34,13 @@ abbrev pub bySet : Bool → Permit → Permit
 bySet true said = Denied HeldSetting
 bySet false said = said
 
--- "set a setting false or true, where its set rule for that post is known to hold; look, where the look rule is known to hold
--- and the digit is 0". "settings held, which no set act may touch though looks may"
+-- what the held settings and the rules say: "set a setting false or true, where its set rule for that post is known to hold; look, where the look rule
+-- is known to hold and the digit is 0". "settings held, which no set act may touch though looks may"
+unfoldable pub ruled : ℕ → List ℕ → ℕ → (ℕ → ℕ) → Act → Permit
+ruled n book held d (Set i q b) = bySet (bit held i) (byRule (judgement n (nowSide d) (rule book i q set-rule)))
+ruled n book held d (Look i q) = byLook (eqb (d i) 0) (byRule (judgement n (nowSide d) (rule book i q look-rule)))
+
+-- what is said of an act: what they say, and of a set that they permit whether it changes nothing; "Where the team knows the present value, setting
+-- that same value is no longer an act", "32 .., after 18 at the same byte"
 unfoldable pub permitted : ℕ → List ℕ → ℕ → (ℕ → ℕ) → Act → Permit
-permitted n book held d (Set i q b) = bySet (bit held i) (byRule (judgement n (nowSide d) (rule book i q set-rule)))
-permitted n book held d (Look i q) = byLook (eqb (d i) 0) (byRule (judgement n (nowSide d) (rule book i q look-rule)))
+permitted n book held d a = unlessNothing (changesNothing d a) (ruled n book held d a)

@@ -10,14 +10,23 @@ use Rattle.knowledge_acts.specs.Acts.{offered}
 use Rattle.knowledge.specs.Number.{numberOf, firstAt}
 use Rattle.knowledge.specs.Goal.{Goal, goalSettled}
 use Rattle.plan.specs.Plans.{System}
-use Rattle.question.specs.Permitted.{permitted}
+use Rattle.question.specs.Permitted.{ruled, permitted}
 use Rattle.question.specs.declared.Question.{Question}
 
--- the system of a question over n settings: "Acts, by a post of the team", where the book's rules and the held settings permit them, and the goal
+-- the system of a question over n settings: "Acts, by a post of the team", where the book's rules and the held settings permit them and they change
+-- something, and the goal
 unfoldable pub systemOf : ℕ → List ℕ → Question → Goal → System
 systemOf n book q goal = record {
   offers = offered n (q .team);
   permits = λ k a. permitted n book (q .held) (digit 7 k) a;
+  goal = goalSettled n goal;
+}
+
+-- the same with the sets that change nothing, as it was before R-9: inside, for the finders, which never come to such a set. No public contract cites it
+unfoldable pub ruledSystem : ℕ → List ℕ → Question → Goal → System
+ruledSystem n book q goal = record {
+  offers = offered n (q .team);
+  permits = λ k a. ruled n book (q .held) (digit 7 k) a;
   goal = goalSettled n goal;
 }
 

@@ -5,6 +5,7 @@ use ground::bit_of;
 use knowledge::Judgement;
 use knowledge::Knowledge;
 use knowledge_acts::Act;
+use knowledge_acts::now_side;
 use knowledge_judging::Side;
 use knowledge_judging::judge;
 use plan::Permit;
@@ -12,13 +13,15 @@ use refusal::Why;
 ghost use mathlib.Core.Path.{_≡_};
 ghost use mathlib.Core.Bool.{cond};
 ghost use Prim.Native.Nat.{_≤_};
-ghost use lib.Dec.{leb};
+ghost use lib.Dec.{eqb, leb};
 ghost use Rattle.refusal.specs.declared.Why.the-variants.{NotKnown};
 ghost use Rattle.book_block.specs.Rule.{rule};
+ghost use Rattle.knowledge_acts.specs.Seven.{told, nowTold};
 ghost use Rattle.knowledge.specs.Number.{digitIn};
 ghost use Rattle.knowledge.specs.Fits.{nowSide};
 ghost use Rattle.knowledge.specs.Judgement.{judgement};
 ghost use Rattle.plan.specs.declared.Permit.the-variants.{Denied};
+ghost use Rattle.plan.specs.Without.{unlessNothing};
 ghost use Rattle.question.specs.Permitted.{byRule, permitted};
 
 // What the rule of a post on a setting says of an act, by its judgement.
@@ -39,8 +42,32 @@ fn by_rule(state: Knowledge, n: u8, book: &[u8], setting: u8, post: u8, right: R
     }
 }
 
-// Whether the book's rules permit the act where this is known and no held setting may be set, and else
-// why not. Of more than seven settings nothing is known.
+// Whether the digit tells this value.
+fn tells(digit: u8, value: bool) -> bool
+    ensures { λ r. ⌜ r ≡ eqb (nowTold digit) (told value) ⌝ }
+{
+    if value {
+        return now_side(digit) == 2;
+    }
+    now_side(digit) == 1
+}
+
+// What is said of a set to the value, where the rules say so much and the setting has this digit.
+fn unless_told(said: Permit, digit: u8, value: bool) -> Permit
+    ensures { λ r. ⌜ r ≡ unlessNothing (eqb (nowTold digit) (told value)) said ⌝ }
+{
+    if !tells(digit, value) {
+        return said;
+    }
+    match said {
+        Permit::Given => Permit::ChangesNothing,
+        Permit::Denied(why) => Permit::Denied(why),
+        Permit::ChangesNothing => Permit::ChangesNothing,
+    }
+}
+
+// Whether the act is permitted where this is known: the book's rules permit it, no held setting is set, and
+// it changes something; and else why not. Of more than seven settings nothing is known.
 pub fn permits(state: Knowledge, n: u8, book: &[u8], held: u8, act: Act) -> Permit
     ensures { λ r. ⌜ r ≡ cond (leb n 7) (permitted n (now (book .entry)) held (digitIn (state .digits)) act) (Denied NotKnown) ⌝ }
 {
@@ -51,12 +78,16 @@ pub fn permits(state: Knowledge, n: u8, book: &[u8], held: u8, act: Act) -> Perm
         Act::Set {
             setting,
             post,
-            value: _,
+            value,
         } => {
             if bit_of(held, setting) {
                 return Permit::Denied(Why::HeldSetting);
             }
-            by_rule(state, n, book, setting, post, Right::Set)
+            unless_told(
+                by_rule(state, n, book, setting, post, Right::Set),
+                state.digit(setting),
+                value,
+            )
         }
         Act::Look { setting, post } => {
             if state.digit(setting) != 0 {

@@ -96,6 +96,8 @@ pub enum Refusal {
     SalvageHead,
     // 31: a held setting past n.
     Held,
+    // 32: set to the value that the team knows is already there, at this index.
+    ChangesNothing(usize),
 }
 
 // The numbers that a refusal gives: "a refusal gives a number and a place", and 18 "carries a second number".
@@ -166,6 +168,7 @@ impl Refusal {
             Refusal::Disagrees(index) => numbered(29, index),
             Refusal::SalvageHead => numbered(30, 0),
             Refusal::Held => numbered(31, 0),
+            Refusal::ChangesNothing(at) => numbered(32, at),
         }
     }
 }

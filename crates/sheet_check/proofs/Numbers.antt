@@ -1,4 +1,4 @@
--- Which numbers `check` gives, and of whom: the book's 6 to 9, a question line's or a formula's, the plan text's 22 and 24, and of a plan's bytes 16 to 21. So
+-- Which numbers `check` gives, and of whom: the book's 6 to 9, a question line's or a formula's, the plan text's 22 and 24, and of a plan's bytes 16 to 21 and 32. So
 -- never 10 to 15: the question that a text asks is valid, and no room is lent. By what the three texts mean, a question line by line.
 use mathlib.Core.Path.{_≡_, refl, sym, ap, subst}
 use mathlib.Core.Logic.{_⊎_, inl, inr}
@@ -20,7 +20,7 @@ use Rattle.formula.specs.declared.Answer.{Answer}
 use Rattle.formula.specs.declared.Answer.the-variants.{Accepted, Refused as Wrong}
 use Rattle.book_sound.specs.Rows.{bookRows}
 use Rattle.knowledge.specs.Goal.{Goal}
-use Rattle.plan.specs.Check.{Fault, no-act, not-permitted, not-settled, too-soon, left-over}
+use Rattle.plan.specs.Check.{Fault, no-act, not-permitted, changes-nothing, not-settled, too-soon, left-over}
 use Rattle.question.specs.Asks.{ValidQuestion}
 use Rattle.question.specs.declared.Question.{Question}
 use Rattle.question.proofs.RowLaws.{question-clear}
@@ -153,21 +153,22 @@ text-numbers s why e = elim (stray-first s why e) [ inl (f, h) ↦ inr (ap numbe
 
 -- ---- the plan check's, of a valid question
 
-fault-number : (f : Fault) (i : ℕ) → (16 ≤ number (refusalOf f i)) × (number (refusalOf f i) ≤ 21)
-fault-number no-act i = (omega arith, omega arith)
-fault-number (not-permitted why) i = (omega arith, omega arith)
-fault-number not-settled i = (omega arith, omega arith)
-fault-number too-soon i = (omega arith, omega arith)
-fault-number left-over i = (omega arith, omega arith)
+abbrev pub OfPlan : Refusal → Type 0
+OfPlan why = ((16 ≤ number why) × (number why ≤ 21)) ⊎ (number why ≡ 32)
 
-plan-numbers : {book : List ℕ} {q : Question} {goal : Goal} {n m : ℕ} → ValidQuestion book q goal n m → (plan : List ℕ) (why : Refusal) → Checks book q goal plan (Refused why)
-    → (16 ≤ number why) × (number why ≤ 21)
+fault-number : (f : Fault) (i : ℕ) → OfPlan (refusalOf f i)
+fault-number no-act i = inl (omega arith, omega arith)
+fault-number (not-permitted why) i = inl (omega arith, omega arith)
+fault-number changes-nothing i = inr refl
+fault-number not-settled i = inl (omega arith, omega arith)
+fault-number too-soon i = inl (omega arith, omega arith)
+fault-number left-over i = inl (omega arith, omega arith)
+
+plan-numbers : {book : List ℕ} {q : Question} {goal : Goal} {n m : ℕ} → ValidQuestion book q goal n m → (plan : List ℕ) (why : Refusal) → Checks book q goal plan (Refused why) → OfPlan why
 plan-numbers {book} {q} {goal} valid plan why c = elim (refused-by book q goal plan why c) [
   | inl f ↦ first-clear f (question-clear valid)
-  | inr (inl (l, long)) ↦ (let e : number why ≡ 16 = ap number l in (omega (arith, e), omega (arith, e)))
-  | inr (inr (f, i, s, j)) ↦ (let e : number why ≡ number (refusalOf f i) = ap number s in
-      let x = fault-number f i in
-      (omega (arith, e, x .0), omega (arith, e, x .1)))
+  | inr (inl (l, long)) ↦ (let e : number why ≡ 16 = ap number l in inl (omega (arith, e), omega (arith, e)))
+  | inr (inr (f, i, s, j)) ↦ subst OfPlan (sym s) (fault-number f i)
 ]
 
 -- ---- all of them
@@ -177,7 +178,7 @@ NumbersOf Yes = Unit
 NumbersOf (BookRefused why) = (6 ≤ number why) × (number why ≤ 9)
 NumbersOf (QuestionRefused why line) = OfQuestion why
 NumbersOf (TextRefused why) = (number why ≡ 22) ⊎ (number why ≡ 24)
-NumbersOf (PlanRefused why) = (16 ≤ number why) × (number why ≤ 21)
+NumbersOf (PlanRefused why) = OfPlan why
 
 pub told-numbers : (book question plan : List ℕ) (r : CheckTold) → ChecksTexts book question plan r → NumbersOf r
 told-numbers book question plan r (inl (why, f, e)) = subst NumbersOf (sym e) (book-numbers book why f)

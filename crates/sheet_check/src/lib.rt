@@ -29,7 +29,7 @@ pub enum CheckTold {
     QuestionRefused(Refusal, usize),
     // It is not the text of a plan: 24, or 22 with the line as its place.
     TextRefused(Refusal),
-    // The plan check refuses its bytes: 16 to 21. Byte i is in line i + 2 of the text.
+    // The plan check refuses its bytes: 16 to 21, or 32. Byte i is in line i + 2 of the text.
     PlanRefused(Refusal),
 }
 

@@ -17,6 +17,7 @@ use crate::report::{shown, Group, Subject};
 use crate::rng::Rng;
 use crate::room::Room;
 use crate::tables::table;
+use crate::unchanged;
 
 /// How many places each fault is tried at, one by one.
 const PLACES: usize = 600;
@@ -38,6 +39,8 @@ pub fn test(subject: &mut Subject) {
     subject.group("acts not permitted, at every digit and for each reason", not_permitted::every_digit);
     subject.group("rules of the setting acted on, at its every digit and for each reason", not_permitted::own_digit);
     subject.group("acts on held settings, at every digit and for each reason", not_permitted::held);
+    subject
+        .group("plans that worked before sets that change nothing were none, with those left out", unchanged::left_out);
     subject.group("as many looks open as there are settings", open_looks);
     subject.group("rows of sets with a fault at every place", rows);
     subject.group("32,640 bytes and more", longest);
@@ -48,11 +51,11 @@ pub fn test(subject: &mut Subject) {
     }
     subject.must_reach(7, 0..=7);
     subject.must_reach(9, 1..=7);
-    for number in [17, 19, 20] {
+    for number in [17, 19, 20, 32] {
         subject.must_reach(number, 0..=PLACES as u32);
     }
     subject.must_reach(21, 1..=PLACES as u32);
-    for number in [17, 19, 21] {
+    for number in [17, 19, 21, 32] {
         subject.must_reach(number, PLAN_MOST as u32 - 1..=PLAN_MOST as u32 - 1);
     }
     for second in 0..=3 {
@@ -169,13 +172,14 @@ fn plain_check(group: &mut Group) {
         compare_plain(group, &looks_alone(n), &plan[..plan.len() - 1]);
     }
     for length in [PLAN_MOST - 1, PLAN_MOST, PLAN_MOST + 1] {
-        let mut plan = row(&mut group.rng, length);
-        compare_plain(group, &always(), &plan);
-        plan[length - 2] = YES;
-        plan[length - 1] = 0;
-        compare_plain(group, &always(), &plan);
-        compare_plain(group, &Question { team: 0, ..always() }, &plan);
-        compare_plain(group, &Question { book: vec![0; BLOCK], ..always() }, &plan);
+        let (question, plan) = row(true, length);
+        compare_plain(group, &question, &plan);
+        let (question, plan) = row_to_stop(length);
+        compare_plain(group, &question, &plan);
+        compare_plain(group, &question, &replaced(&plan, length / 2, YES));
+        compare_plain(group, &question, &replaced(&plan, length / 2, NO));
+        compare_plain(group, &Question { team: 0, ..question.clone() }, &plan);
+        compare_plain(group, &Question { book: vec![0; BLOCK], ..question }, &plan);
     }
 }
 
@@ -203,6 +207,7 @@ fn by_hand_plans(group: &mut Group) {
     let held = |place| Err(Refusal::at(18, place).with_second(3));
     let p6_held = Question { held: 4, ..p6.clone() };
     let reasons_held = Question { held: 3, ..reasons.clone() };
+    let known_held = Question { held: 1, known: 1, values: 1, ..reasons.clone() };
     let by_hand: &[(&Question, &[u8], Result<(), Refusal>)] = &[
         (&p6, &[130, 58, 65, 0, 18, 58, 65, 0], Ok(())),
         (&p6, &[130, 58, 65, 0, 18, 58, 65], refused(20, 7)),
@@ -219,6 +224,10 @@ fn by_hand_plans(group: &mut Group) {
         (&p6, &[132], refused(17, 0)),
         (&p6, &[137], refused(17, 0)),
         (&p6, &[130, 58, 2, 58, 65, 0, 18, 58, 65, 0], Ok(())),
+        (&p6, &[130, 58, 58, 65, 0, 18, 58, 65, 0], refused(32, 2)),
+        (&p6, &[130, 58, 65, 65, 0, 18, 58, 65, 0], refused(32, 3)),
+        (&p6, &[130, 58, 65, 0, 74, 18, 58, 65, 0], refused(32, 4)),
+        (&p6, &[130, 18, 0], surely_false(1)),
         (&p6, &[130, 18, 58, 65, 0, 18, 58, 65, 0], surely_false(1)),
         (&p6, &[130, 65, 0, 0], not_known(1)),
         (&p6, &[], refused(20, 0)),
@@ -227,8 +236,15 @@ fn by_hand_plans(group: &mut Group) {
         (&p6_open, &[129, 58, 65, 0, 129, 58, 65, 0], known(4)),
         (&p9, &[1, 0], refused(19, 1)),
         (&p9, &[113, 0, 1, 0], Ok(())),
-        (&p9, &[113, 1, 0, 1, 0], Ok(())),
-        (&p9, &[113, 1, 0, 0], refused(19, 3)),
+        (&p9, &[113, 1, 0, 1, 0], refused(32, 1)),
+        (&p9, &[113, 0, 57, 1, 0], refused(32, 2)),
+        (&p9, &[113, 57, 1, 0, 1, 0], Ok(())),
+        (&p9, &[113, 57, 1, 1, 0, 1, 0], refused(32, 3)),
+        (&p9, &[113, 0, 1, 1, 0], refused(32, 3)),
+        (&p9, &[1, 1, 0], refused(32, 1)),
+        (&p9, &[57, 57, 0], refused(32, 1)),
+        (&p9, &[57, 1, 0], refused(19, 2)),
+        (&p9, &[113, 57, 1, 0, 0], refused(19, 4)),
         (&p9, &[1, 113], known(1)),
         (&p9, &[113, 113], known(1)),
         (&p9, &[169], refused(17, 0)),
@@ -236,6 +252,7 @@ fn by_hand_plans(group: &mut Group) {
         (&p12, &[0, 0], refused(21, 1)),
         (&p12, &[0, 255], refused(21, 1)),
         (&p12, &[1, 255], surely_false(0)),
+        (&p12, &[57, 255], surely_false(0)),
         (&p12, &[113, 255], known(0)),
         (&p12, &[121, 255], surely_false(0)),
         (&reasons, &[57, 0], Ok(())),
@@ -243,6 +260,9 @@ fn by_hand_plans(group: &mut Group) {
         (&reasons, &[57, 113, 0, 0], known(1)),
         (&reasons, &[121, 0, 0], surely_false(0)),
         (&reasons, &[9, 0], not_known(0)),
+        (&reasons, &[57, 57, 0], refused(32, 1)),
+        (&reasons, &[1, 9, 9, 0], refused(32, 2)),
+        (&reasons, &[1, 9, 57, 9, 0], surely_false(3)),
         (&reasons, &[57, 9, 0], surely_false(1)),
         (&reasons, &[1, 9, 0], Ok(())),
         (&reasons, &[1, 9, 121, 0, 0], known(2)),
@@ -252,6 +272,8 @@ fn by_hand_plans(group: &mut Group) {
         (&p6_held, &[18, 58, 65, 0], held(0)),
         (&p6_held, &[130, 58, 65, 0, 130, 58, 65, 0], known(4)),
         (&reasons_held, &[57, 0], held(0)),
+        (&known_held, &[57, 0], held(0)),
+        (&known_held, &[1, 0], held(0)),
         (&reasons_held, &[9, 0], held(0)),
         (&reasons_held, &[113, 0, 0], not_known(0)),
         (&reasons_held, &[121, 0, 0], surely_false(0)),
@@ -262,6 +284,7 @@ fn by_hand_plans(group: &mut Group) {
         (2, 0x312_0000_0004, "refused 18 4 2"),
         (3, 0x412_0000_0004, "refused 18 4 3"),
     ];
+    group.case(Refusal::at(32, 4).word() == 0x20_0000_0004, || "this program's own word for 32".to_string());
     for (second, word, printed) in words {
         let refusal = Refusal::at(18, 4).with_second(second);
         let right = refusal.word() == word && Refusal::of_word(word) == Some(refusal) && told(word) == printed;
@@ -328,6 +351,7 @@ fn any_act(group: &mut Group) {
     for second in 0..=3 {
         group.must_reach_second(18, second, 0..=ANY_ACT_PLACES);
     }
+    group.must_reach(32, 0..=ANY_ACT_PLACES);
 }
 
 fn one_byte(group: &mut Group) {
@@ -457,17 +481,27 @@ const YES: u8 = 57;
 /// look at c; a look at b, sets of c; sets of b.
 const NEVER_PERMITTED: [(u8, u32); 7] = [(113, 0), (129, 1), (121, 2), (17, 2), (73, 2), (9, 3), (65, 3)];
 
-/// So many sets to either value, at random.
-fn row(rng: &mut Rng, count: usize) -> Vec<u8> {
-    rng.bytes_of(&[NO, YES], count)
+/// So many sets of a, each to the other value, the last of them to this one; and the question at whose start each of them
+/// changes something. Without any, a has the value at the start. Setting b is held.
+fn row(last: bool, count: usize) -> (Question, Vec<u8>) {
+    let value = |place: usize| last ^ ((count - place) % 2 == 0);
+    let sets = (0..count).map(|place| if value(place) { YES } else { NO }).collect();
+    let values = u8::from(last ^ (count % 2 == 1));
+    (Question { held: 2, values, ..always() }, sets)
+}
+
+/// A row that ends in a stop where the goal is settled, so many bytes in all.
+fn row_to_stop(length: usize) -> (Question, Vec<u8>) {
+    let (question, sets) = row(true, length - 1);
+    (question, [sets, vec![0]].concat())
 }
 
 /// A row of sets, `place` bytes of it, and then each fault there is, with something after it or not.
 fn faults_at(group: &mut Group, place: usize) {
-    let question = Question { held: 2, ..always() };
-    let sets = row(&mut group.rng, place);
+    let last = group.rng.chance(50);
+    let (question, sets) = row(last, place);
     let count = if place + 6 < PLAN_MOST { group.rng.below(6) } else { 0 };
-    let ending = row(&mut group.rng, count);
+    let ending = group.rng.bytes_of(&[NO, YES], count);
     let then = |start: &[u8], byte: u8| [start, &[byte], &ending[..]].concat();
     let refused = |number| Err(Refusal::at(number, place as u32));
     let far = group.rng.one_of(&[2, 25, 58, 114, 168, 169, 255]);
@@ -476,19 +510,14 @@ fn faults_at(group: &mut Group, place: usize) {
         let not_permitted = Refusal::at(18, place as u32).with_second(second);
         expect(group, &question, &then(&sets, byte), Err(not_permitted));
     }
+    expect(group, &question, &then(&sets, if last { YES } else { NO }), refused(32));
     expect(group, &question, &sets, refused(20));
-    match place {
-        0 => expect(group, &Question { values: 0, ..question }, &then(&[], 0), refused(19)),
-        _ => {
-            let unsettled = replaced(&sets, place - 1, NO);
-            expect(group, &question, &then(&unsettled, 0), refused(19));
-            let mut settled = replaced(&sets, place - 1, 0);
-            if place > 1 {
-                settled[place - 2] = YES;
-            }
-            let after = group.rng.byte();
-            expect(group, &question, &then(&settled, after), refused(21));
-        }
+    let (question, unsettled) = row(false, place);
+    expect(group, &question, &then(&unsettled, 0), refused(19));
+    if place > 0 {
+        let (question, settled) = row_to_stop(place);
+        let after = group.rng.byte();
+        expect(group, &question, &then(&settled, after), refused(21));
     }
 }
 
@@ -504,17 +533,15 @@ fn rows(group: &mut Group) {
 
 /// A row of 32,640 bytes is read to its end; one byte more is 16, whatever it holds.
 fn longest(group: &mut Group) {
-    let question = always();
     faults_at(group, PLAN_MOST - 2);
     faults_at(group, PLAN_MOST - 1);
     for length in
         [PLAN_MOST - 1, PLAN_MOST, PLAN_MOST + 1, PLAN_MOST + 2, 33_000, 65_535, 65_536, 65_537, 65_538, 98_176]
     {
-        let mut plan = row(&mut group.rng, length);
+        let (question, plan) = row(true, length);
         let all_sets = if length > PLAN_MOST { (16, 0) } else { (20, length as u32) };
         expect(group, &question, &plan, Err(Refusal::at(all_sets.0, all_sets.1)));
-        plan[length - 2] = YES;
-        plan[length - 1] = 0;
+        let (question, plan) = row_to_stop(length);
         let expected = if length > PLAN_MOST { Err(Refusal::at(16, 0)) } else { Ok(()) };
         expect(group, &question, &plan, expected);
         for (place, byte) in [(0, 0), (0, 255), (length / 2, 0), (length / 2, 200), (length - 1, 7), (length - 1, 200)]
@@ -529,10 +556,12 @@ fn longest(group: &mut Group) {
     let wide = by_hand(7, 8, &["write g 8 1", "read a 1 1"], "1 8", "", "g", &[]);
     let (set_g_false, set_g_true) = (1 + 6 * 8 + 7, 1 + (7 + 6) * 8 + 7);
     for length in [PLAN_MOST, PLAN_MOST + 1] {
-        let mut plan = group.rng.bytes_of(&[set_g_false, set_g_true], length);
-        plan[length - 2] = set_g_true;
+        let mut plan: Vec<u8> =
+            (0..length).map(|at| if (length - at) % 2 == 0 { set_g_true } else { set_g_false }).collect();
         plan[length - 1] = 0;
-        compare(group, &wide, &plan);
+        expect(group, &wide, &plan, if length > PLAN_MOST { Err(Refusal::at(16, 0)) } else { Ok(()) });
+        compare(group, &wide, &replaced(&plan, length / 3, set_g_true));
+        compare(group, &wide, &replaced(&plan, length / 3, set_g_false));
     }
 }
 

@@ -166,7 +166,7 @@ impl Asked<'_> {
         }
     }
 
-    /// The byte with index `at`, or its refusal: 19, or 17 before 18.
+    /// The byte with index `at`, or its refusal: 19, or 17 before 18 and 32 after it.
     fn read(&self, number: u32, at: usize, byte: u8) -> Result<Reading, u64> {
         let state = Knowledge::of_number(number);
         if byte == 0 {
@@ -177,6 +177,11 @@ impl Asked<'_> {
         if let Some(why) = self.denied(state, act) {
             return Err((1 + why) << 40 | refused(18, at));
         }
+        if let Kind::Set(value) = act.kind {
+            if Side::Now.told(state.digit(act.setting)) == Some(value) {
+                return Err(refused(32, at));
+            }
+        }
         let seen = |value| state.after_look(act.setting, value).number();
         Ok(match act.kind {
             Kind::Set(value) => Reading::Goes(state.after_set(act.setting, value).number()),
@@ -184,7 +189,7 @@ impl Asked<'_> {
         })
     }
 
-    /// The first fault in reading order, 17 to 21. A look makes one more setting known, so at most n states wait.
+    /// The first fault in reading order, 17 to 21 and 32. A look makes one more setting known, so at most n states wait.
     fn walk(&self, start: u32, plan: &[u8]) -> Result<(), u64> {
         let mut here = Some(start);
         let mut waiting = [0; MOST];

@@ -21,7 +21,7 @@ pub enum Found {
 }
 
 /// What there is to tell of a sound question: the ranks of all knowledge numbers, and the answer.
-#[derive(Clone)]
+#[derive(Clone, PartialEq, Eq)]
 pub struct Solution {
     pub ranks: Vec<u8>,
     pub found: Found,
@@ -29,17 +29,20 @@ pub struct Solution {
 
 /// Or one of the question's refusals, 6 to 12 and 31.
 pub fn find(question: &Question) -> Result<Solution, Refusal> {
-    let asked = question.read()?;
-    let ranks = ranks(&asked);
+    question.read().map(|asked| solve(&asked))
+}
+
+pub fn solve(asked: &Asked) -> Solution {
+    let ranks = ranks(asked);
     let found = match ranks[asked.start.number()] {
         NEVER => Found::Cannot,
         height => {
             let mut plan = Vec::new();
-            write(&asked, &ranks, &asked.start, &mut plan);
+            write(asked, &ranks, &asked.start, &mut plan);
             Found::Reach { height, plan }
         }
     };
-    Ok(Solution { ranks, found })
+    Solution { ranks, found }
 }
 
 impl Solution {

@@ -17,6 +17,7 @@ use crate::report::{shown, sparse, Group, Subject};
 use crate::rng::Rng;
 use crate::room::Room;
 use crate::tables::{any_rights, any_table};
+use crate::unchanged;
 
 /// How many random questions of each n from 1 to 7. At n = 7 a question has 823,543 ranks.
 const QUESTIONS: [usize; 7] = [1_000, 1_500, 1_000, 300, 60, 12, 4];
@@ -45,6 +46,7 @@ pub fn test(subject: &mut Subject) {
     subject.group("every set of known settings, and every set of values", starts);
     subject.group("every set of held settings", held);
     subject.group("more held never reaches more, nor sooner", more_held);
+    subject.group("answers, ranks and plans as before sets that change nothing were none", unchanged::same_answers);
     subject.group("goal tables of wrong lengths, or with a bit past 2^n", goals);
     subject.group("damaged books", books);
     subject.group("several faults at once", faults);
@@ -61,7 +63,15 @@ fn ranks_of(n: usize) -> usize {
 
 /// One case, in rooms that are long enough.
 pub fn compare(group: &mut Group, question: &Question) -> Result<Solution, Refusal> {
-    let solution = finder::find(question);
+    compare_with(group, question, finder::find(question))
+}
+
+/// The same with this solution in hand.
+pub fn compare_with(
+    group: &mut Group,
+    question: &Question,
+    solution: Result<Solution, Refusal>,
+) -> Result<Solution, Refusal> {
     let (rank_room, plan_room) = match &solution {
         Ok(Solution { ranks, found: Found::Reach { plan, .. } }) => (ranks.len(), plan.len()),
         Ok(Solution { ranks, found: Found::Cannot }) => (ranks.len(), 0),

@@ -1,4 +1,4 @@
-//! The second program: paper 01, issue 18's texts and requests written again, independently, and compared with
+//! The second program: paper 01, issue 18's texts and requests written again, independently, and compared with
 //! the proved library on many inputs, valid and damaged, to the last bit of every result and every lent byte.
 //! ../README.md tells how it is run.
 //!
@@ -45,6 +45,7 @@ mod spoilt;
 mod tables;
 mod text;
 mod texts;
+mod unchanged;
 
 use std::process::ExitCode;
 use std::sync::atomic::{AtomicUsize, Ordering::Relaxed};

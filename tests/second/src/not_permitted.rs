@@ -1,4 +1,4 @@
-//! The cases for refusal 18's second number, from the words of requests: each kind of act, at every digit of the setting
+//! The cases for refusal 18's second number, from the words of requests, and for 32, from R-9's: each kind of act, at every digit of the setting
 //! acted on and of a setting that the rule speaks of, with rules that are true at all fitting valuations, false at all
 //! and neither. Each group tests itself: it has come to all of them, and to nothing else.
 //!
@@ -62,19 +62,24 @@ const WAYS: [&[Way]; 7] = {
 };
 
 /// What this program's own check came to: the act's kind, the digits of the setting acted on and of the one spoken of, the
-/// judgement on the rule, and refusal 18's second number, or none where the act is permitted. The setting acted on is held
-/// in all cases of a group or in none.
-type CameTo = (Kind, usize, usize, Judgement, Option<u32>);
+/// judgement on the rule, and the refusal's number and second number, or none where the act is permitted. The setting acted
+/// on is held in all cases of a group or in none.
+type CameTo = (Kind, usize, usize, Judgement, Told);
+
+type Told = Option<(u32, Option<u32>)>;
 
 /// In request R-3's words: 0 for a look at a known setting, 1 surely false, 2 not known, judged in that order. In R-7's
-/// words: a plan that sets a held setting gets second number 3, judged first.
-fn second(kind: Kind, digit: usize, judgement: Judgement, held: bool) -> Option<u32> {
+/// words: a plan that sets a held setting gets second number 3, judged first. In R-9's words: where the team knows the
+/// present value, setting that same value is no longer an act; 32, after 18 at the same byte.
+fn told(kind: Kind, digit: usize, judgement: Judgement, held: bool) -> Told {
     match (kind, digit, judgement) {
-        (Kind::Set(_), _, _) if held => Some(3),
-        (Kind::Look, 1..=6, _) => Some(0),
+        (Kind::Set(_), _, _) if held => Some((18, Some(3))),
+        (Kind::Look, 1..=6, _) => Some((18, Some(0))),
+        (_, _, FalseAtAll) => Some((18, Some(1))),
+        (_, _, Neither) => Some((18, Some(2))),
+        (Kind::Set(false), 1 | 3 | 5, TrueAtAll) => Some((32, None)),
+        (Kind::Set(true), 2 | 4 | 6, TrueAtAll) => Some((32, None)),
         (_, _, TrueAtAll) => None,
-        (_, _, FalseAtAll) => Some(1),
-        (_, _, Neither) => Some(2),
     }
 }
 
@@ -161,15 +166,15 @@ fn each_rule(group: &mut Group, scene: &Scene, came_to: &mut BTreeSet<CameTo>) {
             let lead = scene.lead(&question, free);
             let (acted, spoken) = (lead.digit(scene.acted), lead.digit(scene.spoken));
             let judgement = judgements[COLUMN[spoken]];
-            let refused = |second| Refusal::at(18, lead.bytes.len() as u32).with_second(second);
-            let expected = second(kind, acted, judgement, scene.held).map_or(Ok(()), |second| Err(refused(second)));
+            let refused = |(number, second)| Refusal { number, place: lead.bytes.len() as u32, second };
+            let expected = told(kind, acted, judgement, scene.held).map_or(Ok(()), |numbers| Err(refused(numbers)));
             let plan = lead.then(act);
             let own = check(&question, &plan);
             group.case(own == expected, || {
                 format!("this program's own check of {text}, {kind:?} at digits {acted} and {spoken}")
             });
             expect(group, &question, &plan, expected);
-            came_to.insert((kind, acted, spoken, judgement, own.err().and_then(|refusal| refusal.second)));
+            came_to.insert((kind, acted, spoken, judgement, own.err().map(|refusal| (refusal.number, refusal.second))));
         }
     }
 }
@@ -251,14 +256,14 @@ impl Lead {
     }
 }
 
-/// At each of these digits each kind of act came to each judgement, with the second number that it has there. Nothing
-/// else was come to: no set had 0.
+/// At each of these digits each kind of act came to each judgement, with the numbers that it has there. Nothing else was
+/// come to: no set had 18 with 0, and no look 32.
 fn each_was_come_to(group: &mut Group, digits: &[[usize; 2]], came_to: &BTreeSet<CameTo>, held: bool) {
     let mut count = 0;
     for &[acted, spoken] in digits {
         for kind in KINDS {
             for judgement in [TrueAtAll, FalseAtAll, Neither] {
-                let case = (kind, acted, spoken, judgement, second(kind, acted, judgement, held));
+                let case = (kind, acted, spoken, judgement, told(kind, acted, judgement, held));
                 group.case(came_to.contains(&case), || format!("never {case:?}"));
                 count += 1;
             }

@@ -1,16 +1,17 @@
 //! Plans, and the check of their bytes, from paper 01's section on them and its refusals 16 to 21 alone, with the second
-//! number of 18 that requests give.
+//! number of 18 that requests give, and 32 of request R-9.
 //!
 //! The check reads each byte at the state that its branch has come to; states of branches that were left for later wait
 //! in a row. Beside it stands what a plan is, a tree, which the check is compared with.
 
-use crate::knowledge::{Act, Knowledge};
+use crate::knowledge::{Act, Kind, Knowledge};
 use crate::question::{Asked, Question};
 use crate::refusal::{refusal, Refusal};
 
 pub const PLAN_MOST: usize = 32_640;
 
-/// The question's 6 to 12 and 31, then 16, then the first fault in reading order, 17 before 18; else a bare yes.
+/// The question's 6 to 12 and 31, then 16, then the first fault in reading order, 17 before 18 and 32 after it; else
+/// a bare yes.
 pub fn check(question: &Question, plan: &[u8]) -> Result<(), Refusal> {
     let asked = question.read()?;
     if plan.len() > PLAN_MOST {
@@ -28,6 +29,9 @@ pub fn check(question: &Question, plan: &[u8]) -> Result<(), Refusal> {
         let Some(act) = Act::of_byte(byte).filter(|&act| asked.names(act)) else { return refusal(17, index) };
         if let Some(reason) = asked.not_permitted(&state, state.presents(), act) {
             return Err(Refusal::at(18, index as u32).with_second(reason.second()));
+        }
+        if asked.changes_nothing(&state, act) {
+            return refusal(32, index);
         }
         waiting.extend(act.outcomes(&state).into_iter().rev());
     }
@@ -74,6 +78,20 @@ impl Plan {
             Plan::Go(act, plans) => {
                 let mut branches = act.outcomes(knowledge).into_iter().zip(plans);
                 branches.all(|(outcome, plan)| plan.settles(asked, &outcome))
+            }
+        }
+    }
+
+    /// The same plan with the sets left out that change nothing where they stand.
+    pub fn without_idle(&self, knowledge: &Knowledge) -> Plan {
+        let Plan::Go(act, plans) = self else { return Plan::Stop };
+        match act.kind {
+            Kind::Set(value) if knowledge.of_setting(act.setting).now == Some(value) => {
+                plans[0].without_idle(knowledge)
+            }
+            _ => {
+                let branches = act.outcomes(knowledge).into_iter().zip(plans);
+                Plan::Go(*act, branches.map(|(outcome, plan)| plan.without_idle(&outcome)).collect())
             }
         }
     }

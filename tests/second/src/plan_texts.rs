@@ -43,7 +43,7 @@ pub fn test(subject: &mut Subject) {
     }
     subject.must_reach(7, 0..=1);
     subject.must_reach(9, 1..=1);
-    for number in [17, 19, 20] {
+    for number in [17, 19, 20, 32] {
         subject.must_reach(number, 0..=ROW);
     }
     for second in 0..=2 {
@@ -161,6 +161,8 @@ const TO_P6: &[(&str, &str)] = &[
     ("0 look c 2\n1 set c 2 0\n", "refused 18 1 1\n"),
     ("0 look c 2\n1 set b 1 1\n", "refused 18 1 2\n"),
     ("0 look c 2\n1 set a 2 1\n2 set b 1 1\n3 stop\n1 set a 2 1\n", "refused 18 4 1\n"),
+    ("0 look c 2\n1 set a 2 1\n2 set a 2 1\n", "refused 32 2\n"),
+    ("0 look c 2\n1 set a 2 1\n2 set b 1 1\n3 stop\n1 set c 2 1\n", "refused 32 4\n"),
     ("0 look c 2\n1 set a 2 1\n2 stop\n", "refused 19 2\n"),
     ("0 look c 2\n1 set a 2 1\n2 look d 1\n", "refused 17 2\n"),
     ("0 look c 2\n1 set a 2 1\n2 set c 1 1\n3 x\n", "refused 22 5\n"),
@@ -309,13 +311,27 @@ fn every_act(group: &mut Group, files: &Files) {
 const NEVER_PERMITTED: [(&str, u32); 5] =
     [("0 look a 1\n", 0), ("0 set b 1 1\n", 1), ("0 look c 1\n", 1), ("0 look b 1\n", 2), ("0 set c 1 0\n", 2)];
 
+/// The lines of so many sets, each to the other value, the last of them to this one. `set` is a line without its value.
+fn turns(set: &str, last: bool, count: usize) -> String {
+    let value = |place: usize| u8::from(last ^ ((count - place) % 2 == 0));
+    (0..count).map(|place| format!("{set} {}\n", value(place))).collect()
+}
+
+/// A question whose goal is that a is true, known at the start to be so that each of `turns` changes something.
+fn question_for(last: bool, count: usize) -> Vec<u8> {
+    let sign = if last ^ (count % 2 == 1) { "" } else { "~" };
+    format!("team 1\nknown {sign}a\nmake a\n").into_bytes()
+}
+
 /// The last line has the fault; the byte in line i + 2 is byte i.
 fn rows(group: &mut Group, files: &Files) {
     let book = always().book;
-    let question = b"team 1\nknown ~a\nmake a\n";
     for place in 0..=ROW {
-        let row = ["reach 1\n", &"0 set a 1 0\n".repeat(place as usize)].concat();
-        for (last, number) in [("0 set g 8 1\n", 17), ("0 stop\n", 19), ("", 20), ("0 stop ", 22)] {
+        let question = &question_for(false, place as usize);
+        let row = ["reach 1\n", &turns("0 set a 1", false, place as usize)].concat();
+        for (last, number) in
+            [("0 set g 8 1\n", 17), ("0 stop\n", 19), ("", 20), ("0 stop ", 22), ("0 set a 1 0\n", 32)]
+        {
             let plan = [&row, last].concat();
             let place = if number == 22 { place + 2 } else { place };
             expect(group, files, [&book, question, plan.as_bytes()], Err(Refusal::at(number, place)));
@@ -325,9 +341,9 @@ fn rows(group: &mut Group, files: &Files) {
             let expected = Refusal::at(18, place).with_second(second);
             expect(group, files, [&book, question, plan.as_bytes()], Err(expected));
         }
-        let plan = [&row.replace("a 1 0", "a 1 1"), "0 stop\n0 stop\n"].concat();
-        let known = b"team 1\nknown a\nmake a\n";
-        expect(group, files, [&book, known, plan.as_bytes()], Err(Refusal::at(21, place + 1)));
+        let plan = ["reach 1\n", &turns("0 set a 1", true, place as usize), "0 stop\n0 stop\n"].concat();
+        let known = question_for(true, place as usize);
+        expect(group, files, [&book, &known, plan.as_bytes()], Err(Refusal::at(21, place + 1)));
     }
 }
 
@@ -390,7 +406,7 @@ fn moved_lines(group: &mut Group, files: &Files) {
 /// 22 comes before 16: the text is judged before the plan.
 fn lengths(group: &mut Group, files: &Files) {
     let (book, question) = open(7, 8);
-    let row = |count: usize, end: &str| ["reach 0\n", &"0 set g 8 1\n".repeat(count), end].concat().into_bytes();
+    let row = |count: usize, end: &str| ["reach 0\n", &turns("0 set g 8", true, count), end].concat().into_bytes();
     let refused = |number, place| Err(Refusal::at(number, place));
     let cases = [
         (row(PLAN_MOST - 1, "0 stop\n"), Ok(())),

@@ -1,5 +1,6 @@
 //! A question: a book, a team, what it knows, what is held, and a goal; from paper 01's refusals 6 to 12 alone, and from
-//! requests why an act is not permitted, and refusal 31.
+//! requests why an act is not permitted, and refusal 31; from request R-9 that a set which changes nothing is
+//! no act.
 
 use crate::book;
 use crate::knowledge::{judgement, known_to_hold, learnt, Act, Judgement, Kind, Knowledge, DIGITS};
@@ -28,6 +29,8 @@ pub struct Asked {
     pub start: Knowledge,
     make: u128,
     learn: Vec<u128>,
+    /// Whether a set that changes nothing is an act, as it was before request R-9.
+    idle_sets: bool,
 }
 
 /// Why an act of the book and team is not permitted.
@@ -77,7 +80,7 @@ impl Question {
         }
         let start = Knowledge::at_start(n, self.known, self.values);
         let rules = book.rights.chunks(16).map(bits).collect();
-        Ok(Asked { n, team: self.team, held: self.held, rules, start, make, learn })
+        Ok(Asked { n, team: self.team, held: self.held, rules, start, make, learn, idle_sets: false })
     }
 }
 
@@ -113,13 +116,28 @@ impl Asked {
         }
     }
 
+    /// "Where the team knows the present value, setting that same value is no longer an act."
+    pub fn changes_nothing(&self, knowledge: &Knowledge, act: Act) -> bool {
+        match act.kind {
+            Kind::Set(value) => !self.idle_sets && knowledge.of_setting(act.setting).now == Some(value),
+            Kind::Look => false,
+        }
+    }
+
+    /// The same question under the rule before request R-9: such a set is an act like any other.
+    pub fn with_idle_sets(self) -> Asked {
+        Asked { idle_sets: true, ..self }
+    }
+
     pub fn permits(&self, knowledge: &Knowledge, act: Act) -> bool {
         self.permits_where(knowledge, knowledge.presents(), act)
     }
 
     /// The same for one who asks of many acts and has all fitting present valuations at hand.
     pub fn permits_where(&self, knowledge: &Knowledge, presents: u128, act: Act) -> bool {
-        self.names(act) && self.not_permitted(knowledge, presents, act).is_none()
+        self.names(act)
+            && self.not_permitted(knowledge, presents, act).is_none()
+            && !self.changes_nothing(knowledge, act)
     }
 
     /// All acts there are, by their bytes.

@@ -135,10 +135,19 @@ impl Group {
         }
     }
 
-    /// A test of this group's own cases so far: the refusal with this second number was given at each of these places.
+    /// A test of this group's own cases so far: this refusal, which has no second number, was given at each of these places.
+    pub fn must_reach(&mut self, number: u32, places: RangeInclusive<u32>) {
+        self.reached_at_each(number, None, places);
+    }
+
+    /// The same of the refusal with this second number.
     pub fn must_reach_second(&mut self, number: u32, second: u32, places: RangeInclusive<u32>) {
-        let reached = self.reached.get(&(number, Some(second))).cloned().unwrap_or_default();
-        self.each_is_among(&reached, places, &named(number, Some(second)));
+        self.reached_at_each(number, Some(second), places);
+    }
+
+    fn reached_at_each(&mut self, number: u32, second: Option<u32>, places: RangeInclusive<u32>) {
+        let reached = self.reached.get(&(number, second)).cloned().unwrap_or_default();
+        self.each_is_among(&reached, places, &named(number, second));
     }
 
     fn each_is_among(&mut self, reached: &BTreeMap<u32, usize>, places: RangeInclusive<u32>, refusal: &str) {

@@ -97,10 +97,13 @@ fn runs_by_hand(group: &mut Group) {
 fn kept(group: &mut Group, n: usize, count: usize, kinds: &mut [usize; 4]) {
     for _ in group.times(count) {
         let question = cannot(group, n);
+        let before = asked(&question).with_idle_sets();
         let asked = asked(&question);
         for _ in 0..8 {
             let (acts, looks) = (group.rng.between(0, 16), group.rng.between(0, n));
-            let plan = permitted(&mut group.rng, &asked, &asked.start, acts, looks);
+            // a team that does sets which change nothing learns nothing by them either
+            let asked = if group.rng.chance(30) { &before } else { &asked };
+            let plan = permitted(&mut group.rng, asked, &asked.start, acts, looks);
             let bytes = plan.bytes();
             let sets = bytes.iter().any(|byte| (1..=112).contains(byte));
             let looks = bytes.iter().any(|&byte| byte > 112);

@@ -1,23 +1,31 @@
--- `finder::finding::search` meets its contract: the tables tell the question's system, and the ranks are its ranks.
+-- `finder::finding::search` meets its contract: the tables tell the system of the question's rules, and the ranks are its ranks; they and the answer are
+-- the same without the sets that change nothing, which is the question's system.
 use borrow.Author.Needs.{needs}
 use mathlib.Core.Path.{_≡_, sym, subst}
 use Prim.Native.Nat.{ℕ, _^_, _<_}
 use native.Mathlib.Omega.{arith}
 use Rattle.knowledge.specs.Goal.{goalOf}
 use Rattle.plan.specs.Plans.{System}
-use Rattle.question.specs.Question.{systemOf, startOf}
+use Rattle.plan.specs.Without.{without}
+use Rattle.question.specs.Question.{systemOf, ruledSystem, startOf}
 use Rattle.question.proofs.AskLaws.{start-is}
-use Rattle.question.proofs.SystemLaws.{valid-start}
+use Rattle.question.proofs.SystemLaws.{from-ruled, valid-start}
 use Rattle.finder.specs.Answers.{AnswersFrom}
 use Rattle.finder.specs.Tables.{TablesTell}
 use Rattle.finder.specs.Finds.{RanksFilled}
 use Rattle.finder.proofs.Tables.{tables-tell, ranks-filled}
+use Rattle.finder.proofs.Without.{ranks-without, answers-without}
 use Rattle.finder.proofs.finding.search.Statement.{statement}
 use Rattle.finder.proofs.finding.search.Tie as tie
 
--- the question's system
+-- the system of the question's rules
 abbrev systemHere : tie.Start → System
-systemHere s = systemOf (s .args .n) (s .args .book .now) (s .args .question) (goalOf (s .args .make .now) (s .args .learn .now))
+systemHere s = ruledSystem (s .args .n) (s .args .book .now) (s .args .question) (goalOf (s .args .make .now) (s .args .learn .now))
+
+-- what holds of it without the sets that change nothing holds of the question's system
+abbrev asked : (s : tie.Start) (P : System → Type 0)
+    → P (without (systemHere s)) → P (systemOf (s .args .n) (s .args .book .now) (s .args .question) (goalOf (s .args .make .now) (s .args .learn .now)))
+asked s P h = from-ruled (s .args .n) (s .args .book .now) (s .args .question) (goalOf (s .args .make .now) (s .args .learn .now)) P h
 
 -- the places before the ranks are filled
 abbrev started : tie.After-fill-ranks → tie.Start
@@ -30,7 +38,7 @@ looked c =
     let after-posts-allowed2 : tie.After-posts-allowed2 = search in
     after-posts-allowed2
 
--- once the ranks are filled, the tables tell the question's system
+-- once the ranks are filled, the tables tell that system
 told : (c : tie.After-fill-ranks)
     → TablesTell (started c .args .n) (looked c .before .posts-allowed .result) (looked c .posts-allowed2 .result)
     (c .fill-ranks .last .1 .1 .1 .1 .1 .0) (systemHere (started c))
@@ -103,9 +111,11 @@ returns c =
     let numbered = after-number in
     let ranked = after-fill-ranks in
     let start = started ranked in (
-      filled ranked,
-      subst (λ (x : ℕ). AnswersFrom (systemHere start) x (start .args .plan .now) (answered .from-start .result) (answered .from-start .last .1 .1 .1 .1 .1 .0))
-          (start-here numbered) (answered .from-start .ensures (systemHere start) (told ranked)),
+      asked start (λ (S : System). RanksFilled (start .args .n) S (start .args .ranks .now) (ranked .fill-ranks .last .1 .1 .1 .1 .1 .0)) (ranks-without .0 (filled ranked)),
+      asked start (λ (S : System). AnswersFrom S (startOf (start .args .question)) (start .args .plan .now) (answered .from-start .result) (answered .from-start .last .1 .1 .1 .1 .1 .0))
+          (answers-without (systemHere start) (startOf (start .args .question)) (start .args .plan .now) (answered .from-start .result) (answered .from-start .last .1 .1 .1 .1 .1 .0) .0
+          (subst (λ (x : ℕ). AnswersFrom (systemHere start) x (start .args .plan .now) (answered .from-start .result) (answered .from-start .last .1 .1 .1 .1 .1 .0))
+          (start-here numbered) (answered .from-start .ensures (systemHere start) (told ranked)))),
     )
 
 pub search-spec : {M : Type 1} → statement M

@@ -1,5 +1,11 @@
--- `finder::two::fill_leg` meets its contract: the tables tell the question's system, and the ranks are its ranks.
+-- `finder::two::fill_leg` meets its contract: the tables tell the system of the question's rules, whose ranks are those without the sets that change
+-- nothing.
 use borrow.Author.Needs.{needs}
+use Rattle.knowledge.specs.Goal.{goalOf}
+use Rattle.plan.specs.Plans.{System}
+use Rattle.question.proofs.SystemLaws.{from-ruled}
+use Rattle.finder.specs.Finds.{RanksFilled}
+use Rattle.finder.proofs.Without.{ranks-without}
 use Rattle.finder.proofs.Tables.{ranks-filled}
 use Rattle.finder.proofs.two.fill_leg.Statement.{statement}
 use Rattle.finder.proofs.two.fill_leg.Tie as tie
@@ -34,8 +40,11 @@ returns c =
     let ranked : tie.After-fill-ranks = search in
     let start = started ranked in
     let halves = ranked .before .before .before .before .before .before in
-    ranks-filled (start .pre .0 .1) (looked ranked .before .posts-allowed .ensures) (looked ranked .posts-allowed2 .ensures)
-    (halves .before .made .ensures) (halves .learnt .ensures) (ranked .fill-ranks .ensures) (start .pre .1)
+    let args = start .args in
+    from-ruled (args .n) (args .book .now) (args .question) (goalOf (args .make .now) (args .learn .now))
+    (λ (S : System). RanksFilled (args .n) S (args .ranks .now) (ranked .fill-ranks .last .1 .1 .1 .1 .1 .0))
+    (ranks-without .0 (ranks-filled (start .pre .0 .1) (looked ranked .before .posts-allowed .ensures) (looked ranked .posts-allowed2 .ensures)
+    (halves .before .made .ensures) (halves .learnt .ensures) (ranked .fill-ranks .ensures) (start .pre .1)))
 
 pub fill-leg-spec : {M : Type 1} → statement M
 fill-leg-spec =

@@ -1,18 +1,22 @@
--- `finder::two::search_two` meets its contract: the second leg's ranks are those of its system, and so the tables tell the first leg's.
+-- `finder::two::search_two` meets its contract: the second leg's ranks are those of its system, and so the tables tell the first leg's, by its rules
+-- alone; the ranks and the answer are the same without the sets that change nothing.
 use borrow.Author.Needs.{needs}
 use mathlib.Core.Path.{_≡_, sym, subst}
 use Prim.Native.Nat.{ℕ, _^_, _<_}
 use native.Mathlib.Omega.{arith}
 use Rattle.knowledge.specs.Goal.{Goal, goalOf}
 use Rattle.plan.specs.Plans.{System}
-use Rattle.question.specs.Question.{startOf}
+use Rattle.plan.specs.Legs.{firstLeg}
+use Rattle.plan.specs.Without.{without}
+use Rattle.question.specs.Question.{ruledSystem, startOf}
 use Rattle.question.specs.Legs.{secondSystem, firstSystem}
 use Rattle.question.proofs.AskLaws.{start-is}
-use Rattle.question.proofs.SystemLaws.{valid-start}
+use Rattle.question.proofs.SystemLaws.{from-ruled, valid-start}
 use Rattle.question.proofs.LegLaws.{second-valid, second-lawful}
 use Rattle.finder.specs.Answers.{AnswersFrom}
 use Rattle.finder.specs.Tables.{TablesTell}
 use Rattle.finder.specs.Finds.{RanksFilled}
+use Rattle.finder.proofs.Without.{ranks-without, answers-without}
 use Rattle.finder.proofs.Tables.{first-tells, first-filled}
 use Rattle.finder.proofs.two.search_two.Statement.{statement}
 use Rattle.finder.proofs.two.search_two.Tie as tie
@@ -28,7 +32,14 @@ abbrev secondHere : tie.Start → System
 secondHere s = secondSystem (s .args .n) (s .args .book .now) (s .args .question) (s .args .second) (wantedSecond s)
 
 abbrev firstHere : tie.Start → System
-firstHere s = firstSystem (s .args .n) (s .args .book .now) (s .args .question) (wantedFirst s) (s .args .second) (wantedSecond s)
+firstHere s = firstLeg (s .args .n) (ruledSystem (s .args .n) (s .args .book .now) (s .args .question) (wantedFirst s)) (secondHere s)
+
+-- what holds of it without the sets that change nothing holds of the first leg's system
+asked : (s : tie.Start) (P : System → Type 0) → P (without (firstHere s))
+    → P (firstSystem (s .args .n) (s .args .book .now) (s .args .question) (wantedFirst s) (s .args .second) (wantedSecond s))
+unfolding firstLeg
+asked s P h =
+    from-ruled (s .args .n) (s .args .book .now) (s .args .question) (wantedFirst s) (λ (S : System). P (firstLeg (s .args .n) S (secondHere s))) h
 
 -- the places before the ranks are filled
 abbrev second : tie.After-fill-first → tie.After-fill-leg
@@ -148,10 +159,14 @@ returns c =
     let start = started ranked in
     record {
       second-ranks = second ranked .fill-leg .ensures;
-      first-ranks = filled ranked;
+      first-ranks =
+          asked start (λ (S : System). RanksFilled (start .args .n) S (start .args .ranks .now) (ranked .fill-first .last .1 .1 .1 .1 .1 .1 .0))
+          (ranks-without .0 (filled ranked));
       answers =
-          subst (λ (x : ℕ). AnswersFrom (firstHere start) x (start .args .plan .now) (answered .from-start .result) (answered .from-start .last .1 .1 .1 .1 .1 .0))
-          (start-here numbered) (answered .from-start .ensures (firstHere start) (told ranked));
+          asked start (λ (S : System). AnswersFrom S (startOf (start .args .question)) (start .args .plan .now) (answered .from-start .result) (answered .from-start .last .1 .1 .1 .1 .1 .0))
+          (answers-without (firstHere start) (startOf (start .args .question)) (start .args .plan .now) (answered .from-start .result) (answered .from-start .last .1 .1 .1 .1 .1 .0) .0
+          (subst (λ (x : ℕ). AnswersFrom (firstHere start) x (start .args .plan .now) (answered .from-start .result) (answered .from-start .last .1 .1 .1 .1 .1 .0))
+          (start-here numbered) (answered .from-start .ensures (firstHere start) (told ranked))));
     }
 
 pub search-two-spec : {M : Type 1} → statement M

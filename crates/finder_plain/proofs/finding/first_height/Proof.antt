@@ -3,7 +3,7 @@ use Prim.Native.Nat.{_-_, _≤_}
 use native.Mathlib.Omega.{arith}
 use lib.ListN.{getD}
 use Rattle.knowledge.specs.Goal.{goalOf}
-use Rattle.question.specs.Question.{systemOf}
+use Rattle.question.specs.Question.{ruledSystem}
 use Rattle.finder_plain.specs.Entries.{Searches}
 use Rattle.finder_plain.proofs.HeightLaws.{height-yes, height-no, height-gap, last-no}
 use Rattle.finder_plain.proofs.finding.first_height.Statement.{statement}
@@ -11,7 +11,7 @@ use Rattle.finder_plain.proofs.finding.first_height.Tie as tie
 
 abbrev Inv-loop : tie.InvT-loop
 Inv-loop n book question make learn start entries₀ count height₀ entries height =
-    (height ≤ count) × Searches n (systemOf n book question (goalOf make learn)) start entries × (height ≤ getD entries start 0)
+    (height ≤ count) × Searches n (ruledSystem n book question (goalOf make learn)) start entries × (height ≤ getD entries start 0)
 
 abbrev μ-loop : tie.MeasureT-loop
 μ-loop n book question make learn start entries₀ count height₀ entries height = count - height

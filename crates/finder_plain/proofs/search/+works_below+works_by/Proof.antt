@@ -9,7 +9,7 @@ use borrow.Fn.Kinds.{In}
 use borrow.Fn.PlainCycle.{Measures, is, falls, and}
 use Rattle.knowledge.specs.Goal.{goalOf}
 use Rattle.plan.specs.Plans.{System, may}
-use Rattle.question.specs.Question.{systemOf}
+use Rattle.question.specs.Question.{ruledSystem}
 use Rattle.finder_plain.specs.Tries.{mayDo, Opens, Foresees}
 use Rattle.finder_plain.specs.declared.ahead.Ahead.{Ahead}
 use Rattle.finder_plain.specs.declared.ahead.Ahead.the-variants.{Nothing, One, Two}
@@ -64,7 +64,7 @@ by-claims t = (foresee-reads.Asked, foresee-reads.Learnt, works-below-below t, w
 
 abbrev works-below-Inv-loop : works-below-lts.InvT-loop
 works-below-Inv-loop n book question make learn k h entries₀ number₀ entries number =
-    Trying n (systemOf n book question (goalOf make learn)) k h entries₀ entries number
+    Trying n (ruledSystem n book question (goalOf make learn)) k h entries₀ entries number
 
 abbrev works-below-μ-loop : works-below-lts.MeasureT-loop
 works-below-μ-loop n book question make learn k h entries₀ number₀ entries number = 3 * n - number
@@ -205,7 +205,7 @@ works-below-returns-4 t c =
 
 -- what lies ahead where works_by begins, in the question's system
 abbrev systemAt : (t : ℕ) → ByStart t → System
-systemAt t s = systemOf (s .args .n) (s .args .book .now) (s .args .question) (goalOf (s .args .make .now) (s .args .learn .now))
+systemAt t s = ruledSystem (s .args .n) (s .args .book .now) (s .args .question) (goalOf (s .args .make .now) (s .args .learn .now))
 
 abbrev Opened : (t : ℕ) → ByStart t → ℕ → ℕ → Type 0
 Opened t s x y = Opens (may (systemAt t s) (s .args .k)) (s .args .k) (s .args .act) x y

@@ -1,8 +1,8 @@
--- `read_act` meets its contract: 17 before 18.
+-- `read_act` meets its contract: 17 before 18, and 32 after it.
 use mathlib.Core.Path.{sym, _∙_}
 use native.Mathlib.Omega.{arith}
 use borrow.Author.Tests.{not-true, not-false}
-use Rattle.plancheck.proofs.ReadingLaws.{permits-at, offered-setting, act-unknown, act-forbidden, act-done}
+use Rattle.plancheck.proofs.ReadingLaws.{permits-at, offered-setting, act-unknown, act-forbidden, act-idle, act-done}
 use borrow.Author.Needs.{needs}
 use Rattle.plancheck.proofs.reading.read_act.Statement.{statement}
 use Rattle.plancheck.proofs.reading.read_act.Tie as tie
@@ -28,6 +28,9 @@ enum-known-why c = search needs
 
 enum-told : tie.Need-enum-told
 enum-told c = search needs
+
+enum-told-2 : tie.Need-enum-told-2
+enum-told-2 c = search needs
 
 outcomes-of-requires : tie.Need-outcomes-of-requires
 outcomes-of-requires c κs =
@@ -58,11 +61,23 @@ returns-3 c =
     let ours : tie.Else1 = search in
     let state : tie.After-from-number = search in
     let judged : tie.After-permits = search in
-    let permitted : tie.After-enum-told = search in
+    let a = start .args in
+    act-idle (a .at) (a .k) (a .act) (sym (asked .offered .ensures) ∙ not-false _ (ours .if1 .left))
+    (permits-at (a .n) (a .book .now) (a .held) (a .k) (a .act) (start .pre .0) (start .pre .1) (state .from-number .ensures) (judged .permits .ensures)
+    ∙ c .enum-told .given .1)
+
+returns-4 : tie.Need-returns-4
+returns-4 c =
+    let start : tie.Start = search in
+    let asked : tie.After-offered = search in
+    let ours : tie.Else1 = search in
+    let state : tie.After-from-number = search in
+    let judged : tie.After-permits = search in
+    let permitted : tie.After-enum-told2 = search in
     let a = start .args in
     act-done (a .at) (a .k) (a .act) (sym (asked .offered .ensures) ∙ not-false _ (ours .if1 .left))
     (permits-at (a .n) (a .book .now) (a .held) (a .k) (a .act) (start .pre .0) (start .pre .1) (state .from-number .ensures) (judged .permits .ensures)
-    ∙ permitted .enum-told .given .1)
+    ∙ permitted .enum-told2 .given .1)
     (c .outcomes-of .ensures)
 
 pub read-act-spec : {M : Type 1} → statement M
@@ -75,6 +90,8 @@ read-act-spec =
     permits-requires
     enum-known-why
     enum-told
+    enum-told-2
     outcomes-of-requires
     returns-2
-    returns-3)
+    returns-3
+    returns-4)
