@@ -43,7 +43,6 @@ expect 'a set of a held setting' 1 'refused 18 4 3' "line 6: '1 set a 2 0': the 
     check "$night" books/night/sunday.question books/night/sunday-pocket.plan
 
 # two legs
-expect 'both: a second leg' 2 'refused 22 5' "change.question, line 5: a second leg is for './parjolenc ask' alone" both "$night" books/night/change.question
 printf 'team 2\nknown\nthen\nteam 1\nmake d\n' >"$room/early.question"
 expect 'then too early' 2 'refused 22 3' "line 3: 'then' stands after a whole first leg; due here is 'held SETTING ..' or 'make FORMULA'" ask "$night" "$room/early.question"
 printf 'team 2\nknown\nmake 1\nthen\nteam 1\nknown\nmake d\n' >"$room/again.question"
