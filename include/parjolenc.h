@@ -370,7 +370,10 @@ pj_u64 pj_rules(const pj_u8 *rules, pj_u64 rules_length, pj_u8 *book, pj_u64 boo
 // What is printed for a question text that is put to a book, at the start of `out` as far as it fits; the length of all
 // of it. The rest of `out` stays as it was. A refusal is printed too: the book's with its place, the text's with its
 // line, and `refused 13 0` for a rank table that is too short. A refusal leaves `ranks` as it was; but for it the first
-// 7^n bytes hold all ranks, as pj_find leaves them, and later bytes stay as they were.
+// 7^n bytes hold all ranks, as pj_find leaves them, and later bytes stay as they were. A question text may have a second
+// leg behind a line `then`: what is printed is the first leg's, `ranks` takes 2 * 7^n bytes, the first leg's ranks and
+// behind them the second's, as pj_find_two leaves them, and is refused below 7^n with `refused 13 1`, below 2 * 7^n with
+// `refused 13 2`.
 pj_u64 pj_ask(const pj_u8 *book, pj_u64 book_length, const pj_u8 *question, pj_u64 question_length, pj_u8 *ranks,
               pj_u64 ranks_length, pj_u8 *out, pj_u64 out_length);
 
