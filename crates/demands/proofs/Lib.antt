@@ -1,6 +1,7 @@
 -- The three demands, on one page; the same in full strength (Exactly); that the finder and the plan check agree; that a sheet is answered as its rules
 -- and its question are (Texts); what the replay of a recorded shift says (Shifts); that the second finder
--- says what the first says (Plain); what is so of a salvaged book (Salvage); and what held settings do to the answers (Held).
+-- says what the first says (Plain); what is so of a salvaged book (Salvage); what held settings do to the answers (Held); and what two legs
+-- are answered (Legs).
 pub mod Demands
 pub mod Agree
 pub mod Exactly
@@ -9,3 +10,4 @@ pub mod Shifts
 pub mod Plain
 pub mod Salvage
 pub mod Held
+pub mod Legs

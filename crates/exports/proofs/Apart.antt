@@ -3,12 +3,12 @@
 -- has room, but for a record's index past 2^32.
 use mathlib.Core.Path.{_≡_, refl, sym, ap, _∙_, subst}
 use mathlib.Core.List.{List}
-use Prim.Native.Nat.{ℕ, _+_, _*_, _/_, _%_, _^_, _<_}
+use Prim.Native.Nat.{ℕ, _+_, _*_, _/_, _%_, _^_, _≤_, _<_}
 use native.Mathlib.Nat.{div-eq-of-lt, mod-eq-of-lt}
 use native.Mathlib.Omega.{arith}
 use lib.Arith.{digits-div, digits-mod}
 use Rattle.refusal.specs.declared.Refusal.{Refusal}
-use Rattle.refusal.specs.Refusals.{number, place, second}
+use Rattle.refusal.specs.Refusals.{number, place, team2}
 use Rattle.refusal.specs.Order.{First}
 use Rattle.refusal.proofs.OrderLaws.{first-place-below, places-append}
 use Rattle.book_sound.specs.Rows.{bookRows}
@@ -36,7 +36,8 @@ use Rattle.finder.specs.declared.answer.Answer.the-variants.{Reach, Cannot, Ref
 use Rattle.finder_plain.specs.Finds.{FindsPlain}
 use Rattle.finder_plain.specs.declared.finding.PlainAnswer.the-variants.{Reach as PlainReach, Cannot as PlainCannot, Refused as PlainRefused}
 use Rattle.finder_plain.proofs.Unique.{plain-height-small, plain-place-small}
-use Rattle.finder.proofs.Small.{place-small, reach-most}
+use Rattle.finder.specs.FindsTwo.{Rooms, FindsTwo}
+use Rattle.finder.proofs.Small.{place-small, reach-most, two-place-small, two-reach-most}
 use Rattle.plancheck.specs.Checks.{Checks}
 use Rattle.plancheck.specs.declared.answer.CheckAnswer.{CheckAnswer}
 use Rattle.plancheck.specs.declared.answer.CheckAnswer.the-variants.{Yes, Refused as NotAccepted}
@@ -55,14 +56,14 @@ use Rattle.exports.specs.Returned.{formulaReturned, readReturned, writeR
 use Rattle.exports.specs.Returned.{replayReturned, reachedAs, reachedAfter}
 use Rattle.exports.specs.Formula.{FormulaRead}
 use Rattle.exports.specs.Book.{BookRead, BookWritten, BookSalvaged}
-use Rattle.exports.specs.Find.{PlanFound, PlainlyFound}
+use Rattle.exports.specs.Find.{PlanFound, TwoFound, PlainlyFound}
 use Rattle.exports.specs.Check.{PlanChecked}
 
 -- a result that tells this refusal, at this place
 pub record Tells-at (result : ℕ) (r : Refusal) (at : ℕ) : Type 0 where
   pub some : 0 < number r
   pub number-is : numberIn result ≡ number r
-  pub second-is : secondIn result ≡ second r
+  pub second-is : secondIn result ≡ team2 r
   pub place-is : lower result ≡ at
 
 -- at its own
@@ -73,13 +74,13 @@ apart-at : {result : ℕ} (r : Refusal) (at : ℕ) → result ≡ packedAt r at 
 unfolding packedAt
 apart-at {result} r at e small =
     let low : at % 2 ^ 32 ≡ at = mod-eq-of-lt small in
-    let is : result ≡ (second r * 256 + number r) * 2 ^ 32 + at = omega (arith, e, low) in
-    let up : upper result ≡ second r * 256 + number r = ap upper is ∙ digits-div (second r * 256 + number r) small in
+    let is : result ≡ (team2 r * 256 + number r) * 2 ^ 32 + at = omega (arith, e, low) in
+    let up : upper result ≡ team2 r * 256 + number r = ap upper is ∙ digits-div (team2 r * 256 + number r) small in
     record {
       some = number-some r;
-      number-is = ap (λ (x : ℕ). x % 256) up ∙ digits-mod (second r) (number-small r);
-      second-is = ap (λ (x : ℕ). x / 256 % 256) up ∙ ap (λ (x : ℕ). x % 256) (digits-div (second r) (number-small r)) ∙ mod-eq-of-lt (second-small r);
-      place-is = ap lower is ∙ digits-mod (second r * 256 + number r) small;
+      number-is = ap (λ (x : ℕ). x % 256) up ∙ digits-mod (team2 r) (number-small r);
+      second-is = ap (λ (x : ℕ). x / 256 % 256) up ∙ ap (λ (x : ℕ). x % 256) (digits-div (team2 r) (number-small r)) ∙ mod-eq-of-lt (second-small r);
+      place-is = ap lower is ∙ digits-mod (team2 r * 256 + number r) small;
     }
 
 apart : {result : ℕ} (r : Refusal) → result ≡ packed r → place r < 2 ^ 32 → Tells-refusal result r
@@ -133,22 +134,41 @@ book-salvage-apart {book} {old} {new} {r} c = (
       apart w (c .result-is ∙ ap salvageReturned e) (omega (arith, salvage-place-small book old w (salvages .0))),
 )
 
-pub find-apart : {book : List ℕ} {q : Question} {goal : Goal} {ranks plan ranks′ plan′ : List ℕ} {r : ℕ} (c : PlanFound book q goal ranks plan r ranks′ plan′)
-    → ((h size : ℕ) → c .answer ≡ Reach h size → (upper r ≡ 0) × (r / 2 ^ 16 ≡ h) × (r % 2 ^ 16 ≡ size))
-    × (c .answer ≡ Cannot → r ≡ 0) × ((w : Refusal) → c .answer ≡ Refused w → Tells-refusal r w)
-find-apart {book} {q} {goal} {ranks} {plan} {ranks′} {plan′} {r} c = (
-  λ h size e. let finds = subst (λ (a : Answer). Finds book q goal ranks plan a ranks′ plan′) e (c .finds) in
-      let most = reach-most book q goal ranks plan ranks′ plan′ h size finds in
-      let small : size < 2 ^ 16 = omega (arith, most .1) in
-      let is : r ≡ h * 2 ^ 16 + size = c .result-is ∙ ap findReturned e ∙ ap (λ (x : ℕ). h * 2 ^ 16 + x) (mod-eq-of-lt small) in (
-        ap upper is ∙ div-eq-of-lt (omega (arith, most .0, small)),
-        ap (λ (x : ℕ). x / 2 ^ 16) is ∙ digits-div h small,
-        ap (λ (x : ℕ). x % 2 ^ 16) is ∙ digits-mod h small,
+-- a finder's answer with a height below 255 and a plan of at most 32,640 bytes, or a refusal with a place below 9
+abbrev pub Found-apart : ℕ → Answer → Type 0
+Found-apart r answer =
+    ((h size : ℕ) → answer ≡ Reach h size → (upper r ≡ 0) × (r / 2 ^ 16 ≡ h) × (r % 2 ^ 16 ≡ size))
+    × (answer ≡ Cannot → r ≡ 0) × ((w : Refusal) → answer ≡ Refused w → Tells-refusal r w)
+
+found-apart : {r : ℕ} {answer : Answer} → r ≡ findReturned answer → ((h size : ℕ) → answer ≡ Reach h size → (h ≤ 254) × (size ≤ 32640))
+    → ((w : Refusal) → answer ≡ Refused w → place w < 9) → Found-apart r answer
+found-apart {r} is most small = (
+  λ h size e. let high = most h size e in
+      let fits : size < 2 ^ 16 = omega (arith, high .1) in
+      let sum : r ≡ h * 2 ^ 16 + size = is ∙ ap findReturned e ∙ ap (λ (x : ℕ). h * 2 ^ 16 + x) (mod-eq-of-lt fits) in (
+        ap upper sum ∙ div-eq-of-lt (omega (arith, high .0, fits)),
+        ap (λ (x : ℕ). x / 2 ^ 16) sum ∙ digits-div h fits,
+        ap (λ (x : ℕ). x % 2 ^ 16) sum ∙ digits-mod h fits,
       ),
-  λ e. c .result-is ∙ ap findReturned e,
-  λ w e. let finds = subst (λ (a : Answer). Finds book q goal ranks plan a ranks′ plan′) e (c .finds) in
-      apart w (c .result-is ∙ ap findReturned e) (omega (arith, place-small book q goal ranks plan ranks′ plan′ w finds)),
+  λ e. is ∙ ap findReturned e,
+  λ w e. apart w (is ∙ ap findReturned e) (omega (arith, small w e)),
 )
+
+pub find-apart : {book : List ℕ} {q : Question} {goal : Goal} {ranks plan ranks′ plan′ : List ℕ} {r : ℕ} (c : PlanFound book q goal ranks plan r ranks′ plan′)
+    → Found-apart r (c .answer)
+find-apart {book} {q} {goal} {ranks} {plan} {ranks′} {plan′} c =
+    let told : (a : Answer) → c .answer ≡ a → Finds book q goal ranks plan a ranks′ plan′ =
+    λ a e. subst (λ (a : Answer). Finds book q goal ranks plan a ranks′ plan′) e (c .finds) in
+    found-apart (c .result-is) (λ h size e. reach-most book q goal ranks plan ranks′ plan′ h size (told (Reach h size) e))
+    (λ w e. place-small book q goal ranks plan ranks′ plan′ w (told (Refused w) e))
+
+pub find-two-apart : {book : List ℕ} {q : Question} {goal : Goal} {team2 : ℕ} {goal2 : Goal} {old new : Rooms} {r : ℕ}
+    (c : TwoFound book q goal team2 goal2 old r new) → Found-apart r (c .answer)
+find-two-apart {book} {q} {goal} {team2} {goal2} {old} {new} c =
+    let told : (a : Answer) → c .answer ≡ a → FindsTwo book q goal team2 goal2 old a new =
+    λ a e. subst (λ (a : Answer). FindsTwo book q goal team2 goal2 old a new) e (c .finds) in
+    found-apart (c .result-is) (λ h size e. two-reach-most book q goal team2 goal2 old new h size (told (Reach h size) e))
+    (λ w e. two-place-small book q goal team2 goal2 old new w (told (Refused w) e))
 
 pub find-plain-apart : {book : List ℕ} {q : Question} {goal : Goal} {r : ℕ} (c : PlainlyFound book q goal r)
     → ((h : ℕ) → c .answer ≡ PlainReach h → (upper r ≡ 0) × (r ≡ h + 1))

@@ -10,12 +10,14 @@ use Rattle.book.proofs.Theorems.{reads-one, writes-one}
 use Rattle.book_salvage.proofs.Theorems.{salvage-one}
 use Rattle.knowledge.specs.Goal.{Goal}
 use Rattle.question.specs.declared.Question.{Question}
+use Rattle.finder.specs.FindsTwo.{Rooms}
 use Rattle.finder.proofs.Unique.{find-unique}
+use Rattle.finder.proofs.TwoTheorems.{two-unique}
 use Rattle.finder_plain.proofs.Unique.{plain-unique}
 use Rattle.plancheck.proofs.OneAnswer.{checks-one}
 use Rattle.exports.specs.Returned.{formulaReturned, readReturned, writeReturned, salvageReturned, findReturned, plainReturned, checkReturned}
 use Rattle.exports.specs.Returned.{rulesReturned, replayReturned, reachedAfter}
-use Rattle.exports.specs.Find.{PlanFound, PlainlyFound}
+use Rattle.exports.specs.Find.{PlanFound, TwoFound, PlainlyFound}
 use Rattle.exports.specs.Check.{PlanChecked}
 use Rattle.exports.specs.Formula.{onReturn, FormulaRead}
 use Rattle.sheet_rules.specs.Meaning.{rulesMeaning}
@@ -54,6 +56,12 @@ pub find-one : {book : List ℕ} {q : Question} {goal : Goal} {ranks plan : List
 find-one {book} {q} {goal} {ranks} {plan} {x = x} {y = y} {u = u} {v = v} a b =
     let e = find-unique book q goal ranks plan (a .answer) (b .answer) x y u v (a .finds) (b .finds) in
     (a .result-is ∙ ap findReturned (e .0) ∙ sym (b .result-is), e .1, e .2)
+
+pub find-two-one : {book : List ℕ} {q : Question} {goal : Goal} {team2 : ℕ} {goal2 : Goal} {old : Rooms} {r s : ℕ} {x y : Rooms}
+    → TwoFound book q goal team2 goal2 old r x → TwoFound book q goal team2 goal2 old s y → (r ≡ s) × (x ≡ y)
+find-two-one {book} {q} {goal} {team2} {goal2} {old} {x = x} {y = y} a b =
+    let e = two-unique book q goal team2 goal2 old (a .answer) (b .answer) x y (a .finds) (b .finds) in
+    (a .result-is ∙ ap findReturned (e .0) ∙ sym (b .result-is), e .1)
 
 pub find-plain-one : {book : List ℕ} {q : Question} {goal : Goal} {r s : ℕ} → PlainlyFound book q goal r → PlainlyFound book q goal s → r ≡ s
 find-plain-one {book} {q} {goal} a b =

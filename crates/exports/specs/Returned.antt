@@ -42,7 +42,7 @@ abbrev pub salvageReturned : SalvageAnswer → ℕ
 salvageReturned (Salvaged marks count) = count * 256 + marks
 salvageReturned (NotSalvaged r) = packed r
 
--- `pj_find`: reach: the height times 2^16 plus the plan's length, which has no more than 16 bits (proofs/Apart); cannot: 0; or the refusal as one number
+-- `pj_find` and `pj_find_two`: reach: the height times 2^16 plus the plan's length, which has no more than 16 bits (proofs/Apart); cannot: 0; or the refusal as one number
 abbrev pub findReturned : Answer → ℕ
 findReturned (Reach height size) = height * 2 ^ 16 + size % 2 ^ 16
 findReturned Cannot = 0

@@ -5,7 +5,8 @@ mod packing;
 
 ghost use Rattle.knowledge.specs.Goal.{goalOf};
 ghost use Rattle.exports.specs.Formula.{FormulaRead};
-ghost use Rattle.exports.specs.Find.{asked, PlanFound, PlainlyFound};
+ghost use Rattle.exports.specs.Find.{asked, PlanFound, TwoFound, PlainlyFound};
+ghost use Rattle.finder.specs.FindsTwo.{roomsOf};
 ghost use Rattle.exports.specs.Check.{PlanChecked};
 ghost use Rattle.exports.specs.Book.{BookRead, BookWritten, BookSalvaged};
 ghost use Rattle.exports.specs.Texts.{RulesMade};
@@ -15,9 +16,9 @@ ghost use Rattle.sheet_ask.specs.Asks.{AsksBook};
 use book::WriteAnswer;
 use book_salvage::SalvageAnswer;
 use book_sound::ReadAnswer;
-use finder::Answer as Found;
 use finder_plain::PlainAnswer;
 use formula::Answer;
+use packing::found_as;
 use packing::packed;
 use packing::packed_at;
 use packing::reached_as;
@@ -102,11 +103,49 @@ pub extern "C" fn pj_find(
         values,
         held,
     };
-    match finder::find(book, question, make, learn, ranks, plan) {
-        Found::Reach { height, length } => (height as u64) * 65536 + (length as u64) % 65536,
-        Found::Cannot => 0,
-        Found::Refused(why) => packed(why),
-    }
+    found_as(finder::find(book, question, make, learn, ranks, plan))
+}
+
+// The same of a question of two legs, the second with the team `team2` and its own goal: the height and the plan are
+// the first leg's, and each leg's ranks stand in its own table.
+#[no_mangle]
+pub extern "C" fn pj_find_two(
+    book: &[u8],
+    team: u8,
+    known: u8,
+    values: u8,
+    held: u8,
+    make: &[u8],
+    learn: &[u8],
+    team2: u8,
+    make2: &[u8],
+    learn2: &[u8],
+    ranks: &mut [u8],
+    ranks2: &mut [u8],
+    plan: &mut [u8],
+) -> u64
+    ensures { λ r. ⌜ TwoFound (now (book .entry)) (asked team known values held) (goalOf (now (make .entry)) (now (learn .entry)))
+        team2 (goalOf (now (make2 .entry)) (now (learn2 .entry)))
+        (roomsOf (now (ranks .entry)) (now (ranks2 .entry)) (now (plan .entry))) r (roomsOf (now (ranks .exit)) (now (ranks2 .exit)) (now (plan .exit))) ⌝ }
+{
+    let question = Question {
+        team,
+        known,
+        values,
+        held,
+    };
+    found_as(finder::find_two(
+        book,
+        question,
+        make,
+        learn,
+        team2,
+        make2,
+        learn2,
+        ranks,
+        ranks2,
+        plan,
+    ))
 }
 
 // "Reach" with the least height, found without a rank table: the height and one; "cannot": 0; or a refusal. Nothing is
@@ -185,7 +224,8 @@ pub extern "C" fn pj_rules(rules: &[u8], book: &mut [u8]) -> u64
 
 // What is printed for a question text that is put to a book, in the lent room as far as it fits: the length of all
 // of it, which is at most `sheet_ask::ASK_MOST`. Nothing is refused: a rank table that is too short is answered
-// so, and is otherwise left as `pj_find` leaves it. The rest of the room keeps what it held.
+// so, and is otherwise left as `pj_find` leaves it; with two legs it has the first leg's ranks and behind them the
+// second's. The rest of the room keeps what it held.
 #[no_mangle]
 pub extern "C" fn pj_ask(book: &[u8], question: &[u8], ranks: &mut [u8], out: &mut [u8]) -> u64
     ensures { λ r. ⌜ AsksBook (now (book .entry)) (now (question .entry)) (now (ranks .entry)) (now (out .entry)) r (now (ranks .exit)) (now (out .exit)) ⌝ }

@@ -1,10 +1,11 @@
-// A refusal as one number, and where a replay stands as two, for the C interface.
+// A refusal and a finder's answer as one number, and where a replay stands as two, for the C interface.
+use finder::Answer as Found;
 use refusal::Refusal;
 use station::Running;
 ghost use mathlib.Core.Path.{_≡_};
 ghost use Prim.Native.Nat.{_+_, _*_, _%_, _^_, _<_};
 ghost use Rattle.exports.specs.Packed.{packed, packedAt};
-ghost use Rattle.exports.specs.Returned.{reachedAs};
+ghost use Rattle.exports.specs.Returned.{findReturned, reachedAs};
 
 // The second number in bits 40 to 47, the number in bits 32 to 39, and the low 32 bits of the place.
 fn joined(second: u8, number: u64, place: usize) -> u64
@@ -29,6 +30,17 @@ pub fn packed_at(why: Refusal, line: usize) -> u64
 {
     let told = why.numbers();
     joined(told.second, told.number, line)
+}
+
+// A finder's answer: "reach" as height << 16 | plan length, "cannot" as 0, or a refusal.
+pub fn found_as(answer: Found) -> u64
+    ensures { λ r. ⌜ r ≡ findReturned answer ⌝ }
+{
+    match answer {
+        Found::Reach { height, length } => (height as u64) * 65536 + (length as u64) % 65536,
+        Found::Cannot => 0,
+        Found::Refused(why) => packed(why),
+    }
 }
 
 // The count of acts and the valuation.

@@ -12,9 +12,7 @@ use Rattle.plan.specs.Plans.{Plan, Permitted, Works, height}
 use Rattle.plan.specs.Ranks.{Cannot as CannotFrom}
 use Rattle.plan.specs.Bytes.{encode}
 use Rattle.plan.specs.Secret.{Twins}
-use Rattle.plan.proofs.Ranks.{rank-least, rank-most, has-rank, rank-reach}
-use Rattle.plan.proofs.Written.{written-works, written-height}
-use Rattle.plan.proofs.Accepted.{written-most}
+use Rattle.plan.proofs.Ranks.{rank-most}
 use Rattle.knowledge.specs.Goal.{Goal, learnCount, learnTable}
 use Rattle.question.specs.Question.{systemOf, startOf, NoMaking}
 use Rattle.question.specs.Asks.{ValidQuestion}
@@ -25,6 +23,7 @@ use Rattle.finder.specs.declared.answer.Answer.the-variants.{Reach, Cann
 use Rattle.question.proofs.SystemLaws.{lawful, few}
 use Rattle.question.proofs.SecretLaws.{none-secret}
 use Rattle.finder.proofs.FindLaws.{find-clear}
+use Rattle.finder.proofs.AnswerLaws.{reach-plan, none-answer, works-answer}
 
 -- ---- demand 2: "reach" exactly when a working plan exists, the least height, and such a plan
 
@@ -37,10 +36,7 @@ module _ (book : List ℕ) (q : Question) (goal : Goal) (ranks plan r x : List �
       × ((s : Plan) → Works (systemOf n book q goal) (startOf q) s → h ≤ height s)
       × (size ≡ length (encode p)) × (x ≡ encode p ++ drop size plan))
   reach-works h size (inl u) = let e : Reach h size ≡ Refused (u .why) = u .answered in let z : _≡_ {A = ℕ} 0 1 = cc in absurd (omega arith)
-  reach-works h size (inr (n, m, v, l, f, a)) =
-      let S = systemOf n book q goal in
-      let p = a .1 in
-      (n, m, v, (p .0, written-works S (p .0) (startOf q) (p .1), written-height S (p .0) (startOf q) h (p .1) (inl (a .0)), (λ s w. rank-least S (startOf q) (inl (a .0)) s w), p .2, p .4))
+  reach-works h size (inr (n, m, v, l, f, a)) = (n, m, v, reach-plan (systemOf n book q goal) (startOf q) plan x h size a)
 
   -- "cannot": the question is valid over the book's n settings, no plan works, and the plan room is as it was
   pub cannot-none : Finds book q goal ranks plan Cannot r x
@@ -53,37 +49,19 @@ module _ (book : List ℕ) (q : Question) (goal : Goal) (ranks plan r x : List �
       → (p : Plan) → Works (systemOf n book q goal) (startOf q) p → Finds book q goal ranks plan a r x → (h : ℕ) × (size : ℕ) × (a ≡ Reach h size)
   works-reach a v l big p w (inl u) =
       first-clear (u .first) (find-clear v ranks l)
-  works-reach (Reach h size) v l big p w (inr (k, o, d, e, f, g)) = (h, size, refl)
-  works-reach {n} Cannot v l big p w (inr (k, o, d, e, f, g)) =
-      let same : k ≡ n = sound-one (d .sound) (v .sound) .0 in
-      absurd (subst (λ (j : ℕ). CannotFrom (systemOf j book q goal) (startOf q)) same (g .0) p w)
-  works-reach (Refused y) v l big p w (inr (k, o, d, e, f, g)) =
-      let S = systemOf k book q goal in
-      let s = g .1 in
-      let rank = has-rank (lawful d) (startOf q) in
-      absurd (omega (
-        arith,
-        s .2,
-        written-most (lawful d) (few d) (startOf q) (s .0) (rank .0) (s .1) (rank .1)
-            (rank-reach (lawful d) (startOf q) (rank .0) (few d) (rank .1) .1 (s .0, written-works S (s .0) (startOf q) (s .1))),
-      ))
+  works-reach {n} a v l big p w (inr (k, o, d, e, f, g)) =
+      let same : n ≡ k = sound-one (v .sound) (d .sound) .0 in
+      works-answer (systemOf k book q goal) (startOf q) plan x (lawful d) (few d) big a p
+      (subst (λ (j : ℕ). Works (systemOf j book q goal) (startOf q) p) same w) g
 
   -- and one for which none works is answered "cannot", whatever the plan room
   pub none-cannot : {n m : ℕ} (a : Answer) → ValidQuestion book q goal n m → 7 ^ n ≤ length ranks
       → ((p : Plan) → Works (systemOf n book q goal) (startOf q) p → ⊥) → Finds book q goal ranks plan a r x → a ≡ Cannot
   none-cannot a v l none (inl u) =
       first-clear (u .first) (find-clear v ranks l)
-  none-cannot {n} (Reach h size) v l none (inr (k, o, d, e, f, g)) =
-      let same : k ≡ n = sound-one (d .sound) (v .sound) .0 in
-      let p : Plan = g .1 .0 in
-      let works : Works (systemOf k book q goal) (startOf q) p = written-works (systemOf k book q goal) p (startOf q) (g .1 .1) in
-      absurd (none p (subst (λ (j : ℕ). Works (systemOf j book q goal) (startOf q) p) same works))
-  none-cannot Cannot v l none (inr (k, o, d, e, f, g)) = refl
-  none-cannot {n} (Refused y) v l none (inr (k, o, d, e, f, g)) =
-      let same : k ≡ n = sound-one (d .sound) (v .sound) .0 in
-      let p : Plan = g .1 .0 in
-      let works : Works (systemOf k book q goal) (startOf q) p = written-works (systemOf k book q goal) p (startOf q) (g .1 .1) in
-      absurd (none p (subst (λ (j : ℕ). Works (systemOf j book q goal) (startOf q) p) same works))
+  none-cannot {n} a v l none (inr (k, o, d, e, f, g)) =
+      let same : n ≡ k = sound-one (v .sound) (d .sound) .0 in
+      none-answer (systemOf k book q goal) (startOf q) plan x a (subst (λ (j : ℕ). CannotFrom (systemOf j book q goal) (startOf q)) same none) g
 
   -- "A rank other than 255 is at most 2^(n+1) − 2.", of the bytes that are left in the rank table
   pub filled-most : {n m : ℕ} (a : Answer) → ValidQuestion book q goal n m → 7 ^ n ≤ length ranks → Finds book q goal ranks plan a r x

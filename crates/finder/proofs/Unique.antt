@@ -52,7 +52,7 @@ module _ {n : ℕ} {S : System} (law : Lawful n S) (few : n ≤ 7) (k : ℕ) (ol
   answers-unique (Refused w) Cannot x y a b = absurd (b .0 (a .1 .0) (written-works S (a .1 .0) k (a .1 .1)))
   answers-unique (Refused w) (Refused v) x y a b = (ap Refused (a .0 ∙ sym (b .0)), a .2 ∙ sym (b .2))
 
-ranks-unique : {n : ℕ} {S : System} {old new other : List ℕ} → RanksFilled n S old new → RanksFilled n S old other → new ≡ other
+pub ranks-unique : {n : ℕ} {S : System} {old new other : List ℕ} → RanksFilled n S old new → RanksFilled n S old other → new ≡ other
 ranks-unique {n} {S} {old} {new} {other} a b =
     ext-getD 0 new other (a .size ∙ sym (b .size))
     (λ j h. elim (lt-or-ge j (7 ^ n)) [ inl l ↦ rank-unique S j (a .ranks j l) (b .ranks j l) | inr l ↦ a .later j l ∙ sym (b .later j l) ])
