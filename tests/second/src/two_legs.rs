@@ -2,6 +2,7 @@
 //! are compared with `legs.rs`.
 
 mod by_hand;
+mod faults;
 mod made;
 mod one_leg;
 mod random;

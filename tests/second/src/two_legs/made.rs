@@ -18,8 +18,8 @@ pub fn any_legs(rng: &mut Rng, n: usize) -> Legs {
     Legs { first: Question { team, ..first }, team: team2, make, learn }
 }
 
-/// The first team is to turn a setting that is known, and the second, who can't look, to learn whether two settings have
-/// drawn values: the one that was turned, and one that is perhaps unknown.
+/// The first team is to turn a setting that is known. The second, which can do nothing, is to have learnt whether two settings
+/// had drawn values: the one that was turned, and one that is perhaps unknown.
 fn changed_before_the_change(rng: &mut Rng, n: usize) -> Legs {
     let work = shared_work(rng, n, true);
     let m = usize::from(work.book[1]);

@@ -39,7 +39,11 @@ fn random(group: &mut Group, n: usize, seen: &mut Seen) {
 /// The tables of one setting: `0`, `~a`, `a` and `1`.
 const SMALL: [u128; 4] = [0, 1, 2, 3];
 
-/// Each rule of both posts is one of the four, and so is each goal; a is to be learnt or not, known or not, held or not.
+/// Known and values of one setting.
+const STARTS: [(u8, u8); 3] = [(0, 0), (1, 0), (1, 1)];
+
+/// Each rule of both posts is one of the four, and so is what each leg makes; a is to be learnt by each or not. Whether it is
+/// known and held is drawn.
 fn all_small(group: &mut Group, seen: &mut Seen) {
     let learns = [vec![], table(1, letter(0)).to_vec()];
     for book in 0..256usize {
@@ -48,8 +52,8 @@ fn all_small(group: &mut Group, seen: &mut Seen) {
         for goals in 0..64usize {
             let (make, make2) = (SMALL[goals >> 2 & 3], SMALL[goals & 3]);
             let (learn, learn2) = (learns[goals >> 4 & 1].clone(), learns[goals >> 5 & 1].clone());
-            let start = group.rng.below(6) as u8;
-            let (known, values, held) = (u8::from(start % 3 > 0), u8::from(start % 3 > 1), start / 3);
+            let (known, values) = group.rng.one_of(&STARTS);
+            let held = group.rng.one_of(&[0, 1]);
             let (book, make) = (book.clone(), table(1, make).to_vec());
             let first = Question { book, team: 1, known, values, held, make, learn };
             let legs = Legs { first, team: 2, make: table(1, make2).to_vec(), learn: learn2 };
