@@ -6,6 +6,7 @@ shift
 readable "$named" || exit 3
 taken "$named" 4096
 book=$file
+legs=1
 
 # asked QUESTION: the answer on standard output, what is wrong in words, and `status`.
 asked() {

@@ -55,8 +55,14 @@ else
     taken "$1" 4096
     book=$file
     taken "$2" 65536
-    beside answer program_ask "$book" "$file"
-    compared "$book" "$file"
+    if LC_ALL=C grep -a -q -x then "$file"; then
+        # a second leg is for `ask` alone: the plain finder refuses its line `then`, or what comes before it
+        beside plain program_plain "$book" "$file"
+        printed "$(cat "$side/plain")"
+    else
+        beside answer program_ask "$book" "$file"
+        compared "$book" "$file"
+    fi
     asked_hint "$book" "$1" "$file" "$2"
 fi
 exit "$status"

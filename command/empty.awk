@@ -1,9 +1,9 @@
 # empty.awk: whether a question that was answered asks nothing: a make formula that is never or always true, or a team none of whose
 # posts has a right, or a right to set, that can ever hold. Help, and no promise. The text is a sheet or a question without a fault.
 # Settings: name (the file's); where a book has the rules, n, able and setters: the digits of the posts with a right that can hold,
-# and of those with such a right to set.
+# and of those with such a right to set. Each leg of a question is judged by itself.
 
-function hint(text) { printf "parjolenc: %s: %s\n", name, text }
+function hint(text) { printf "parjolenc: %s: %s%s\n", name, leg, text }
 
 # truth(V): the truth of the formula `text` from byte `at` on, where setting i is bit i of V: a sum, a product, a unit.
 function sum(v,   t) {
@@ -39,10 +39,11 @@ $1 == "team" { for (i = 2; i <= NF; i++) team[$i] = 1 }
 $1 == "make" { make = $2 }
 $1 == "ask" { asks++ }
 
-END {
+# judged FIRST: what is empty of a leg; where it is the FIRST of two, a make formula that is always true may ask for more than nothing.
+function judged(first,   true_at, post, acts, sets) {
     true_at = counted(make)
     if (true_at == 0) hint("the make formula is never true, so no team can make it so")
-    if (true_at == 2 ^ n && !asks) hint("the make formula is always true and nothing is asked, so there is nothing to do")
+    if (true_at == 2 ^ n && !asks && !first) hint("the make formula is always true and nothing is asked, so there is nothing to do")
     else if (true_at == 2 ^ n && make != "1") hint("the make formula is always true")
     for (post in team) {
         if (index(able, post) || (sheet && looks[post] < n)) acts = 1 # a look that is not stated is open
@@ -51,3 +52,13 @@ END {
     if (!acts) hint("no post of the team has a right that can ever hold, so the team can do nothing")
     else if (!sets && true_at > 0 && true_at < 2 ^ n) hint("no post of the team has a right to set that can ever hold, so the team can look and change nothing")
 }
+
+$0 == "then" {
+    leg = "first leg: "
+    judged(1)
+    leg = "second leg: "
+    for (i in team) delete team[i]
+    asks = 0
+}
+
+END { judged(0) }

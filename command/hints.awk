@@ -1,7 +1,7 @@
 # hints.awk: what is wrong with a text that was refused, in words and with its place, as far as the text shows it. Help, and
 # no promise: the proved line on standard output says what is so. Settings: kind (sheet, rules, question, plan or shift), name (the
 # file's), number and line of the answer, place (the refusal's own: of a formula the byte, from 0), unended (1 where the text's
-# last byte is no newline); n and m where a book has the size.
+# last byte is no newline); n and m where a book has the size; legs (1 where a question may have a second leg).
 
 # hint TEXT: the one line, and the end.
 function hint(text) {
@@ -45,9 +45,12 @@ function due(   w) {
     if (last == "") return "'size N M', N from 1 to " (kind == "sheet" ? 5 : 7) " and M from 1 to 8"
     if (last == "size" || last == "read" || last == "write")
         return kind == "rules" ? "'read SETTING POST FORMULA' or 'write SETTING POST FORMULA', or the end" : "'read SETTING POST FORMULA', 'write SETTING POST FORMULA' or 'team POST ..'"
+    if (last == "then") return "'team POST ..' of the second leg"
+    if (last == "team" && then) return "'make FORMULA'"
     if (last == "team") return "'known', with settings or alone"
     if (last == "known") return "'held SETTING ..' or 'make FORMULA'"
     if (last == "held") return "'make FORMULA'"
+    if (legs && !then) return asks < 4 ? "'ask FORMULA', 'then', or the end" : "'then' or the end, after four 'ask' lines"
     return asks < 4 ? "'ask FORMULA', or the end" : "the end, after four 'ask' lines"
 }
 
@@ -97,6 +100,14 @@ function wrong(text,   i, count, names) {
         if (names[i] ~ /^~[a-g]$/) return "a held setting is named without ~, whatever its value is"
         if (names[i] !~ /^[a-g]$/) return "'" names[i] "' is no setting"
     }
+    if (word(text) == "then" && kind == "question") {
+        if (text != "then") return "'then' stands alone in its line"
+        if (then) return "line " then " is 'then' already: a question has two legs at most"
+        if (!legs) return "a second leg is for './parjolenc ask' alone"
+        return "'then' stands after a whole first leg"
+    }
+    if (word(text) == "then") return "a second leg is for questions to a book alone, with './parjolenc ask'"
+    if (word(text) ~ /^(known|held)$/ && then) return "what is known and held is said in the first leg, for both"
     if (word(text) == "held" && held) return "line " held " is 'held' already: all held settings stand in one line"
     if (word(text) == "held" && kind != "rules" && last != "known") return "'held' stands directly after 'known'"
     if (text == "make" || text == "ask") return "the formula is missing"
@@ -108,7 +119,7 @@ function strange(text,   count, names) {
     count = split(text, names, " ")
     if (names[1] ~ /^(reach|cannot|stop)$/ || text ~ /^[0-9]+ (look|set|stop)/) return "this is a plan's line; an act of a shift has no depth in front"
     if (names[1] ~ /^(size|read|write)$/) return "this is a line of rules"
-    if (names[1] ~ /^(team|known|held|make|ask)$/) return "this is a line of a question"
+    if (names[1] ~ /^(team|known|held|make|ask|then)$/) return "this is a line of a question"
     if (names[1] !~ /^(look|set)$/) return ""
     if (names[2] ~ /^[1-8]$/ && names[3] ~ /^[a-g]$/) return "the setting comes first, then the post"
     if (names[2] ~ /^[A-G]$/) return "settings are small letters"
@@ -137,7 +148,7 @@ function malformed(   text, at, what) {
     if (at > 0) hint("a tab in column " at ", where words are split by one space")
     if (unended && line == lines) hint("the last line has no byte 10 at its end")
     if ((kind == "sheet" || kind == "plan") && text ~ /^#/) hint("a " kind " has no comments; rules, questions and shifts may have lines that begin with #")
-    if (tolower(word(text)) ~ (kind == "shift" ? "^(look|set)$" : "^(size|read|write|team|known|held|make|ask|reach)$") && word(text) != tolower(word(text))) hint("capitals: the word is '" tolower(word(text)) "'")
+    if (tolower(word(text)) ~ (kind == "shift" ? "^(look|set)$" : "^(size|read|write|team|known|held|make|ask|then|reach)$") && word(text) != tolower(word(text))) hint("capitals: the word is '" tolower(word(text)) "'")
     if (text ~ /^ /) hint("a space before the first word")
     at = front(text) == 0 ? match(text, /  /) : 0
     if (at > 0) hint("two spaces in column " at ", where words are split by one")
@@ -185,6 +196,7 @@ END {
         last = word(all[i])
         if (last == "ask") asks++
         if (last == "held") held = i
+        if (last == "then") { then = i; asks = 0 }
         if (last == "size") { split(all[i], words, " "); n = words[2]; m = words[3] }
     }
     if (number == 22) malformed()

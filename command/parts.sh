@@ -169,11 +169,13 @@ book_hint() {
     esac
 }
 
-# question_hint BOOK QUESTION NAME: what is wrong with a question that is put to a book, whose first two bytes are its size.
+# question_hint BOOK QUESTION NAME: what is wrong with a question that is put to a book, whose first two bytes are its size. `legs` is 1
+# where a question may have a second leg.
+legs=0
 question_hint() {
     local n m
     read -r n m < <(od -An -tu1 -N2 <"$1")
-    hint question "$2" "$3" -v n="$n" -v m="$m"
+    hint question "$2" "$3" -v n="$n" -v m="$m" -v legs="$legs"
 }
 
 # empty_hint FILE NAME [WORDS..]: after an answer, a line on standard error where the question asks nothing. WORDS are settings

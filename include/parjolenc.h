@@ -9,9 +9,10 @@
 // set it. A rule is a formula over the settings. A question is a book, a team of posts, what the team knows at the
 // start, which settings are held, and a goal: a make formula that is to hold in the end, and learn formulas whose truth
 // at the start is to be known in the end. No set may touch a held setting, though looks may. A set to the value that the
-// team knows a setting has is no act. The answer is a plan with the least height, or "cannot". A shift is what a recorder
-// wrote down: acts that were done, one after the other, and what each look saw. It is run against a book on true
-// settings; there such a set is an act.
+// team knows a setting has is no act. The answer is a plan with the least height, or "cannot". A question may have a
+// second leg with a team and a goal of its own: the first team is to settle its goal and stop where the second, carrying
+// on with everything known, can settle its own. A shift is what a recorder wrote down: acts that were done, one after the
+// other, and what each look saw. It is run against a book on true settings; there such a set is an act.
 //
 // A table is 16 bytes: bit v mod 8 of byte v / 8, lowest first, is the formula's truth where setting i is bit i of v.
 // Bits at or past 2^n are 0. `team` has bit q for the post with index q; `known` has bit i for setting i, `values` the
@@ -68,7 +69,7 @@ static inline pj_u64 pj_posts(pj_u64 result) { return result & 0xff; }
 static inline pj_u64 pj_closed(pj_u64 result) { return result >> 8; }
 static inline pj_u64 pj_marks(pj_u64 result) { return result & 0xff; }
 
-// A success of pj_find: 0 is "cannot", and any other the plan's height and its length in bytes.
+// A success of pj_find and pj_find_two: 0 is "cannot", and any other the plan's height and its length in bytes.
 static inline pj_u64 pj_height(pj_u64 result) { return result >> 16; }
 static inline pj_u64 pj_length(pj_u64 result) { return result & 0xffff; }
 
@@ -77,6 +78,7 @@ static inline pj_u64 pj_length(pj_u64 result) { return result & 0xffff; }
 // The numbers of the refusals, and when each is given: the words of docs/CONTRACTS.md, "Every refusal", which names the
 // definitions. Of several the first is given, in this order: pj_formula_read 5, 1, the lowest place of 2 or 3, 4;
 // pj_book_read 6, 7, 8, 9, 15; pj_book_write 5, 8, 6, 9, 15; pj_book_salvage 6, 30, 15; pj_find 6 to 11, 31, 12 to 14;
+// pj_find_two 6 to 11, 31, 12, 10 and 12 of the second leg, 13 (1 or 2, for the first short table), 14;
 // pj_find_plain 6 to 11, 31, 12; pj_plan_check 6 to 11, 31, 12, 16, then the first of 17 to 21 and 32 as the plan is
 // read, 17, 18, 32 at the same byte;
 // pj_rules 24, line by line 22, 23 and the formula's 1 to 4, then 15. pj_sheet and pj_ask print theirs: pj_sheet 24,
@@ -109,7 +111,7 @@ enum {
     PJ_REFUSED_KNOWN = 11,
     // The make table is not 16 bytes, the learn tables not 0 to 4 times 16, or one has a bit at or past 2^n.
     PJ_REFUSED_GOAL = 12,
-    // The rank table has fewer than 7^n bytes.
+    // A rank table has fewer than 7^n bytes. [0; of two legs 1 or 2, the first short table]
     PJ_REFUSED_RANK_ROOM = 13,
     // The goal can be reached, and the plan is longer than the plan room.
     PJ_REFUSED_PLAN_ROOM = 14,
@@ -193,8 +195,8 @@ enum {
 // most of each will do.
 //   `rights` of pj_book_read, 256 × n, and `book` of pj_book_write and pj_rules, 512 × (1 + n): no less will do
 //   `room` of pj_book_salvage, as many bytes as the book has, 512 × (1 + n): no less will do
-//   `plan` of pj_find, 2^n × (2^(n+1) - 1): no plan is longer, and room for the plan that is found will do
-//   `ranks` of pj_find and pj_ask, 7^n: no less will do
+//   `plan` of pj_find and pj_find_two, 2^n × (2^(n+1) - 1): no plan is longer, and room for the plan that is found will do
+//   `ranks` of pj_find, pj_find_two and pj_ask, and `ranks2` of pj_find_two, 7^n each: no less will do
 #define PJ_RIGHTS_ROOM(n) (PJ_TABLES * (n))
 #define PJ_BOOK_ROOM(n) (PJ_BLOCK * (1 + (n)))
 #define PJ_PLAN_ROOM(n) ((1 << (n)) * ((2 << (n)) - 1))
@@ -204,23 +206,23 @@ enum {
 // Stack that a call takes at most, whatever its arguments, rounded up to 4,096 bytes. It is measured and not proved:
 // tests/host/stack.c paints a stack, calls the function where it goes deepest, and finds the lowest byte that changed.
 // On x86-64, with the library that kit 5b made on 2026-11-16, in the order below: 102,768 bytes (255 brackets: 400 each
-// and 768), 248, 232, 168 (seven damaged blocks), 113,144 (a plan of height 254: 208 for each act and 60,312), 897,680
-// (the same plan: 288 for each height and 824,528, of which 823,543 are what it remembers), 680, 138,768 and 118,464 (a
-// look rule of 255 brackets), 146,008 (a plan of height 254), and 184. The frames in the object code add up to the same
-// on the deepest path. memcpy
-// and memset are counted, but the first call of one in a process takes more where the dynamic linker binds it then:
+// and 768), 248, 232, 168 (seven damaged blocks), 104,056 (a plan of height 254: 208 for each act and 51,224), 138,984
+// (the same plan: 208 for each act and 86,152), 897,680 (the same plan: 288 for each height and 824,528, of which 823,543
+// are what it remembers), 680, 138,768 and 118,464 (a look rule of 255 brackets), 136,920 (a plan of height 254), and 184.
+// memcpy and memset are counted, but the first call of one in a process takes more where the dynamic linker binds it then:
 // 3,152 bytes were seen, for which there is room, since nothing that calls itself calls them.
 enum {
     PJ_STACK_FORMULA_READ = 106496,
     PJ_STACK_BOOK_READ = 4096,
     PJ_STACK_BOOK_WRITE = 4096,
     PJ_STACK_BOOK_SALVAGE = 4096,
-    PJ_STACK_FIND = 114688,
+    PJ_STACK_FIND = 106496,
+    PJ_STACK_FIND_TWO = 139264,
     PJ_STACK_FIND_PLAIN = 901120,
     PJ_STACK_PLAN_CHECK = 4096,
     PJ_STACK_SHEET = 139264,
     PJ_STACK_RULES = 118784,
-    PJ_STACK_ASK = 147456,
+    PJ_STACK_ASK = 139264,
     PJ_STACK_REPLAY = 4096
 };
 
@@ -279,7 +281,8 @@ static inline int pj_post(pj_u8 byte) { return (byte - 1) % 8; }
 // ---- knowledge
 
 // What a team knows of one setting is a digit, 0 to 6; of all settings it is the sum of digit × 7^i, the knowledge
-// number. `ranks` has a byte for each: the least height of a plan from there, or 255 where there is none.
+// number. `ranks` has a byte for each: the least height of a plan from there, or 255 where there is none. With two legs
+// `ranks` is the first leg's and `ranks2` the second's, and a plan of the first leg has to stop where `ranks2` is not 255.
 //
 //     digit                                0        1        2      3      4      5      6
 //     the value at the start is      unknown  unknown  unknown  false  false   true   true
@@ -336,7 +339,18 @@ pj_u64 pj_find(const pj_u8 *book, pj_u64 book_length, pj_u8 team, pj_u8 known, p
                const pj_u8 *make, pj_u64 make_length, const pj_u8 *learn, pj_u64 learn_length, pj_u8 *ranks,
                pj_u64 ranks_length, pj_u8 *plan, pj_u64 plan_length);
 
-// The same question, answered a second way, forwards from what the team knows and without a rank table: reach: the
+// Whether the team can bring the goal about and stop, on every branch, where `team2` can bring about its own, `make2` and
+// `learn2`, from what is known there. Settings held are the same for both, and learn formulas of both mean the very first
+// start. The height and the plan are the first leg's. Reach: height × 2^16 + the plan's length, the plan at the start of
+// `plan`; cannot: 0; or a refusal. But for refusals 6 to 13 and 31, which leave all three rooms as they were, the first 7^n
+// bytes of `ranks` and of `ranks2` hold each leg's rank of every knowledge number, for any start: the second leg's is that
+// of its team and goal alone. `plan` is written by reach alone. Later bytes of all three stay as they were.
+pj_u64 pj_find_two(const pj_u8 *book, pj_u64 book_length, pj_u8 team, pj_u8 known, pj_u8 values, pj_u8 held,
+                   const pj_u8 *make, pj_u64 make_length, const pj_u8 *learn, pj_u64 learn_length, pj_u8 team2,
+                   const pj_u8 *make2, pj_u64 make2_length, const pj_u8 *learn2, pj_u64 learn2_length, pj_u8 *ranks,
+                   pj_u64 ranks_length, pj_u8 *ranks2, pj_u64 ranks2_length, pj_u8 *plan, pj_u64 plan_length);
+
+// The same question of one leg, answered a second way, forwards from what the team knows and without a rank table: reach: the
 // least height + 1; cannot: 0; or one of refusals 6 to 12 and 31. It is proved to give the same answer and the same
 // height as pj_find. Nothing is lent for writing. Its memory is on the stack, a byte for each of 7^7 knowledge numbers,
 // whatever the book's n: see PJ_STACK_FIND_PLAIN.
@@ -359,7 +373,10 @@ pj_u64 pj_rules(const pj_u8 *rules, pj_u64 rules_length, pj_u8 *book, pj_u64 boo
 // What is printed for a question text that is put to a book, at the start of `out` as far as it fits; the length of all
 // of it. The rest of `out` stays as it was. A refusal is printed too: the book's with its place, the text's with its
 // line, and `refused 13 0` for a rank table that is too short. A refusal leaves `ranks` as it was; but for it the first
-// 7^n bytes hold all ranks, as pj_find leaves them, and later bytes stay as they were.
+// 7^n bytes hold all ranks, as pj_find leaves them, and later bytes stay as they were. A question text may have a second
+// leg behind a line `then`: what is printed is the first leg's, `ranks` takes 2 * 7^n bytes, the first leg's ranks and
+// behind them the second's, as pj_find_two leaves them, and is refused below 7^n with `refused 13 1`, below 2 * 7^n with
+// `refused 13 2`.
 pj_u64 pj_ask(const pj_u8 *book, pj_u64 book_length, const pj_u8 *question, pj_u64 question_length, pj_u8 *ranks,
               pj_u64 ranks_length, pj_u8 *out, pj_u64 out_length);
 

@@ -7,7 +7,16 @@ for rules in books/*.rules; do
         expected=${question%.question}.expected
         case $(head -n 1 "$expected") in reach*) status=0 ;; *) status=1 ;; esac
         expect "ask $question" "$status" "$(cat "$expected")" '' ask "$book" "$question"
-        [ "$status" -ne 0 ] || { cp "$expected" "$room/plan" && expect "check $question: its own plan" 0 yes '' check "$book" "$question" "$room/plan"; }
+        [ "$status" -eq 0 ] || continue
+        cp "$expected" "$room/plan"
+        if then=$(grep -n -x then "$question"); then
+            # a second leg is for `ask` alone; the plan is one of the first leg's too
+            expect "check $question: one leg alone" 2 "refused 22 ${then%%:*}" 'a second leg is for' check "$book" "$question" "$room/plan"
+            sed '/^then$/,$d' "$question" >"$room/leg.question"
+            expect "check $question: the first leg's plan" 0 yes '' check "$book" "$room/leg.question" "$room/plan"
+        else
+            expect "check $question: its own plan" 0 yes '' check "$book" "$question" "$room/plan"
+        fi
     done
     for plan in books/"$name"/*.plan; do
         [ -e "$plan" ] || continue
@@ -32,6 +41,18 @@ expect 'a stored book, with that look closed' 1 'cannot' '' ask crates/program_a
 
 expect 'a set of a held setting' 1 'refused 18 4 3' "line 6: '1 set a 2 0': the setting is held, and no plan sets it" \
     check "$night" books/night/sunday.question books/night/sunday-pocket.plan
+
+# two legs
+printf 'team 2\nknown\nthen\nteam 1\nmake d\n' >"$room/early.question"
+expect 'then too early' 2 'refused 22 3' "line 3: 'then' stands after a whole first leg; due here is 'held SETTING ..' or 'make FORMULA'" ask "$night" "$room/early.question"
+printf 'team 2\nknown\nmake 1\nthen\nteam 1\nknown\nmake d\n' >"$room/again.question"
+expect 'known in a second leg' 2 'refused 22 6' "line 6: what is known and held is said in the first leg, for both; due here is 'make FORMULA'" ask "$night" "$room/again.question"
+printf 'team 2\nknown\nmake 1\nthen\nteam 1\nmake d\nthen\n' >"$room/thrice.question"
+expect 'a third leg' 2 'refused 22 7' "line 7: line 4 is 'then' already" ask "$night" "$room/thrice.question"
+printf 'team 2\nknown\nmake 1\nthen\n# night\n' >"$room/short.question"
+expect 'a second leg that does not come' 2 'refused 22 6' "the text ends here; due is 'team POST ..' of the second leg" ask "$night" "$room/short.question"
+printf 'team 2\nknown\nmake 1\nthen\nteam 1\nmake a&~a\n' >"$room/never.question"
+expect 'a second leg that asks what cannot be' 1 cannot 'second leg: the make formula is never true' ask "$night" "$room/never.question"
 
 # a book is made, and never overwritten
 cp "$night" "$room/kept"

@@ -12,7 +12,11 @@ for rules in books/*.rules; do
     for question in books/"$name"/*.question; do
         first=$(head -n 1 "${question%.question}.expected")
         case $first in reach*) status=0 ;; *) status=1 ;; esac
-        expect "both $question" "$status" "both: $first" '' both "$room/$name.book" "$question"
+        if then=$(grep -n -x then "$question"); then
+            expect "both $question: one leg alone" 2 "refused 22 ${then%%:*}" "line ${then%%:*}: a second leg is for './parjolenc ask' alone" both "$room/$name.book" "$question"
+        else
+            expect "both $question" "$status" "both: $first" '' both "$room/$name.book" "$question"
+        fi
     done
 done
 expect 'both without words' 3 '' 'usage: ./parjolenc both SHEET' both

@@ -3,6 +3,7 @@
 #include "tell.h"
 
 static pj_u8 rights[PJ_RIGHTS_MOST], book[PJ_BOOK_MOST], ranks[PJ_RANKS_MOST], plan[PJ_PLAN_MOST], make[PJ_TABLE];
+static pj_u8 ranks2[PJ_RANKS_ROOM(3)], make2[PJ_TABLE];
 
 static int version_agrees(void) {
     const char *text = PJ_VERSION_TEXT;
@@ -185,6 +186,24 @@ static pj_u64 follow(pj_u64 at, pj_u64 number) {
     return at;
 }
 
+// P6 with its work cut in two: post 2 makes a, then post 1 makes b. The ranks at pj_start are the heights found, for all
+// 27 starts, in the second table those of post 1 alone.
+static int starts_of_two(void) {
+    static pj_u8 alone[PJ_RANKS_ROOM(3)];
+    for (int known = 0; known < 8; known++)
+        for (int values = 0; values < 8; values++) {
+            if ((values & ~known) != 0) continue;
+            pj_u8 k = (pj_u8)known, v = (pj_u8)values;
+            pj_u64 found = pj_find_two(book, PJ_BOOK_ROOM(3), 2, k, v, 0, make2, PJ_TABLE, 0, 0, 1, make, PJ_TABLE, 0, 0,
+                                       ranks, PJ_RANKS_ROOM(3), ranks2, PJ_RANKS_ROOM(3), plan, sizeof plan);
+            if (pj_number(found) != 0) return 0;
+            if (ranks[pj_start(k, v)] != (found == 0 ? (pj_u64)PJ_RANK_NONE : pj_height(found))) return 0;
+            pj_find(book, PJ_BOOK_ROOM(3), 1, k, v, 0, make, PJ_TABLE, 0, 0, alone, sizeof alone, plan, sizeof plan);
+            if (!same(ranks2, alone, sizeof alone)) return 0;
+        }
+    return 1;
+}
+
 int main(void) {
     test("the version's text and number are one, 3.1", version_agrees());
     test("a rule's 16 bytes stand at PJ_RIGHT among the rights and at PJ_RULE in the book", rules_stand_there());
@@ -206,6 +225,13 @@ int main(void) {
     pj_u64 found =
         pj_find(book, PJ_BOOK_ROOM(3), 3, 0, 0, 0, make, PJ_TABLE, 0, 0, ranks, sizeof ranks, plan, sizeof plan);
     test("and fall along its plan to 0 at each stop", follow(0, pj_start(0, 0)) == pj_length(found));
+
+    formula(3, "a", make2);
+    test("the same of two legs, post 2 and then post 1, the second's ranks as it has them alone", starts_of_two());
+    found = pj_find_two(book, PJ_BOOK_ROOM(3), 2, 0, 0, 0, make2, PJ_TABLE, 0, 0, 1, make, PJ_TABLE, 0, 0, ranks,
+                        sizeof ranks, ranks2, sizeof ranks2, plan, sizeof plan);
+    test("and along the first leg's plan of 3 steps",
+         pj_height(found) == 3 && follow(0, pj_start(0, 0)) == pj_length(found));
 
     climb_rights(4, rights, make);
     pj_book_write(4, 1, rights, PJ_RIGHTS_ROOM(4), book, PJ_BOOK_ROOM(4));

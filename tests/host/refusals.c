@@ -6,6 +6,7 @@
 
 static pj_u8 rights[PJ_RIGHTS_ROOM(3)], book[PJ_BOOK_ROOM(3)], other[PJ_BOOK_ROOM(3)], room[PJ_BOOK_MOST + PJ_BLOCK];
 static pj_u8 ranks[PJ_RANKS_ROOM(3)], plan[PJ_PLAN_MOST + 1], make[PJ_TABLE], out[64], text[PJ_TEXT_MOST + 1];
+static pj_u8 ranks2[PJ_RANKS_ROOM(3)], make2[PJ_TABLE];
 static int seen[32];
 
 static void refused(const char *name, pj_u64 result, pj_u64 number, pj_u64 place) {
@@ -256,6 +257,93 @@ static void salvages(void) {
                                                       check[2] == 508 % 256 && check[3] == 508 / 256);
 }
 
+// Two legs: a team of posts 1 and 2 makes a, then post 1 makes b. Each fault is one field.
+struct legs {
+    const pj_u8 *of;
+    pj_u64 book_length, make_length, learn_length, make2_length, learn2_length, ranks_length, ranks2_length, plan_length;
+    pj_u8 team, known, values, held, team2;
+};
+
+static struct legs sound_legs(void) {
+    struct legs legs = {book, sizeof book, PJ_TABLE, 0, PJ_TABLE, 0, sizeof ranks, sizeof ranks2, 7, 3, 0, 0, 0, 1};
+    return legs;
+}
+
+static pj_u64 asked_two(struct legs legs) {
+    static const pj_u8 learn[5 * PJ_TABLE] = {0};
+    fill(ranks, sizeof ranks, 170), fill(ranks2, sizeof ranks2, 170), fill(plan, sizeof plan, 170);
+    return pj_find_two(legs.of, legs.book_length, legs.team, legs.known, legs.values, legs.held, make2, legs.make_length,
+                       learn, legs.learn_length, legs.team2, make, legs.make2_length, learn, legs.learn2_length, ranks,
+                       legs.ranks_length, ranks2, legs.ranks2_length, plan, legs.plan_length);
+}
+
+static void no_legs(const char *name, struct legs legs, pj_u64 number, pj_u64 place) {
+    refused(name, asked_two(legs), number, place);
+    test("and all three rooms as they were", all_are(ranks, sizeof ranks, 170) && all_are(ranks2, sizeof ranks2, 170) &&
+                                                 all_are(plan, sizeof plan, 170));
+}
+
+// Order: 6 to 9, 10, 11, 31 and 12 of the first leg, 10 and 12 of the second, 13 for the first short table, 14.
+static void two_legs(void) {
+    static pj_u8 filled[PJ_RANKS_ROOM(3)], filled2[PJ_RANKS_ROOM(3)];
+    struct legs legs = sound_legs();
+    formula(3, "a", make2);
+    pj_u64 found = asked_two(legs);
+    test("two legs, 3 steps of the first", pj_number(found) == 0 && pj_height(found) == 3 && pj_length(found) == 6);
+    test("by its plan alone, what is past it as it was",
+         pj_kind(plan[0]) == PJ_LOOK && pj_setting(plan[0]) == 2 && all_are(plan + 6, sizeof plan - 6, 170));
+    for (unsigned i = 0; i < sizeof ranks; i++) filled[i] = ranks[i], filled2[i] = ranks2[i];
+
+    legs.team2 = 0;
+    no_legs("10: a second team of nobody", legs, PJ_REFUSED_TEAM, 0);
+    legs.team2 = 4;
+    no_legs("10: a second team with post 3 of two", legs, PJ_REFUSED_TEAM, 0);
+    legs = sound_legs(), legs.make2_length = 17;
+    no_legs("12: a second make table of 17 bytes", legs, PJ_REFUSED_GOAL, 0);
+    legs = sound_legs(), legs.learn2_length = 5 * PJ_TABLE;
+    no_legs("12: five learn tables of the second leg", legs, PJ_REFUSED_GOAL, 0);
+    legs = sound_legs(), make[1] = 1;
+    no_legs("12: a second make table with bit 8", legs, PJ_REFUSED_GOAL, 0);
+    make[1] = 0;
+
+    legs = sound_legs(), legs.plan_length = 5;
+    refused("14 of two legs: room for 5 bytes of a plan of 6", asked_two(legs), PJ_REFUSED_PLAN_ROOM, 0);
+    test("and both tables filled, the plan room as it was", same(ranks, filled, sizeof ranks) &&
+                                                                same(ranks2, filled2, sizeof ranks2) &&
+                                                                all_are(plan, sizeof plan, 170));
+    legs.ranks2_length = sizeof ranks2 - 1;
+    no_legs("13 before 14: the second rank table", legs, PJ_REFUSED_RANK_ROOM, 2);
+    legs.ranks_length = sizeof ranks - 1;
+    no_legs("13: the first rank table before the second", legs, PJ_REFUSED_RANK_ROOM, 1);
+    legs.make2_length = 15;
+    no_legs("12 of the second leg before 13", legs, PJ_REFUSED_GOAL, 0);
+    legs.team2 = 0;
+    no_legs("10 of the second leg before its 12", legs, PJ_REFUSED_TEAM, 0);
+    legs.learn_length = 15;
+    no_legs("12 of the first leg before 10 of the second", legs, PJ_REFUSED_GOAL, 0);
+    legs.held = 8;
+    no_legs("31 before 12, of two legs", legs, PJ_REFUSED_HELD, 0);
+    legs.known = 8;
+    no_legs("11 before 31, of two legs", legs, PJ_REFUSED_KNOWN, 0);
+    legs.team = 0;
+    no_legs("10 of the first leg before 11", legs, PJ_REFUSED_TEAM, 0);
+    legs.of = other;
+    with_byte(PJ_RULE(2, 1, 0) + 1, 1, 1);
+    no_legs("9 before 10, of two legs", legs, PJ_REFUSED_STRAY_BIT, 3);
+    with_byte(1, 9, 1);
+    no_legs("8 before 10, of two legs", legs, PJ_REFUSED_HEAD, 0);
+    with_byte(PJ_RULE(1, 0, 1), 0, 0);
+    no_legs("7 before 10, of two legs", legs, PJ_REFUSED_CHECK, 2);
+    legs.book_length -= 1;
+    no_legs("6 before 7, of two legs", legs, PJ_REFUSED_BOOK_LENGTH, 0);
+
+    legs = sound_legs(), legs.held = 2, legs.plan_length = 0;
+    test("where b is held two legs cannot, though the first could alone", asked_two(legs) == 0);
+    test("and both tables are filled, the plan room as it was",
+         ranks[pj_start(0, 0)] == PJ_RANK_NONE && ranks2[pj_start(7, 1)] == PJ_RANK_NONE &&
+             ranks2[pj_start(7, 3)] == 0 && all_are(plan, sizeof plan, 170));
+}
+
 int main(void) {
     pj_u8 table[PJ_TABLE];
     char long_text[PJ_FORMULA_MOST + 1];
@@ -363,6 +451,7 @@ int main(void) {
 
     texts_of_rules();
     texts_of_questions();
+    two_legs();
     shifts();
     salvages();
 

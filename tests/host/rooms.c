@@ -12,7 +12,7 @@ int pthread_join(unsigned long thread, void **result);
 #endif
 
 static pj_u8 rights[PJ_RIGHTS_MOST], book[PJ_BOOK_MOST], ranks[PJ_RANKS_MOST], plan[PJ_PLAN_MOST + 1], make[PJ_TABLE];
-static pj_u8 text[PJ_TEXT_MOST + 1], room[PJ_BOOK_MOST + 1], others[PJ_RANKS_MOST], out[PJ_ASK_MOST], all[PJ_ASK_MOST];
+static pj_u8 ranks2[PJ_RANKS_MOST], text[PJ_TEXT_MOST + 1], room[PJ_BOOK_MOST + 1], others[PJ_RANKS_MOST], out[PJ_ASK_MOST], all[PJ_ASK_MOST];
 
 static pj_u64 find(pj_u64 n, pj_u64 ranks_length, pj_u64 plan_length) {
     return pj_find(book, PJ_BOOK_ROOM(n), 1, 0, 0, 0, make, PJ_TABLE, 0, 0, ranks, ranks_length, plan, plan_length);
@@ -34,6 +34,34 @@ static int rooms_of(int settings) {
     if (pj_number(found) != 0 || pj_height(found) != (2ULL << n) - 2) return 0;
     if (find(n, PJ_RANKS_ROOM(n), length) != found) return 0;
     return pj_number(find(n, PJ_RANKS_ROOM(n), length - 1)) == PJ_REFUSED_PLAN_ROOM;
+}
+
+static pj_u64 find_two(pj_u64 n, const pj_u8 *make2, pj_u64 ranks_length, pj_u64 ranks2_length, pj_u64 plan_length) {
+    return pj_find_two(book, PJ_BOOK_ROOM(n), 1, 0, 0, 0, make, PJ_TABLE, 0, 0, 1, make2, PJ_TABLE, 0, 0, others,
+                       ranks_length, ranks2, ranks2_length, plan, plan_length);
+}
+
+// The same book, and a second leg that is settled everywhere: both rank tables of exactly 7^n bytes, with a byte more and
+// of a byte less. The first leg's answer, ranks and plan are those of one leg, and the second's ranks are zeros.
+static int two_rooms(int settings) {
+    pj_u64 n = (pj_u64)settings, k = PJ_RANKS_ROOM(n);
+    pj_u8 make2[PJ_TABLE];
+    if (!rooms_of(settings) || formula(n, "1", make2) != 0) return 0; // its book is there, and its ranks
+    pj_u64 found = find(n, k, PJ_PLAN_ROOM(n)), length = pj_length(found);
+    for (pj_u64 more = 0; more < 2 && k + more <= sizeof others; more++) {
+        fill(others, sizeof others, 170), fill(ranks2, sizeof ranks2, 170), fill(plan, sizeof plan, 170);
+        if (find_two(n, make2, k + more, k + more, length) != found) return 0;
+        if (!same(others, ranks, k) || !all_are(others + k, sizeof others - k, 170)) return 0;
+        if (!all_are(ranks2, k, 0) || !all_are(ranks2 + k, sizeof ranks2 - k, 170)) return 0;
+        if (!all_are(plan + length, sizeof plan - length, 170)) return 0;
+        if (pj_plan_check(book, PJ_BOOK_ROOM(n), 1, 0, 0, 0, make, PJ_TABLE, 0, 0, plan, length) != 0) return 0;
+    }
+    fill(others, sizeof others, 170), fill(ranks2, sizeof ranks2, 170), fill(plan, sizeof plan, 170);
+    if (find_two(n, make2, k - 1, k, length) != ((pj_u64)PJ_REFUSED_RANK_ROOM << 32 | 1)) return 0;
+    if (find_two(n, make2, k, k - 1, length) != ((pj_u64)PJ_REFUSED_RANK_ROOM << 32 | 2)) return 0;
+    if (!all_are(others, sizeof others, 170) || !all_are(ranks2, sizeof ranks2, 170)) return 0;
+    return find_two(n, make2, k, k, length - 1) == (pj_u64)PJ_REFUSED_PLAN_ROOM << 32 && same(others, ranks, k) &&
+           all_are(ranks2, k, 0) && all_are(plan, sizeof plan, 170);
 }
 
 // The rules `size N 1` into a room of exactly the book's size, and of a byte less. What is past the book is left, and all
@@ -142,6 +170,25 @@ static int null_for_empty(void) {
     if (pj_height(pj_find(book, b, 1, 0, 0, 0, make, 16, 0, 0, ranks, r, plan, 6)) != 2) return 0;
     if (pj_number(pj_find(book, b, 1, 0, 0, 0, make, 16, 0, 0, 0, 0, plan, 6)) != PJ_REFUSED_RANK_ROOM) return 0;
     if (pj_number(pj_find(book, b, 1, 0, 0, 0, make, 16, 0, 0, ranks, r, 0, 0)) != PJ_REFUSED_PLAN_ROOM) return 0;
+    if (pj_number(pj_find_two(0, 0, 1, 0, 0, 0, make, 16, 0, 0, 1, make, 16, 0, 0, ranks, r, ranks2, r, plan, 6)) !=
+        PJ_REFUSED_BOOK_LENGTH)
+        return 0;
+    if (pj_number(pj_find_two(book, b, 1, 0, 0, 0, 0, 0, 0, 0, 1, make, 16, 0, 0, ranks, r, ranks2, r, plan, 6)) !=
+        PJ_REFUSED_GOAL)
+        return 0;
+    if (pj_number(pj_find_two(book, b, 1, 0, 0, 0, make, 16, 0, 0, 1, 0, 0, 0, 0, ranks, r, ranks2, r, plan, 6)) !=
+        PJ_REFUSED_GOAL)
+        return 0;
+    if (pj_height(pj_find_two(book, b, 1, 0, 0, 0, make, 16, 0, 0, 1, make, 16, 0, 0, ranks, r, ranks2, r, plan, 6)) != 2)
+        return 0;
+    for (pj_u64 place = 1; place <= 2; place++) {
+        pj_u64 told = pj_find_two(book, b, 1, 0, 0, 0, make, 16, 0, 0, 1, make, 16, 0, 0, place == 1 ? 0 : ranks,
+                                  place == 1 ? 0 : r, place == 2 ? 0 : ranks2, place == 2 ? 0 : r, plan, 6);
+        if (pj_number(told) != PJ_REFUSED_RANK_ROOM || pj_place(told) != place) return 0;
+    }
+    if (pj_number(pj_find_two(book, b, 1, 0, 0, 0, make, 16, 0, 0, 1, make, 16, 0, 0, ranks, r, ranks2, r, 0, 0)) !=
+        PJ_REFUSED_PLAN_ROOM)
+        return 0;
     if (pj_number(pj_find_plain(0, 0, 1, 0, 0, 0, make, 16, 0, 0)) != PJ_REFUSED_BOOK_LENGTH) return 0;
     if (pj_number(pj_find_plain(book, b, 1, 0, 0, 0, 0, 0, 0, 0)) != PJ_REFUSED_GOAL) return 0;
     if (pj_find_plain(book, b, 1, 0, 0, 0, make, 16, 0, 0) != 2 + 1) return 0;
@@ -180,6 +227,11 @@ static int any_address(void) {
             pj_find(b, PJ_BOOK_ROOM(3), 3, 0, 0, 0, t, PJ_TABLE, 0, 0, k, PJ_RANKS_ROOM(3), p, PJ_PLAN_ROOM(3));
         if (pj_height(found) != 4 || pj_length(found) != 8) return 0;
         if (pj_plan_check(b, PJ_BOOK_ROOM(3), 3, 0, 0, 0, t, PJ_TABLE, 0, 0, p, 8) != 0) return 0;
+        pj_u8 *t2 = at + 6101, *k2 = at + 6201; // post 2 makes a, then post 1 makes b
+        if (formula(3, "a", t2) != 0) return 0;
+        found = pj_find_two(b, PJ_BOOK_ROOM(3), 2, 0, 0, 0, t2, PJ_TABLE, 0, 0, 1, t, PJ_TABLE, 0, 0, k,
+                            PJ_RANKS_ROOM(3), k2, PJ_RANKS_ROOM(3), p, PJ_PLAN_ROOM(3));
+        if (pj_height(found) != 3 || pj_length(found) != 6) return 0;
         pj_u8 *rules_at = at + 7001, *question_at = at + 8001, *made = at + 9001, *o = at + 12001;
         for (pj_u64 i = 0; i < sizeof rules - 1; i++) rules_at[i] = (pj_u8)rules[i];
         for (pj_u64 i = 0; i < sizeof question - 1; i++) question_at[i] = (pj_u8)question[i];
@@ -197,12 +249,13 @@ static int any_address(void) {
     return 1;
 }
 
-// A thread with rooms of its own asks the question of n settings again and again, by its tables and by its text, and runs
-// a shift against the book, in which a is set as often as there are settings: every answer is the right one.
+// A thread with rooms of its own asks the question of n settings again and again, by its tables, with one leg and as both
+// legs of two, and by its text, and runs a shift against the book, in which a is set as often as there are settings: every
+// answer is the right one.
 struct asker {
     int n, right;
     pj_u8 rights[PJ_RIGHTS_ROOM(5)], book[PJ_BOOK_ROOM(5)], make[PJ_TABLE];
-    pj_u8 ranks[PJ_RANKS_ROOM(5)], plan[PJ_PLAN_ROOM(5)], text[32], out[PJ_ANSWER_MOST];
+    pj_u8 ranks[PJ_RANKS_ROOM(5)], ranks2[PJ_RANKS_ROOM(5)], plan[PJ_PLAN_ROOM(5)], text[32], out[PJ_ANSWER_MOST];
 };
 
 static void *ask(void *given) {
@@ -219,6 +272,10 @@ static void *ask(void *given) {
         pj_u64 told = pj_plan_check(own->book, PJ_BOOK_ROOM(n), 1, 0, 0, 0, own->make, PJ_TABLE, 0, 0, own->plan,
                                     pj_length(found));
         if (told != 0) own->right = 0;
+        pj_u64 two = pj_find_two(own->book, PJ_BOOK_ROOM(n), 1, 0, 0, 0, own->make, PJ_TABLE, 0, 0, 1, own->make, PJ_TABLE,
+                                 0, 0, own->ranks, PJ_RANKS_ROOM(n), own->ranks2, PJ_RANKS_ROOM(n), own->plan,
+                                 PJ_PLAN_ROOM(n));
+        if (two != found || !same(own->ranks, own->ranks2, PJ_RANKS_ROOM(n))) own->right = 0;
         pj_u64 t = climb_question(own->n, own->text);
         pj_u64 size = pj_ask(own->book, PJ_BOOK_ROOM(n), own->text, t, own->ranks, PJ_RANKS_ROOM(n), own->out,
                              sizeof own->out);
@@ -263,6 +320,10 @@ int main(void) {
     test("which have the most: PJ_RIGHTS_MOST, PJ_BOOK_MOST, PJ_RANKS_MOST, PJ_PLAN_MOST",
          PJ_RIGHTS_ROOM(7) == PJ_RIGHTS_MOST && PJ_BOOK_ROOM(7) == PJ_BOOK_MOST && PJ_RANKS_ROOM(7) == PJ_RANKS_MOST &&
              PJ_PLAN_ROOM(7) == PJ_PLAN_MOST);
+    int two = 1;
+    for (int n = 1; n <= 6; n++) two &= two_rooms(n);
+    test("pj_find_two, PJ_RANKS_ROOM twice and the plan's length for 1 to 6 settings, and a byte less; the rest is left", two);
+    test("the same for 7, with a height of 254", two_rooms(7));
     for (int n = 1; n <= 7; n++) made &= rules_room(n);
     test("pj_rules, PJ_BOOK_ROOM for 1 to 7 settings, and a byte less; the rest is left", made);
     for (int n = 1; n <= 6; n++) asked &= ask_rooms(n);

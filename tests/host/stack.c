@@ -6,7 +6,7 @@
 
 static pj_u8 stack[1 << 20] __attribute__((aligned(64)));
 static pj_u8 rights[PJ_RIGHTS_MOST], book[PJ_BOOK_MOST], ranks[PJ_RANKS_MOST], plan[PJ_PLAN_MOST], make[PJ_TABLE];
-static pj_u8 text[PJ_FORMULA_MOST], lines[PJ_TEXT_MOST], out[PJ_ASK_MOST];
+static pj_u8 ranks2[PJ_RANKS_MOST], text[PJ_FORMULA_MOST], lines[PJ_TEXT_MOST], out[PJ_ASK_MOST];
 static pj_u64 result, plan_length, lines_length, start, reached[2];
 
 // Calls f on the other stack. The called function keeps rbx, which holds the old stack's end.
@@ -38,6 +38,10 @@ static void book_write(void) { result = pj_book_write(7, 1, rights, sizeof right
 static void book_salvage(void) { result = pj_book_salvage(book, sizeof book, out, sizeof book); }
 static void find(void) {
     result = pj_find(book, sizeof book, 1, 0, 0, 0, make, PJ_TABLE, 0, 0, ranks, sizeof ranks, plan, sizeof plan);
+}
+static void find_two(void) {
+    result = pj_find_two(book, sizeof book, 1, 0, 0, 0, make, PJ_TABLE, 0, 0, 1, make, PJ_TABLE, 0, 0, ranks, sizeof ranks,
+                         ranks2, sizeof ranks2, plan, sizeof plan);
 }
 static void find_plain(void) { result = pj_find_plain(book, sizeof book, 1, 0, 0, 0, make, PJ_TABLE, 0, 0); }
 static void plan_check(void) {
@@ -87,6 +91,8 @@ int main(void) {
     holds("pj_find, a plan of height 254", find, PJ_STACK_FIND);
     test("which was found", pj_height(result) == 254);
     plan_length = pj_length(result);
+    holds("pj_find_two, a plan of height 254", find_two, PJ_STACK_FIND_TWO);
+    test("which was found", pj_height(result) == 254 && pj_length(result) == plan_length);
     holds("pj_find_plain, a plan of height 254", find_plain, PJ_STACK_FIND_PLAIN);
     test("which was found", result == 254 + 1);
     holds("pj_plan_check, the same plan", plan_check, PJ_STACK_PLAN_CHECK);

@@ -57,10 +57,10 @@ find-one {book} {q} {goal} {ranks} {plan} {x = x} {y = y} {u = u} {v = v} a b =
     let e = find-unique book q goal ranks plan (a .answer) (b .answer) x y u v (a .finds) (b .finds) in
     (a .result-is ∙ ap findReturned (e .0) ∙ sym (b .result-is), e .1, e .2)
 
-pub find-two-one : {book : List ℕ} {q : Question} {goal : Goal} {second : ℕ} {wanted : Goal} {old : Rooms} {r s : ℕ} {x y : Rooms}
-    → TwoFound book q goal second wanted old r x → TwoFound book q goal second wanted old s y → (r ≡ s) × (x ≡ y)
-find-two-one {book} {q} {goal} {second} {wanted} {old} {x = x} {y = y} a b =
-    let e = two-unique book q goal second wanted old (a .answer) (b .answer) x y (a .finds) (b .finds) in
+pub find-two-one : {book : List ℕ} {q : Question} {goal : Goal} {team2 : ℕ} {goal2 : Goal} {old : Rooms} {r s : ℕ} {x y : Rooms}
+    → TwoFound book q goal team2 goal2 old r x → TwoFound book q goal team2 goal2 old s y → (r ≡ s) × (x ≡ y)
+find-two-one {book} {q} {goal} {team2} {goal2} {old} {x = x} {y = y} a b =
+    let e = two-unique book q goal team2 goal2 old (a .answer) (b .answer) x y (a .finds) (b .finds) in
     (a .result-is ∙ ap findReturned (e .0) ∙ sym (b .result-is), e .1)
 
 pub find-plain-one : {book : List ℕ} {q : Question} {goal : Goal} {r s : ℕ} → PlainlyFound book q goal r → PlainlyFound book q goal s → r ≡ s

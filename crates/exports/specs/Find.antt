@@ -23,9 +23,9 @@ pub record PlanFound (book : List ℕ) (q : Question) (goal : Goal) (ranks plan 
   pub result-is : result ≡ findReturned answer
 
 -- of two legs
-pub record TwoFound (book : List ℕ) (q : Question) (goal : Goal) (second : ℕ) (wanted : Goal) (old : Rooms) (result : ℕ) (new : Rooms) : Type 0 where
+pub record TwoFound (book : List ℕ) (q : Question) (goal : Goal) (team2 : ℕ) (goal2 : Goal) (old : Rooms) (result : ℕ) (new : Rooms) : Type 0 where
   pub answer : Answer
-  pub finds : FindsTwo book q goal second wanted old answer new
+  pub finds : FindsTwo book q goal team2 goal2 old answer new
   pub result-is : result ≡ findReturned answer
 
 -- the plain finder is lent no room

@@ -224,7 +224,8 @@ pub extern "C" fn pj_rules(rules: &[u8], book: &mut [u8]) -> u64
 
 // What is printed for a question text that is put to a book, in the lent room as far as it fits: the length of all
 // of it, which is at most `sheet_ask::ASK_MOST`. Nothing is refused: a rank table that is too short is answered
-// so, and is otherwise left as `pj_find` leaves it. The rest of the room keeps what it held.
+// so, and is otherwise left as `pj_find` leaves it; with two legs it has the first leg's ranks and behind them the
+// second's. The rest of the room keeps what it held.
 #[no_mangle]
 pub extern "C" fn pj_ask(book: &[u8], question: &[u8], ranks: &mut [u8], out: &mut [u8]) -> u64
     ensures { λ r. ⌜ AsksBook (now (book .entry)) (now (question .entry)) (now (ranks .entry)) (now (out .entry)) r (now (ranks .exit)) (now (out .exit)) ⌝ }

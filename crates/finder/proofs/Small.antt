@@ -54,21 +54,21 @@ module _ (book : List ℕ) (q : Question) (goal : Goal) (ranks plan ranks′ pla
 
 -- and of two legs
 
-pub two-places : (book : List ℕ) (q : Question) (goal : Goal) (second : ℕ) (wanted : Goal) (old : Rooms) → PlacesBelow 9 (findTwoRows book q goal second wanted old)
+pub two-places : (book : List ℕ) (q : Question) (goal : Goal) (team2 : ℕ) (goal2 : Goal) (old : Rooms) → PlacesBelow 9 (findTwoRows book q goal team2 goal2 old)
 unfolding findTwoRows
-two-places book q goal second wanted old =
-    places-append 9 (legRows book q goal second wanted) (roomRows book old) (leg-places book q goal second wanted)
+two-places book q goal team2 goal2 old =
+    places-append 9 (legRows book q goal team2 goal2) (roomRows book old) (leg-places book q goal team2 goal2)
     (λ _. ((λ i g. omega arith), λ _. ((λ i g. omega arith), λ _. tt)))
 
-module _ (book : List ℕ) (q : Question) (goal : Goal) (second : ℕ) (wanted : Goal) (old new : Rooms) where
-  pub two-place-small : (r : Refusal) → FindsTwo book q goal second wanted old (Refused r) new → place r < 9
+module _ (book : List ℕ) (q : Question) (goal : Goal) (team2 : ℕ) (goal2 : Goal) (old new : Rooms) where
+  pub two-place-small : (r : Refusal) → FindsTwo book q goal team2 goal2 old (Refused r) new → place r < 9
   two-place-small r (inl u) =
       let e : r ≡ u .why = cc (u .answered) in
       subst (λ (x : Refusal). place x < 9) (sym e)
-      (first-place-below 9 (findTwoRows book q goal second wanted old) (two-places book q goal second wanted old) (u .first))
+      (first-place-below 9 (findTwoRows book q goal team2 goal2 old) (two-places book q goal team2 goal2 old) (u .first))
   two-place-small r (inr (n, m, v, room, a)) = subst (λ (x : Refusal). place x < 9) (sym (a .answers .0)) (omega arith)
 
-  pub two-reach-most : (h size : ℕ) → FindsTwo book q goal second wanted old (Reach h size) new → (h ≤ 254) × (size ≤ 32640)
+  pub two-reach-most : (h size : ℕ) → FindsTwo book q goal team2 goal2 old (Reach h size) new → (h ≤ 254) × (size ≤ 32640)
   two-reach-most h size (inl u) = let e : Reach h size ≡ Refused (u .why) = u .answered in let z : _≡_ {A = ℕ} 0 1 = cc in absurd (omega arith)
   two-reach-most h size (inr (n, m, v, room, a)) =
-      answer-most (first-leg-lawful book q goal second wanted v) (few (v .first)) (startOf q) (old .plan) (new .plan) h size (a .answers)
+      answer-most (first-leg-lawful book q goal team2 goal2 v) (few (v .first)) (startOf q) (old .plan) (new .plan) h size (a .answers)

@@ -180,22 +180,22 @@ module _ {book : List ℕ} {q : Question} {goal : Goal} {n m : ℕ} (v : ValidQu
     pub ranks-filled : RanksFilled n (ruledSystem n book q goal) old ranks
     ranks-filled = counted (λ k h. goal-is k) (filled .filled (fits room))
 
-  -- ---- the first of two legs, before the system R of the second, whose ranks are in `second`
+  -- ---- the first of two legs, before the system R of the second, whose ranks are in `ranks2`
 
-  module _ {R : System} (R-law : Lawful n R) {second : List ℕ} (ranked : (k : ℕ) → k < 7 ^ n → IsRank R k (getD second k 0))
-      {old ranks : List ℕ} (filled : FillsFirst n made learnt second set look old ranks) (there : 7 ^ n ≤ length second) (room : 7 ^ n ≤ length old) where
+  module _ {R : System} (R-law : Lawful n R) {ranks2 : List ℕ} (ranked : (k : ℕ) → k < 7 ^ n → IsRank R k (getD ranks2 k 0))
+      {old ranks : List ℕ} (filled : FillsFirst n made learnt ranks2 set look old ranks) (there : 7 ^ n ≤ length ranks2) (room : 7 ^ n ≤ length old) where
     -- an entry that is not 255 tells that the second team has a working plan
-    has : (k : ℕ) → k < 7 ^ n → not (eqb (rank second k) 255) ≡ canFrom n R k
+    has : (k : ℕ) → k < 7 ^ n → not (eqb (rank ranks2 k) 255) ≡ canFrom n R k
     has k h =
-        let can = rank-can R-law k (rank second k) (few v) (ranked k h) in
-        T-iff (not (eqb (rank second k) 255)) (canFrom n R k)
+        let can = rank-can R-law k (rank ranks2 k) (few v) (ranked k h) in
+        T-iff (not (eqb (rank ranks2 k) 255)) (canFrom n R k)
         (λ t. can .0 (elim (ranked k h) [
-          | inl least ↦ rank-small R-law k (rank second k) (few v) least
-          | inr none ↦ absurd (T-not (eqb (rank second k) 255) t (eq→eqb (none .0)))
+          | inl least ↦ rank-small R-law k (rank ranks2 k) (few v) least
+          | inr none ↦ absurd (T-not (eqb (rank ranks2 k) 255) t (eq→eqb (none .0)))
         ]))
-        (λ t. false→T (ne-eqb (rank second k) 255 (λ e. omega (arith, can .1 t))))
+        (λ t. false→T (ne-eqb (rank ranks2 k) 255 (λ e. omega (arith, can .1 t))))
 
-    goal-then : (k : ℕ) → k < 7 ^ n → goalThen n made learnt second k ≡ firstLeg n (ruledSystem n book q goal) R .goal k
+    goal-then : (k : ℕ) → k < 7 ^ n → goalThen n made learnt ranks2 k ≡ firstLeg n (ruledSystem n book q goal) R .goal k
     unfolding goalThen firstLeg
     goal-then k h = ap₂ (λ (a b : Bool). a && b) (goal-is k) (has k h)
 

@@ -17,32 +17,32 @@ use Rattle.question.specs.declared.Question.{Question}
 use Rattle.question.proofs.LegLaws.{legs-clear}
 use Rattle.finder.specs.FindsTwo.{Rooms, roomRows, findTwoRows, RoomForTwo}
 
-module _ (book : List ℕ) (q : Question) (goal : Goal) (second : ℕ) (wanted : Goal) (old : Rooms) where
-  pub leg-row : {r : Refusal} → First (legRows book q goal second wanted) r → First (findTwoRows book q goal second wanted old) r
+module _ (book : List ℕ) (q : Question) (goal : Goal) (team2 : ℕ) (goal2 : Goal) (old : Rooms) where
+  pub leg-row : {r : Refusal} → First (legRows book q goal team2 goal2) r → First (findTwoRows book q goal team2 goal2 old) r
   unfolding findTwoRows
   leg-row f = first-left (roomRows book old) f
 
-  module _ {n m : ℕ} (v : ValidLegs book q goal second wanted n m) where
+  module _ {n m : ℕ} (v : ValidLegs book q goal team2 goal2 n m) where
     size-is : settingsOf book ≡ n
     size-is = sound-settings (v .first .sound)
 
-    pub short-first : length (old .ranks) < 7 ^ n → First (findTwoRows book q goal second wanted old) (RankRoom 1)
+    pub short-first : length (old .ranks) < 7 ^ n → First (findTwoRows book q goal team2 goal2 old) (RankRoom 1)
     unfolding findTwoRows
     short-first l =
-        first-right (legs-clear book q goal second wanted v) (first-when (subst (λ (n : ℕ). length (old .ranks) < 7 ^ n) (sym size-is) l))
+        first-right (legs-clear book q goal team2 goal2 v) (first-when (subst (λ (n : ℕ). length (old .ranks) < 7 ^ n) (sym size-is) l))
 
     long-first : 7 ^ n ≤ length (old .ranks) → length (old .ranks) < 7 ^ settingsOf book → ⊥
     long-first h l = omega (arith, h, subst (λ (x : ℕ). length (old .ranks) < 7 ^ x) size-is l)
 
-    pub short-second : 7 ^ n ≤ length (old .ranks) → length (old .ranks2) < 7 ^ n → First (findTwoRows book q goal second wanted old) (RankRoom 2)
+    pub short-second : 7 ^ n ≤ length (old .ranks) → length (old .ranks2) < 7 ^ n → First (findTwoRows book q goal team2 goal2 old) (RankRoom 2)
     unfolding findTwoRows
     short-second h l =
-        first-right (legs-clear book q goal second wanted v)
+        first-right (legs-clear book q goal team2 goal2 v)
         (first-later-when (long-first h) (first-when (subst (λ (n : ℕ). length (old .ranks2) < 7 ^ n) (sym size-is) l)))
 
-    pub two-clear : RoomForTwo n old → Clear (findTwoRows book q goal second wanted old)
+    pub two-clear : RoomForTwo n old → Clear (findTwoRows book q goal team2 goal2 old)
     unfolding findTwoRows
     two-clear room =
-        clear-append (legs-clear book q goal second wanted v)
+        clear-append (legs-clear book q goal team2 goal2 v)
         (clear-when (long-first (room .first-room))
         (clear-when (λ l. omega (arith, room .second-room, subst (λ (x : ℕ). length (old .ranks2) < 7 ^ x) size-is l)) clear-none))

@@ -36,20 +36,20 @@ roomRows book old =
 
 -- and it comes after the refusals of both legs
 unfoldable pub findTwoRows : List ℕ → Question → Goal → ℕ → Goal → Rooms → List Row
-findTwoRows book q goal second wanted old = legRows book q goal second wanted ++ roomRows book old
+findTwoRows book q goal team2 goal2 old = legRows book q goal team2 goal2 ++ roomRows book old
 
 -- a question that is refused before it is looked into, which leaves all three rooms as they were
-pub record UnmetTwo (book : List ℕ) (q : Question) (goal : Goal) (second : ℕ) (wanted : Goal) (old : Rooms) (answer : Answer) (new : Rooms) : Type 0 where
+pub record UnmetTwo (book : List ℕ) (q : Question) (goal : Goal) (team2 : ℕ) (goal2 : Goal) (old : Rooms) (answer : Answer) (new : Rooms) : Type 0 where
   pub why : Refusal
   pub answered : answer ≡ Refused why
-  pub first : First (findTwoRows book q goal second wanted old) why
+  pub first : First (findTwoRows book q goal team2 goal2 old) why
   pub kept : new ≡ old
 
 -- a valid question over n settings: the ranks of both legs, the second's "by the second team and goal alone", and the answer of the first
-pub record AnsweredTwo (n : ℕ) (book : List ℕ) (q : Question) (goal : Goal) (second : ℕ) (wanted : Goal) (old : Rooms) (answer : Answer) (new : Rooms) : Type 0 where
-  pub second-ranks : RanksFilled n (secondSystem n book q second wanted) (old .ranks2) (new .ranks2)
-  pub first-ranks : RanksFilled n (firstSystem n book q goal second wanted) (old .ranks) (new .ranks)
-  pub answers : AnswersFrom (firstSystem n book q goal second wanted) (startOf q) (old .plan) answer (new .plan)
+pub record AnsweredTwo (n : ℕ) (book : List ℕ) (q : Question) (goal : Goal) (team2 : ℕ) (goal2 : Goal) (old : Rooms) (answer : Answer) (new : Rooms) : Type 0 where
+  pub second-ranks : RanksFilled n (secondSystem n book q team2 goal2) (old .ranks2) (new .ranks2)
+  pub first-ranks : RanksFilled n (firstSystem n book q goal team2 goal2) (old .ranks) (new .ranks)
+  pub answers : AnswersFrom (firstSystem n book q goal team2 goal2) (startOf q) (old .plan) answer (new .plan)
 
 -- there is room for the ranks of both legs
 pub record RoomForTwo (n : ℕ) (old : Rooms) : Type 0 where
@@ -58,6 +58,6 @@ pub record RoomForTwo (n : ℕ) (old : Rooms) : Type 0 where
 
 -- what `find_two` gives
 abbrev pub FindsTwo : List ℕ → Question → Goal → ℕ → Goal → Rooms → Answer → Rooms → Type 0
-FindsTwo book q goal second wanted old answer new =
-    UnmetTwo book q goal second wanted old answer new
-    ⊎ ((n : ℕ) × (m : ℕ) × ValidLegs book q goal second wanted n m × RoomForTwo n old × AnsweredTwo n book q goal second wanted old answer new)
+FindsTwo book q goal team2 goal2 old answer new =
+    UnmetTwo book q goal team2 goal2 old answer new
+    ⊎ ((n : ℕ) × (m : ℕ) × ValidLegs book q goal team2 goal2 n m × RoomForTwo n old × AnsweredTwo n book q goal team2 goal2 old answer new)

@@ -42,7 +42,7 @@ fn search_two(
     question: Question,
     make: &[u8],
     learn: &[u8],
-    second: u8,
+    team2: u8,
     make2: &[u8],
     learn2: &[u8],
     n: u8,
@@ -50,13 +50,13 @@ fn search_two(
     ranks2: &mut [u8],
     plan: &mut [u8],
 ) -> Answer
-    requires { ⌜ ((m : ℕ) × ValidLegs (now book) question (goalOf (now make) (now learn)) second (goalOf (now make2) (now learn2)) n m)
+    requires { ⌜ ((m : ℕ) × ValidLegs (now book) question (goalOf (now make) (now learn)) team2 (goalOf (now make2) (now learn2)) n m)
         × RoomForTwo n (roomsOf (now ranks) (now ranks2) (now plan)) ⌝ }
-    ensures { λ r. ⌜ AnsweredTwo n (now (book .entry)) question (goalOf (now (make .entry)) (now (learn .entry))) second (goalOf (now (make2 .entry)) (now (learn2 .entry)))
+    ensures { λ r. ⌜ AnsweredTwo n (now (book .entry)) question (goalOf (now (make .entry)) (now (learn .entry))) team2 (goalOf (now (make2 .entry)) (now (learn2 .entry)))
         (roomsOf (now (ranks .entry)) (now (ranks2 .entry)) (now (plan .entry))) r (roomsOf (now (ranks .exit)) (now (ranks2 .exit)) (now (plan .exit))) ⌝ }
 {
     let leg = Question {
-        team: second,
+        team: team2,
         known: question.known,
         values: question.values,
         held: question.held,
@@ -79,17 +79,17 @@ pub fn find_two(
     question: Question,
     make: &[u8],
     learn: &[u8],
-    second: u8,
+    team2: u8,
     make2: &[u8],
     learn2: &[u8],
     ranks: &mut [u8],
     ranks2: &mut [u8],
     plan: &mut [u8],
 ) -> Answer
-    ensures { λ r. ⌜ FindsTwo (now (book .entry)) question (goalOf (now (make .entry)) (now (learn .entry))) second (goalOf (now (make2 .entry)) (now (learn2 .entry)))
+    ensures { λ r. ⌜ FindsTwo (now (book .entry)) question (goalOf (now (make .entry)) (now (learn .entry))) team2 (goalOf (now (make2 .entry)) (now (learn2 .entry)))
         (roomsOf (now (ranks .entry)) (now (ranks2 .entry)) (now (plan .entry))) r (roomsOf (now (ranks .exit)) (now (ranks2 .exit)) (now (plan .exit))) ⌝ }
 {
-    match ask_two(book, question, make, learn, second, make2, learn2) {
+    match ask_two(book, question, make, learn, team2, make2, learn2) {
         Asked::Not(why) => Answer::Refused(why),
         Asked::Valid { settings, posts: _ } => {
             let count = numbers(settings);
@@ -104,7 +104,7 @@ pub fn find_two(
                 question,
                 make,
                 learn,
-                second,
+                team2,
                 make2,
                 learn2,
                 settings,

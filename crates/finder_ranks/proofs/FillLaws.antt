@@ -34,10 +34,10 @@ module _ {n : ℕ} {made learnt : List ℕ} {set look : List (List ℕ)} {old : 
   pub unfilled : (RanksFit n old → ⊥) → FillsRanks n made learnt set look old old
   unfilled none = record { filled = λ r. absurd (none r); kept = λ n. refl }
 
-  module _ {second : List ℕ} where
-    pub filled-first : {new : List ℕ} → RanksFit n second → RanksFit n old → RankTable n (goalThen n made learnt second) set look old new
-        → FillsFirst n made learnt second set look old new
+  module _ {ranks2 : List ℕ} where
+    pub filled-first : {new : List ℕ} → RanksFit n ranks2 → RanksFit n old → RankTable n (goalThen n made learnt ranks2) set look old new
+        → FillsFirst n made learnt ranks2 set look old new
     filled-first there fits t = record { filled = λ r s. t; kept = λ none. absurd (none there fits) }
 
-    pub unfilled-first : (RanksFit n second → RanksFit n old → ⊥) → FillsFirst n made learnt second set look old old
+    pub unfilled-first : (RanksFit n ranks2 → RanksFit n old → ⊥) → FillsFirst n made learnt ranks2 set look old old
     unfilled-first none = record { filled = λ r s. absurd (none r s); kept = λ n. refl }

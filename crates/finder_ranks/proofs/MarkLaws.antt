@@ -138,18 +138,18 @@ mark-both true false = refl
 mark-both false true = refl
 mark-both false false = refl
 
--- marked by its own goal, and then held against the second leg's ranks
-pub marks-then : {n : ℕ} (made learnt second : List ℕ) {old mid new : List ℕ} → Marks n (goalAt n made learnt) old mid → Unmarked n second mid new
-    → Marks n (goalThen n made learnt second) old new
+-- marked by its own goal, and then without the marks where the second leg has no rank
+pub marks-then : {n : ℕ} (made learnt ranks2 : List ℕ) {old mid new : List ℕ} → Marks n (goalAt n made learnt) old mid → Unmarked n ranks2 mid new
+    → Marks n (goalThen n made learnt ranks2) old new
 unfolding goalThen markThen
-marks-then {n} made learnt second m u = record {
+marks-then {n} made learnt ranks2 m u = record {
   long = u .long ∙ m .long;
-  marked = λ k h. u .here k (omega arith) h ∙ rw (m .marked k h) (mark-both (goalAt n made learnt k) (eqb (rank second k) 255));
+  marked = λ k h. u .here k (omega arith) h ∙ rw (m .marked k h) (mark-both (goalAt n made learnt k) (eqb (rank ranks2 k) 255));
   kept = λ k h. u .after k h ∙ m .kept k h;
 }
 
 -- one state more
-pub unmarked-more : {e x y : ℕ} (second old : List ℕ) {mid : List ℕ} → Stored (λ k. markThen (getD second k 0) (getD old k 0)) 0 e old mid → e < length mid
-    → y ≡ getD mid e 0 → x ≡ markThen (getD second e 0) y → Stored (λ k. markThen (getD second k 0) (getD old k 0)) 0 (e + 1) old (set mid e x)
-unmarked-more {e} {x} second old s l here q =
-    stored-more (e + 1) x s (omega arith) l refl (q ∙ ap (λ (z : ℕ). markThen (getD second e 0) z) (here ∙ s .after e (omega arith)))
+pub unmarked-more : {e x y : ℕ} (ranks2 old : List ℕ) {mid : List ℕ} → Stored (λ k. markThen (getD ranks2 k 0) (getD old k 0)) 0 e old mid → e < length mid
+    → y ≡ getD mid e 0 → x ≡ markThen (getD ranks2 e 0) y → Stored (λ k. markThen (getD ranks2 k 0) (getD old k 0)) 0 (e + 1) old (set mid e x)
+unmarked-more {e} {x} ranks2 old s l here q =
+    stored-more (e + 1) x s (omega arith) l refl (q ∙ ap (λ (z : ℕ). markThen (getD ranks2 e 0) z) (here ∙ s .after e (omega arith)))

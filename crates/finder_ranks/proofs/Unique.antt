@@ -57,9 +57,9 @@ fills-unique {n} {before = before} x y = elim (room-or n before) [
 ]
 
 -- `fill_first`: all of the table
-pub first-unique : {n : ℕ} {made learnt second : List ℕ} {set look : List (List ℕ)} {before a b : List ℕ}
-    → FillsFirst n made learnt second set look before a → FillsFirst n made learnt second set look before b → a ≡ b
-first-unique {n} {second = second} {before = before} x y = elim (room-or n second) [
+pub fills-first-unique : {n : ℕ} {made learnt ranks2 : List ℕ} {set look : List (List ℕ)} {before a b : List ℕ}
+    → FillsFirst n made learnt ranks2 set look before a → FillsFirst n made learnt ranks2 set look before b → a ≡ b
+fills-first-unique {n} {ranks2 = ranks2} {before = before} x y = elim (room-or n ranks2) [
   | inl r ↦ elim (room-or n before) [
     | inl s ↦ table-unique (x .filled r s) (y .filled r s)
     | inr s ↦ x .kept (λ t. s) ∙ sym (y .kept (λ t. s))

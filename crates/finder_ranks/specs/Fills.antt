@@ -36,9 +36,9 @@ pub record FillsRanks (n : ℕ) (made learnt : List ℕ) (set look : List (List 
 
 -- the goal of a first leg: settled, "and stop where the second team .. can settle its own", which the second leg's table of ranks tells
 unfoldable pub goalThen : ℕ → List ℕ → List ℕ → List ℕ → ℕ → Bool
-goalThen n made learnt second k = goalAt n made learnt k && not (eqb (rank second k) 255)
+goalThen n made learnt ranks2 k = goalAt n made learnt k && not (eqb (rank ranks2 k) 255)
 
 -- what `fill_first` leaves: a certified table, or, where there is none to fill or the second leg's is too short, the bytes that it was lent
-pub record FillsFirst (n : ℕ) (made learnt second : List ℕ) (set look : List (List ℕ)) (before after : List ℕ) : Type 0 where
-  pub filled : RanksFit n second → RanksFit n before → RankTable n (goalThen n made learnt second) set look before after
-  pub kept : (RanksFit n second → RanksFit n before → ⊥) → after ≡ before
+pub record FillsFirst (n : ℕ) (made learnt ranks2 : List ℕ) (set look : List (List ℕ)) (before after : List ℕ) : Type 0 where
+  pub filled : RanksFit n ranks2 → RanksFit n before → RankTable n (goalThen n made learnt ranks2) set look before after
+  pub kept : (RanksFit n ranks2 → RanksFit n before → ⊥) → after ≡ before

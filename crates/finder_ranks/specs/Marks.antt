@@ -34,8 +34,8 @@ pub record Stored (f : ℕ → ℕ) (a e : ℕ) (old new : List ℕ) : Type 0 wh
 
 -- the mark of a state in a first leg, by the second leg's entry there: none where that has no rank
 unfoldable pub markThen : ℕ → ℕ → ℕ
-markThen second mark = cond (eqb second 255) 255 mark
+markThen rank2 mark = cond (eqb rank2 255) 255 mark
 
--- each mark of the first 7^n was held against the second leg's table
+-- of the first 7^n marks those are taken away where the second leg's table has 255
 abbrev pub Unmarked : ℕ → List ℕ → List ℕ → List ℕ → Type 0
-Unmarked n second old new = Stored (λ k. markThen (getD second k 0) (getD old k 0)) 0 (7 ^ n) old new
+Unmarked n ranks2 old new = Stored (λ k. markThen (getD ranks2 k 0) (getD old k 0)) 0 (7 ^ n) old new

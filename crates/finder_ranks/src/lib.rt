@@ -67,18 +67,18 @@ pub fn fill_first(
     learnt: &[u8; SIDES],
     set: &[[u8; SIDES]; SETTINGS_MOST],
     look: &[[u8; SIDES]; SETTINGS_MOST],
-    second: &[u8],
+    ranks2: &[u8],
     ranks: &mut [u8],
 )
-    ensures { λ _. ⌜ FillsFirst n (now (made .entry)) (now (learnt .entry)) (now (second .entry)) (now (set .entry)) (now (look .entry)) (now (ranks .entry)) (now (ranks .exit)) ⌝ }
+    ensures { λ _. ⌜ FillsFirst n (now (made .entry)) (now (learnt .entry)) (now (ranks2 .entry)) (now (set .entry)) (now (look .entry)) (now (ranks .entry)) (now (ranks .exit)) ⌝ }
 {
-    if !has_room(n, second) {
+    if !has_room(n, ranks2) {
         return;
     }
     if !has_room(n, ranks) {
         return;
     }
     mark(n, made, learnt, ranks);
-    unmark(n, second, ranks);
+    unmark(n, ranks2, ranks);
     spread(n, set, look, ranks);
 }

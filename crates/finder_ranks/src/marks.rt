@@ -62,10 +62,10 @@ pub(crate) fn mark(n: u8, made: &[u8; SIDES], learnt: &[u8; SIDES], ranks: &mut 
 }
 
 // The mark of a state of a first leg: NONE where the second leg has no rank there, else the one it had.
-fn mark_then(second: u8, mark: u8) -> u8
-    ensures { λ r. ⌜ r ≡ markThen second mark ⌝ }
+fn mark_then(rank2: u8, mark: u8) -> u8
+    ensures { λ r. ⌜ r ≡ markThen rank2 mark ⌝ }
 {
-    if second == NONE {
+    if rank2 == NONE {
         return NONE;
     }
     mark
@@ -73,14 +73,14 @@ fn mark_then(second: u8, mark: u8) -> u8
 
 // Takes the mark from each of the 7^n knowledge numbers from which the second leg's ranks know no plan. All
 // later bytes stay as they were. For this crate alone.
-pub(crate) fn unmark(n: u8, second: &[u8], ranks: &mut [u8])
-    requires { ⌜ (n ≤ 7) × (7 ^ n ≤ length (now second)) × (7 ^ n ≤ length (now ranks)) ⌝ }
-    ensures { λ _. ⌜ Unmarked n (now (second .entry)) (now (ranks .entry)) (now (ranks .exit)) ⌝ }
+pub(crate) fn unmark(n: u8, ranks2: &[u8], ranks: &mut [u8])
+    requires { ⌜ (n ≤ 7) × (7 ^ n ≤ length (now ranks2)) × (7 ^ n ≤ length (now ranks)) ⌝ }
+    ensures { λ _. ⌜ Unmarked n (now (ranks2 .entry)) (now (ranks .entry)) (now (ranks .exit)) ⌝ }
 {
     let count = numbers(n);
     let mut k = 0;
     while k < count {
-        ranks[k] = mark_then(second[k], ranks[k]);
+        ranks[k] = mark_then(ranks2[k], ranks[k]);
         k += 1;
     }
 }

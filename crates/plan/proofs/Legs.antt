@@ -1,7 +1,7 @@
 -- Two legs: the first leg as a system of its own has exactly the plans that work and leave the second team a working plan at each stop. So its least
 -- height, its "cannot" and its ranks are those of two legs.
 use mathlib.Core.Path.{_≡_, refl}
-use mathlib.Core.Logic.{_↔_, inl, inr}
+use mathlib.Core.Logic.{_↔_, _⊎_, inl, inr}
 use mathlib.Core.Bool.{Bool, true, false, _&&_}
 use Prim.Native.Nat.{ℕ, suc, _-_, _^_, _≤_, _<_}
 use native.Mathlib.Omega.{arith}
@@ -58,6 +58,11 @@ module _ {n : ℕ} {R : System} (law : Lawful n R) where
 
     pub then-reach : (k h : ℕ) → ReachThen S R k h → Reach (firstLeg n S R) k h
     then-reach k h w = (w .0, works-then (w .0) k (w .1), w .2)
+
+    -- what a rank of the first leg says, of every state: the least height of such a plan, or 255 and there is none
+    pub rank-then : (k r : ℕ) → IsRank (firstLeg n S R) k r → Least (ReachThen S R k) r ⊎ ((r ≡ 255) × ((p : Plan) → WorksThen S R k p → ⊥))
+    rank-then k r (inl a) = inl (record { here = reach-then k r (a .here); none-below = λ j l w. a .none-below j l (then-reach k j w) })
+    rank-then k r (inr a) = inr (a .0, λ p w. a .1 p (works-then p k w))
 
 module _ (S R : System) where
   -- a plan of two legs is a plan of the first team alone

@@ -19,8 +19,7 @@ WorksThen S R k (look-then i q p r) = T (may S k (Look i q)) × WorksThen S R (l
 abbrev pub ReachThen : System → System → ℕ → ℕ → Type 0
 ReachThen S R k h = (p : Plan) × WorksThen S R k p × (height p ≡ h)
 
--- the same as a goal like any other, by computing: a team has a working plan from k exactly where it has one of height at most 2^(n+1) − 2
--- (proofs/Legs `can-exactly`)
+-- whether R has a working plan from k, as a computed test: where it has one, it has one of height at most 2^(n+1) − 2 (proofs/Legs `can-exactly`)
 unfoldable pub canFrom : ℕ → System → ℕ → Bool
 canFrom n R k = below n R (2 ^ suc n - 1) k
 

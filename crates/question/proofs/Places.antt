@@ -23,8 +23,8 @@ question-places book q goal =
 pub question-place-small : (book : List ℕ) (q : Question) (goal : Goal) (r : Refusal) → First (questionRows book q goal) r → place r < 9
 question-place-small book q goal r f = first-place-below 9 (questionRows book q goal) (question-places book q goal) f
 
-pub leg-places : (book : List ℕ) (q : Question) (goal : Goal) (second : ℕ) (wanted : Goal) → PlacesBelow 9 (legRows book q goal second wanted)
+pub leg-places : (book : List ℕ) (q : Question) (goal : Goal) (team2 : ℕ) (goal2 : Goal) → PlacesBelow 9 (legRows book q goal team2 goal2)
 unfolding legRows
-leg-places book q goal second wanted =
-    places-append 9 (questionRows book q goal) (secondRows book second wanted) (question-places book q goal)
+leg-places book q goal team2 goal2 =
+    places-append 9 (questionRows book q goal) (secondRows book team2 goal2) (question-places book q goal)
     (λ _. ((λ i g. omega arith), λ _. ((λ i g. omega arith), λ _. tt)))

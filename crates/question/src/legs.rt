@@ -15,16 +15,16 @@ pub fn ask_two(
     question: Question,
     make: &[u8],
     learn: &[u8],
-    second: u8,
+    team2: u8,
     make2: &[u8],
     learn2: &[u8],
 ) -> Asked
-    ensures { λ r. ⌜ AsksTwo (now (book .entry)) question (goalOf (now (make .entry)) (now (learn .entry))) second (goalOf (now (make2 .entry)) (now (learn2 .entry))) r ⌝ }
+    ensures { λ r. ⌜ AsksTwo (now (book .entry)) question (goalOf (now (make .entry)) (now (learn .entry))) team2 (goalOf (now (make2 .entry)) (now (learn2 .entry))) r ⌝ }
 {
     match ask(book, question, make, learn) {
         Asked::Not(why) => Asked::Not(why),
         Asked::Valid { settings, posts } => {
-            if !team_fits(posts, second) {
+            if !team_fits(posts, team2) {
                 return Asked::Not(Refusal::Team);
             }
             if !goal_fits(settings, make2, learn2) {

@@ -58,7 +58,7 @@ pub enum Refusal {
     Known,
     // 12: make table not 16 bytes, learn tables not 0 to 4 times 16 bytes, or a bit past 2^n in either.
     Goal,
-    // 13: rank table under 7^n bytes. Its place is 0 today; request R-8 names the table, 1 or 2.
+    // 13: rank table under 7^n bytes. Its place is 0 with one leg; with two, the first short table, 1 or 2.
     RankRoom(usize),
     // 14: plan longer than the lent plan room.
     PlanRoom,

@@ -36,12 +36,14 @@ use Rattle.plancheck.proofs.Theorems as Plans
 use Rattle.plancheck_text.specs.Meaning as Text
 use Rattle.plancheck_text.specs.Meaning.{planTextMeaning}
 use Rattle.plancheck_text.proofs.Theorems.{reads-back, printed-fits}
-use Rattle.sheet_words.specs.Words.{begins}
+use Rattle.sheet_words.specs.Words.{begins, split, newline}
 use Rattle.sheet_question.specs.Asked.{Asked}
 use Rattle.sheet_question.specs.Question.{QuestionMeaning, refused, asked, questionMeaning}
 use Rattle.sheet_question.proofs.Fits.{asked-fits}
 use Rattle.sheet_ask.specs.Asks.{QuestionAsks, PrintsQuestion, AsksBook}
 use Rattle.sheet_ask.proofs.AskedQuestion.{asked-valid, same-goal, same-question}
+use Rattle.sheet_ask.proofs.Theorems.{ask-told}
+use Rattle.sheet_legs.specs.Legs.{whole, cutLines}
 use Rattle.sheet_check.specs.Checks.{toldOf, ChecksText, ChecksQuestion, ChecksTexts}
 use Rattle.sheet_check.specs.declared.CheckTold.{CheckTold}
 use Rattle.sheet_check.specs.declared.CheckTold.the-variants.{Yes, BookRefused}
@@ -132,7 +134,7 @@ module _ {book : List ℕ} (question : List ℕ) {n m : ℕ} {a : Asked} {q : Qu
     })),
   )
 
--- ---- what `ask` prints for "reach", all of it in its room, gets a yes
+-- ---- what `ask` prints for "reach" and a question of one leg, all of it in its room, gets a yes
 
 module _ (out new : List ℕ) (r : ℕ) (fits : r ≤ length out) (reach : T (begins (bytes "reach ") (take r new))) where
   -- it is neither a refusal nor `cannot`
@@ -154,6 +156,8 @@ module _ (out new : List ℕ) (r : ℕ) (fits : r ≤ length out) (reach : T (be
         check-unique book question (take r new) told Yes said
         (subst (λ (s : List ℕ). ChecksTexts book question s Yes) (sym (prints-whole p fits)) (printed-yes question sound e k h plan least w))
 
-    pub asked-yes : AsksBook book question ranks out r left new → told ≡ Yes
-    asked-yes (inl (why, f, p)) = absurd (not-refused _ _ (p .printed))
-    asked-yes (inr (n, m, sound, printed)) = reach-yes sound (questionMeaning 0 true n m question) refl printed
+    -- of a text of one leg: one without a line `then`
+    pub asked-yes : cutLines (split newline question) ≡ whole → AsksBook book question ranks out r left new → told ≡ Yes
+    asked-yes alone (inl (why, f, p)) = absurd (not-refused _ _ (p .printed))
+    asked-yes alone (inr (n, m, sound, printed)) =
+        reach-yes sound (questionMeaning 0 true n m question) refl (ask-told sound question ranks out r left new (inr (n, m, sound, printed)) alone)

@@ -29,7 +29,8 @@ enum {
     ASK = 8,
     REPLAY = 9, // its words are the first room: GUARD is a multiple of 8, so their address is right for words
     FIND_PLAIN = 10,
-    BOOK_SALVAGE = 11
+    BOOK_SALVAGE = 11,
+    FIND_TWO = 12
 };
 
 static void fill(void *bytes, u64 size) {
@@ -56,6 +57,9 @@ static u64 call(u64 function, const u64 *number, u8 *const *room, const u64 *len
     case BOOK_SALVAGE: return pj_book_salvage(room[0], lent[0], room[1], lent[1]);
     case FIND: return pj_find(room[0], lent[0], (u8)number[0], (u8)number[1], (u8)number[2], (u8)number[3], room[1],
                               lent[1], room[2], lent[2], room[3], lent[3], room[4], lent[4]);
+    case FIND_TWO: return pj_find_two(room[0], lent[0], (u8)number[0], (u8)number[1], (u8)number[2], (u8)number[3],
+                                      room[1], lent[1], room[2], lent[2], (u8)number[4], room[3], lent[3], room[4],
+                                      lent[4], room[5], lent[5], room[6], lent[6], room[7], lent[7]);
     case FIND_PLAIN: return pj_find_plain(room[0], lent[0], (u8)number[0], (u8)number[1], (u8)number[2], (u8)number[3],
                                           room[1], lent[1], room[2], lent[2]);
     case PLAN_CHECK: return pj_plan_check(room[0], lent[0], (u8)number[0], (u8)number[1], (u8)number[2],

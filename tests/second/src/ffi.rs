@@ -48,6 +48,23 @@ pub fn find(
     route::find(book, masks, make, learn, ranks, plan)
 }
 
+/// A question of two legs, as it is lent: the masks are the first leg's team, known, values and held.
+pub struct TwoLegs {
+    pub book: Room,
+    pub masks: [u8; 4],
+    pub make: Room,
+    pub learn: Room,
+    pub team2: u8,
+    pub make2: Room,
+    pub learn2: Room,
+}
+
+/// Answers a question of two legs and leaves the ranks of the legs in `ranks` and `ranks2`, and the first leg's plan in
+/// `plan`. The result is packed as that of `find`.
+pub fn find_two(legs: &mut TwoLegs, ranks: &mut Room, ranks2: &mut Room, plan: &mut Room) -> u64 {
+    route::find_two(legs, ranks, ranks2, plan)
+}
+
 /// Answers a question without a rank table, and writes nothing. "Reach" is the height and one; "cannot" is 0.
 pub fn find_plain(book: &mut Room, masks: [u8; 4], make: &mut Room, learn: &mut Room) -> u64 {
     route::find_plain(book, masks, make, learn)

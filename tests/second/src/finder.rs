@@ -57,7 +57,7 @@ impl Solution {
 }
 
 /// At every state the smallest act byte whose outcomes all have a rank lower than the state's; a stop at rank 0.
-fn write(asked: &Asked, ranks: &[u8], knowledge: &Knowledge, plan: &mut Vec<u8>) {
+pub fn write(asked: &Asked, ranks: &[u8], knowledge: &Knowledge, plan: &mut Vec<u8>) {
     let rank = ranks[knowledge.number()];
     if rank == 0 {
         plan.push(0);
@@ -74,12 +74,17 @@ fn write(asked: &Asked, ranks: &[u8], knowledge: &Knowledge, plan: &mut Vec<u8>)
 
 /// The ranks of all knowledge numbers.
 pub fn ranks(asked: &Asked) -> Vec<u8> {
+    ranks_where(asked, |state| asked.settled(state))
+}
+
+/// The same for a goal that is settled where this says: the question's team, rights and held settings alone count.
+pub fn ranks_where(asked: &Asked, settled: impl Fn(&Knowledge) -> bool) -> Vec<u8> {
     let n = asked.n;
     let mut ranks = vec![NEVER; 7usize.pow(n as u32)];
     let mut classes: Vec<usize> = (0..4usize.pow(n as u32)).collect();
     classes.sort_by_key(|&class| kinds(n, class).iter().filter(|&&kind| kind == 0).count());
     for class in classes {
-        work(asked, &kinds(n, class), &mut ranks);
+        work(asked, &settled, &kinds(n, class), &mut ranks);
     }
     ranks
 }
@@ -90,7 +95,7 @@ fn kinds(n: usize, class: usize) -> Vec<usize> {
 }
 
 /// Works one class: its states, by the present values of its known settings.
-fn work(asked: &Asked, kinds: &[usize], ranks: &mut [u8]) {
+fn work(asked: &Asked, settled: impl Fn(&Knowledge) -> bool, kinds: &[usize], ranks: &mut [u8]) {
     let mut states = vec![vec![]];
     for &kind in kinds {
         let digits: &[usize] = [&[0][..], &[1, 2], &[3, 4], &[5, 6]][kind];
@@ -99,7 +104,7 @@ fn work(asked: &Asked, kinds: &[usize], ranks: &mut [u8]) {
     }
     let mut open = Vec::new();
     for state in states.iter().map(|digits| Knowledge::of_digits(digits)) {
-        if asked.settled(&state) {
+        if settled(&state) {
             ranks[state.number()] = 0;
         } else {
             open.push((state.number(), choices(asked, &state)));

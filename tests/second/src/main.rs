@@ -19,6 +19,7 @@ mod formula;
 mod formulas;
 mod grow;
 mod knowledge;
+mod legs;
 mod lines;
 mod not_permitted;
 mod plan;
@@ -45,6 +46,7 @@ mod spoilt;
 mod tables;
 mod text;
 mod texts;
+mod two_legs;
 mod unchanged;
 
 use std::process::ExitCode;
@@ -74,6 +76,7 @@ const AREAS: &[Area] = &[
     Area { name: "writing books", functions: &["pj_book_write"], test: books::writing },
     Area { name: "salvaging books", functions: &["pj_book_salvage"], test: salvaging::test },
     Area { name: "finding", functions: &["pj_find", "pj_find_plain"], test: finding::test },
+    Area { name: "two legs", functions: &["pj_find_two"], test: two_legs::test },
     Area { name: "checking plans", functions: &["pj_plan_check"], test: checking::test },
     Area { name: "secrets", functions: &["pj_find"], test: secrets::test },
     Area { name: "sheets", functions: &["pj_sheet"], test: sheets::test },

@@ -127,12 +127,18 @@ pub fn any_question(rng: &mut Rng, n: usize) -> Question {
 }
 
 pub fn any_question_of(rng: &mut Rng, n: usize, m: usize, rights: &[u8]) -> Question {
+    let (make, learn) = any_make_and_learn(rng, n);
+    let (known, values) = any_start(rng, n);
+    let (team, held) = (any_team(rng, m), any_held(rng, n));
+    Question { book: written(n, m, rights), team, known, values, held, make, learn }
+}
+
+/// A goal's tables: often something to learn, and then often nothing to make.
+pub fn any_make_and_learn(rng: &mut Rng, n: usize) -> (Vec<u8>, Vec<u8>) {
     let learn = any_learn(rng, n);
     let nothing_to_make = !learn.is_empty() && rng.chance(50);
     let make = if nothing_to_make { table(n, u128::MAX) } else { any_goal(rng, n) };
-    let (known, values) = any_start(rng, n);
-    let (team, held) = (any_team(rng, m), any_held(rng, n));
-    Question { book: written(n, m, rights), team, known, values, held, make: make.to_vec(), learn }
+    (make.to_vec(), learn)
 }
 
 /// Most rules are closed or ask for the values of many settings.

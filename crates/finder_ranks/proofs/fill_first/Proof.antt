@@ -1,4 +1,5 @@
--- `finder_ranks::fill_first` meets its contract: where there is a table to fill and one of the second leg, it is marked, held against that and spread.
+-- `finder_ranks::fill_first` meets its contract: where there is a table to fill and one of the second leg, it is marked,
+-- loses the marks where that has no rank, and is spread.
 use borrow.Author.Needs.{needs}
 use native.Mathlib.Omega.{arith}
 use Rattle.ground.proofs.Answers.{told, untold}
@@ -13,7 +14,7 @@ use Rattle.finder_ranks.proofs.fill_first.Tie as tie
 abbrev Second : tie.After-has-room → Type 0
 Second c =
     let start : tie.Start = search in
-    RanksFit (start .args .n) (start .args .second .now)
+    RanksFit (start .args .n) (start .args .ranks2 .now)
 
 abbrev Room : tie.After-has-room2 → Type 0
 Room c =
@@ -32,11 +33,11 @@ start-of-after-unmark c = search
 
 marked : (c : tie.After-unmark)
     → let s = start-of-after-unmark c .args in
-    Marks (s .n) (goalThen (s .n) (s .made .now) (s .learnt .now) (s .second .now)) (s .ranks .now) (c .unmark .last .1 .1 .0)
+    Marks (s .n) (goalThen (s .n) (s .made .now) (s .learnt .now) (s .ranks2 .now)) (s .ranks .now) (c .unmark .last .1 .1 .0)
 marked c =
     let start : tie.Start = search in
     let mark : tie.After-mark = search in
-    marks-then (start .args .made .now) (start .args .learnt .now) (start .args .second .now) (mark .mark .ensures) (c .unmark .ensures)
+    marks-then (start .args .made .now) (start .args .learnt .now) (start .args .ranks2 .now) (mark .mark .ensures) (c .unmark .ensures)
 
 has-room-requires : tie.Need-has-room-requires
 has-room-requires c κs = search needs

@@ -5,6 +5,7 @@ use std::io::{Read, Write};
 use std::process::{Child, ChildStdin, ChildStdout, Command, Stdio};
 use std::sync::{Mutex, OnceLock};
 
+use crate::ffi::TwoLegs;
 use crate::room::{Room, Words};
 
 const FORMULA_READ: u64 = 1;
@@ -18,6 +19,7 @@ const ASK: u64 = 8;
 const REPLAY: u64 = 9;
 const FIND_PLAIN: u64 = 10;
 const BOOK_SALVAGE: u64 = 11;
+const FIND_TWO: u64 = 12;
 
 pub fn formula_read(n: u64, text: &mut Room, table: &mut Room) -> u64 {
     call(FORMULA_READ, &[n], &mut [text, table])
@@ -44,6 +46,12 @@ pub fn find(
     plan: &mut Room,
 ) -> u64 {
     call(FIND, &masks.map(u64::from), &mut [book, make, learn, ranks, plan])
+}
+
+pub fn find_two(legs: &mut TwoLegs, ranks: &mut Room, ranks2: &mut Room, plan: &mut Room) -> u64 {
+    let TwoLegs { book, masks: [team, known, values, held], make, learn, team2, make2, learn2 } = legs;
+    let numbers = [*team, *known, *values, *held, *team2].map(u64::from);
+    call(FIND_TWO, &numbers, &mut [book, make, learn, make2, learn2, ranks, ranks2, plan])
 }
 
 pub fn find_plain(book: &mut Room, masks: [u8; 4], make: &mut Room, learn: &mut Room) -> u64 {

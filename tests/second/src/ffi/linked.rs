@@ -1,6 +1,7 @@
 //! The route on x86-64: the archive is linked into this program. Nothing checks these declarations against the
 //! library's source, so they are few and of numbers and bytes alone.
 
+use crate::ffi::TwoLegs;
 use crate::room::{Room, Words, GUARD, GUARD_WORDS};
 
 extern "C" {
@@ -21,6 +22,29 @@ extern "C" {
         learn_len: u64,
         ranks: *mut u8,
         ranks_len: u64,
+        plan: *mut u8,
+        plan_len: u64,
+    ) -> u64;
+    fn pj_find_two(
+        book: *const u8,
+        book_len: u64,
+        team: u8,
+        known: u8,
+        values: u8,
+        held: u8,
+        make: *const u8,
+        make_len: u64,
+        learn: *const u8,
+        learn_len: u64,
+        team2: u8,
+        make2: *const u8,
+        make2_len: u64,
+        learn2: *const u8,
+        learn2_len: u64,
+        ranks: *mut u8,
+        ranks_len: u64,
+        ranks2: *mut u8,
+        ranks2_len: u64,
         plan: *mut u8,
         plan_len: u64,
     ) -> u64;
@@ -119,6 +143,35 @@ pub fn find(
             size(learn),
             start(ranks),
             size(ranks),
+            start(plan),
+            size(plan),
+        )
+    }
+}
+
+pub fn find_two(legs: &mut TwoLegs, ranks: &mut Room, ranks2: &mut Room, plan: &mut Room) -> u64 {
+    let TwoLegs { book, masks: [team, known, values, held], make, learn, team2, make2, learn2 } = legs;
+    unsafe {
+        pj_find_two(
+            start(book),
+            size(book),
+            *team,
+            *known,
+            *values,
+            *held,
+            start(make),
+            size(make),
+            start(learn),
+            size(learn),
+            *team2,
+            start(make2),
+            size(make2),
+            start(learn2),
+            size(learn2),
+            start(ranks),
+            size(ranks),
+            start(ranks2),
+            size(ranks2),
             start(plan),
             size(plan),
         )

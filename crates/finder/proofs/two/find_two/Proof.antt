@@ -35,12 +35,12 @@ asked-of c = search
 -- both legs are valid over so many settings and posts
 valid : (c : tie.After-settings)
     → let s = started (asked-of c) in
-    ValidLegs (s .args .book .now) (s .args .question) (wantedFirst s) (s .args .second) (wantedSecond s)
+    ValidLegs (s .args .book .now) (s .args .question) (wantedFirst s) (s .args .team2) (wantedSecond s)
     (c .settings .given .0 .0) (c .settings .given .0 .1 .0)
 valid c =
     let asked : tie.After-ask-two = search in
     let s = started asked in
-    as-legs (s .args .book .now) (s .args .question) (wantedFirst s) (s .args .second) (wantedSecond s) (c .settings .given .1) (asked .ask-two .ensures)
+    as-legs (s .args .book .now) (s .args .question) (wantedFirst s) (s .args .team2) (wantedSecond s) (c .settings .given .1) (asked .ask-two .ensures)
 
 abbrev settings-of : tie.After-numbers → tie.After-settings
 settings-of c = search
@@ -73,7 +73,7 @@ returns c =
       why = RankRoom 1;
       answered = refl;
       first =
-          short-first (s .args .book .now) (s .args .question) (wantedFirst s) (s .args .second) (wantedSecond s) (lent s) (valid judged)
+          short-first (s .args .book .now) (s .args .question) (wantedFirst s) (s .args .team2) (wantedSecond s) (lent s) (valid judged)
           (omega (arith, size-is counted, c .if1 .taken));
       kept = refl;
     }
@@ -89,7 +89,7 @@ returns-2 c =
       why = RankRoom 2;
       answered = refl;
       first =
-          short-second (s .args .book .now) (s .args .question) (wantedFirst s) (s .args .second) (wantedSecond s) (lent s) (valid judged)
+          short-second (s .args .book .now) (s .args .question) (wantedFirst s) (s .args .team2) (wantedSecond s) (lent s) (valid judged)
           (omega (arith, size-is counted, passed .if1 .left)) (omega (arith, size-is counted, c .if2 .taken));
       kept = refl;
     }
@@ -113,8 +113,8 @@ returns-3 c =
       why = refused .why .given .0 .0;
       answered = refl;
       first =
-          leg-row (s .args .book .now) (s .args .question) (wantedFirst s) (s .args .second) (wantedSecond s) (lent s)
-          (as-no-legs (s .args .book .now) (s .args .question) (wantedFirst s) (s .args .second) (wantedSecond s) (refused .why .given .1) (asked .ask-two .ensures));
+          leg-row (s .args .book .now) (s .args .question) (wantedFirst s) (s .args .team2) (wantedSecond s) (lent s)
+          (as-no-legs (s .args .book .now) (s .args .question) (wantedFirst s) (s .args .team2) (wantedSecond s) (refused .why .given .1) (asked .ask-two .ensures));
       kept = refl;
     }
 

@@ -29,14 +29,14 @@ abbrev wantedSecond : tie.Start → Goal
 wantedSecond s = goalOf (s .args .make2 .now) (s .args .learn2 .now)
 
 abbrev secondHere : tie.Start → System
-secondHere s = secondSystem (s .args .n) (s .args .book .now) (s .args .question) (s .args .second) (wantedSecond s)
+secondHere s = secondSystem (s .args .n) (s .args .book .now) (s .args .question) (s .args .team2) (wantedSecond s)
 
 abbrev firstHere : tie.Start → System
 firstHere s = firstLeg (s .args .n) (ruledSystem (s .args .n) (s .args .book .now) (s .args .question) (wantedFirst s)) (secondHere s)
 
 -- what holds of it without the sets that change nothing holds of the first leg's system
 asked : (s : tie.Start) (P : System → Type 0) → P (without (firstHere s))
-    → P (firstSystem (s .args .n) (s .args .book .now) (s .args .question) (wantedFirst s) (s .args .second) (wantedSecond s))
+    → P (firstSystem (s .args .n) (s .args .book .now) (s .args .question) (wantedFirst s) (s .args .team2) (wantedSecond s))
 unfolding firstLeg
 asked s P h =
     from-ruled (s .args .n) (s .args .book .now) (s .args .question) (wantedFirst s) (λ (S : System). P (firstLeg (s .args .n) S (secondHere s))) h
@@ -78,7 +78,7 @@ told c =
     let halves = learntOf c in
     let leg = second c .fill-leg .ensures in
     first-tells (v .first) (setsOf c .posts-allowed .ensures) (looksOf c .posts-allowed2 .ensures) (halves .before .made .ensures) (halves .learnt .ensures)
-    (second-lawful (s .args .book .now) (s .args .question) (wantedFirst s) (s .args .second) (wantedSecond s) v) (leg .ranks)
+    (second-lawful (s .args .book .now) (s .args .question) (wantedFirst s) (s .args .team2) (wantedSecond s) v) (leg .ranks)
     (c .fill-first .ensures) (omega (arith, s .pre .1 .second-room, leg .size)) (s .pre .1 .first-room)
 
 filled : (c : tie.After-fill-first)
@@ -89,7 +89,7 @@ filled c =
     let halves = learntOf c in
     let leg = second c .fill-leg .ensures in
     first-filled (v .first) (setsOf c .posts-allowed .ensures) (looksOf c .posts-allowed2 .ensures) (halves .before .made .ensures) (halves .learnt .ensures)
-    (second-lawful (s .args .book .now) (s .args .question) (wantedFirst s) (s .args .second) (wantedSecond s) v) (leg .ranks)
+    (second-lawful (s .args .book .now) (s .args .question) (wantedFirst s) (s .args .team2) (wantedSecond s) v) (leg .ranks)
     (c .fill-first .ensures) (omega (arith, s .pre .1 .second-room, leg .size)) (s .pre .1 .first-room)
 
 abbrev after-fill-first-of-after-number : tie.After-number → tie.After-fill-first
@@ -105,7 +105,7 @@ fill-leg-requires : tie.Need-fill-leg-requires
 fill-leg-requires c κs =
     let s : tie.Start = search in
     let v = s .pre .0 .1 in (
-      (s .pre .0 .0, second-valid (s .args .book .now) (s .args .question) (wantedFirst s) (s .args .second) (wantedSecond s) v),
+      (s .pre .0 .0, second-valid (s .args .book .now) (s .args .question) (wantedFirst s) (s .args .team2) (wantedSecond s) v),
       s .pre .1 .second-room,
     )
 

@@ -12,7 +12,7 @@ returns-2 : tie.Need-returns-2
 unfolding markThen
 returns-2 c =
     let start : tie.Start = search in
-    rw (ne-eqb (start .args .second) 255 (c .if1 .left))
+    rw (ne-eqb (start .args .rank2) 255 (c .if1 .left))
 
 pub mark-then-spec : {M : Type 1} → statement M
 mark-then-spec = tie.close (tie.spec returns returns-2)

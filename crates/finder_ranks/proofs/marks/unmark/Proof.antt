@@ -1,4 +1,4 @@
--- `finder_ranks::marks::unmark` meets its contract. The loop has held the marks below k against the second leg's ranks.
+-- `finder_ranks::marks::unmark` meets its contract. The loop has taken away the marks below k where the second leg has no rank.
 use borrow.Author.Needs.{needs}
 use mathlib.Core.Path.{_≡_, refl, ap, _∙_, subst}
 use Prim.Native.Nat.{ℕ, _^_, _≤_, _-_}
@@ -11,10 +11,10 @@ use Rattle.finder_ranks.proofs.marks.unmark.Statement.{statement}
 use Rattle.finder_ranks.proofs.marks.unmark.Tie as tie
 
 abbrev Inv-loop : tie.InvT-loop
-Inv-loop n second ranks₀ count k₀ ranks k = (k ≤ count) × Stored (λ j. markThen (getD second j 0) (getD ranks₀ j 0)) 0 k ranks₀ ranks
+Inv-loop n ranks2 ranks₀ count k₀ ranks k = (k ≤ count) × Stored (λ j. markThen (getD ranks2 j 0) (getD ranks₀ j 0)) 0 k ranks₀ ranks
 
 abbrev μ-loop : tie.MeasureT-loop
-μ-loop n second ranks₀ count k₀ ranks k = count - k
+μ-loop n ranks2 ranks₀ count k₀ ranks k = count - k
 
 abbrev start-of-after-numbers : tie.After-numbers Inv-loop μ-loop → tie.Start Inv-loop μ-loop
 start-of-after-numbers c = search
@@ -70,7 +70,7 @@ loop-again c =
     let loop = body .before .loop in
     let below = body .loop-test .taken in (
       omega (arith, below),
-      unmarked-more (s .args .second .now) (s .args .ranks .now) (loop .inv .1) (omega (arith, below, count-is counted, s .pre .2, loop .inv .1 .long)) refl (marked .mark-then .ensures),
+      unmarked-more (s .args .ranks2 .now) (s .args .ranks .now) (loop .inv .1) (omega (arith, below, count-is counted, s .pre .2, loop .inv .1 .long)) refl (marked .mark-then .ensures),
     )
 
 same-length : tie.Need-same-length Inv-loop μ-loop
@@ -81,7 +81,7 @@ returns c =
     let counted : tie.After-numbers Inv-loop μ-loop = search in
     let s : tie.Start Inv-loop μ-loop = search in
     let done : c .before .loop .k ≡ 7 ^ s .args .n = omega (arith, c .loop-test .left, c .before .loop .inv .0, count-is counted) in
-    subst (λ (j : ℕ). Stored (λ i. markThen (getD (s .args .second .now) i 0) (getD (s .args .ranks .now) i 0)) 0 j (s .args .ranks .now) (c .before .loop .ranks)) done
+    subst (λ (j : ℕ). Stored (λ i. markThen (getD (s .args .ranks2 .now) i 0) (getD (s .args .ranks .now) i 0)) 0 j (s .args .ranks .now) (c .before .loop .ranks)) done
     (c .before .loop .inv .1)
 
 pub unmark-spec : {M : Type 1} → statement M

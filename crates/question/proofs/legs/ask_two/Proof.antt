@@ -39,7 +39,7 @@ settings-of-team c = search
 abbrev Team : tie.After-team-fits → Type 0
 Team c =
     let s : tie.Start = search in
-    TeamFits (settings-of-team c .settings .given .0 .1 .0) (s .args .second)
+    TeamFits (settings-of-team c .settings .given .0 .1 .0) (s .args .team2)
 
 team : (c : tie.Else1) → Team (c .before)
 team c = told (Team (c .before)) (c .before .team-fits .result) (c .before .team-fits .ensures) (c .if1 .left)
@@ -70,7 +70,7 @@ returns : tie.Need-returns
 returns c =
     let s : tie.Start = search in
     let judged : tie.After-settings = search in
-    second-team-row (s .args .book .now) (s .args .question) (wantedFirst s) (s .args .second) (wantedSecond s) (valid judged)
+    second-team-row (s .args .book .now) (s .args .question) (wantedFirst s) (s .args .team2) (wantedSecond s) (valid judged)
     (untold (Team (c .before)) (c .before .team-fits .result) (c .before .team-fits .ensures) (c .if1 .taken))
 
 goal-fits-requires : tie.Need-goal-fits-requires
@@ -81,7 +81,7 @@ returns-2 c =
     let s : tie.Start = search in
     let judged : tie.After-settings = search in
     let passed : tie.Else1 = search in
-    second-goal-row (s .args .book .now) (s .args .question) (wantedFirst s) (s .args .second) (wantedSecond s) (valid judged) (team passed)
+    second-goal-row (s .args .book .now) (s .args .question) (wantedFirst s) (s .args .team2) (wantedSecond s) (valid judged) (team passed)
     (untold (Fits (c .before)) (c .before .goal-fits .result) (c .before .goal-fits .ensures) (c .if2 .taken))
 
 returns-3 : tie.Need-returns-3
@@ -89,7 +89,7 @@ returns-3 c =
     let s : tie.Start = search in
     let asked : tie.After-ask = search in
     let refused : tie.After-why = search in
-    first-row (s .args .book .now) (s .args .question) (wantedFirst s) (s .args .second) (wantedSecond s)
+    first-row (s .args .book .now) (s .args .question) (wantedFirst s) (s .args .team2) (wantedSecond s)
     (as-not (s .args .book .now) (s .args .question) (wantedFirst s) (refused .why .given .1) (asked .ask .ensures))
 
 returns-4 : tie.Need-returns-4
