@@ -1,4 +1,4 @@
-// The C interface of Parjolenc, version 3.1, for x86-64 Linux: what a host has to know stands in this file.
+// The C interface of Parjolenc, version 4.0, for x86-64 Linux: what a host has to know stands in this file.
 //
 // `rt staticlib exports` writes the library. A program is compiled with it by the ordinary line, in C99 or C++11:
 //
@@ -41,10 +41,10 @@ extern "C" {
 
 // The version of this interface, and not of what is behind it. The first number grows where a program that was
 // written for the header before it would not compile or would mean something else, the second where something is added.
-#define PJ_VERSION_FIRST 3
-#define PJ_VERSION_SECOND 1
+#define PJ_VERSION_FIRST 4
+#define PJ_VERSION_SECOND 0
 #define PJ_VERSION (100 * PJ_VERSION_FIRST + PJ_VERSION_SECOND)
-#define PJ_VERSION_TEXT "3.1"
+#define PJ_VERSION_TEXT "4.0"
 
 typedef unsigned char pj_u8;
 typedef unsigned long long pj_u64;

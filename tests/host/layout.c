@@ -8,7 +8,7 @@ static pj_u8 ranks2[PJ_RANKS_ROOM(3)], make2[PJ_TABLE];
 static int version_agrees(void) {
     const char *text = PJ_VERSION_TEXT;
     return text[0] == '0' + PJ_VERSION_FIRST && text[1] == '.' && text[2] == '0' + PJ_VERSION_SECOND && text[3] == 0 &&
-           PJ_VERSION == 301;
+           PJ_VERSION == 400;
 }
 
 // Each of the 112 rules of the widest book has bytes of its own among the rights, and the same at its place in the book.
@@ -205,7 +205,7 @@ static int starts_of_two(void) {
 }
 
 int main(void) {
-    test("the version's text and number are one, 3.1", version_agrees());
+    test("the version's text and number are one, 4.0", version_agrees());
     test("a rule's 16 bytes stand at PJ_RIGHT among the rights and at PJ_RULE in the book", rules_stand_there());
     test("and are the rule of that setting and post, to look or to set", rules_are_those());
     test("pj_settings and pj_posts, for each n and m", numbers_of_books());

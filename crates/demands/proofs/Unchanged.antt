@@ -1,7 +1,7 @@
 -- "Where the team knows the present value, setting that same value is no longer an act. Show that no finder's answer, rank or written plan changes."
 -- The demands speak of the question's system, `systemOf`, which has no such acts; `ruledSystem` is the same with them, as it was before. What is
 -- promised by one is promised by the other, for both finders; a plan for the one becomes a plan for the other by leaving such sets out; and 32 exactly.
-use mathlib.Core.Path.{_≡_, refl, subst}
+use mathlib.Core.Path.{_≡_, refl}
 use mathlib.Core.Logic.{_↔_}
 use mathlib.Core.List.{List}
 use Prim.Native.Nat.{ℕ, _≤_}

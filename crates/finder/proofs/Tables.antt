@@ -1,5 +1,5 @@
--- The finder's tables tell the system of the question's rules: a bit of the two tables is a post that may act, the two halves of the goal tell where it is settled,
--- and what `fill_ranks` or `fill_first` leaves is a certified table, so its bytes are the ranks.
+-- The finder's tables tell the system of the question's rules: a bit of the two tables is a post that may act, the two halves of the goal tell where it
+-- is settled, and what `fill_ranks` or `fill_first` leaves is a certified table, so its bytes are the ranks.
 use mathlib.Core.Path.{_≡_, sym, ap, ap₂, _∙_, subst}
 use mathlib.Core.Logic.{inl, inr}
 use mathlib.Core.List.{List}

@@ -42,8 +42,8 @@ fn holds(state: Knowledge, n: u8, book: &[u8], setting: u8, post: u8, right: Rig
     }
 }
 
-// Whether the act is permitted, by the held settings and the book's rules: a set that changes nothing too, which
-// `foresee` leaves out before this is asked.
+// Whether the act is permitted, by the held settings and the book's rules: a set that changes nothing too,
+// which `foresee` leaves out before this is asked.
 fn is_permitted(state: Knowledge, n: u8, book: &[u8], held: u8, act: Act) -> bool
     requires { ⌜ n ≤ 7 ⌝ }
     ensures { λ r. ⌜ r ≡ given (ruled n (now (book .entry)) held (digitIn (state .digits)) act) ⌝ }

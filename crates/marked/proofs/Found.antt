@@ -19,7 +19,8 @@ use Rattle.knowledge.specs.Number.{sumOf, firstAt}
 use Rattle.knowledge.specs.Fits.{agrees, fits, always}
 use Rattle.knowledge.specs.Judgement.{judgement, known, learnSettled}
 use Rattle.knowledge.specs.Goal.{learnTable, allSettled, goalSettled}
-use Rattle.question.specs.Permitted.{permitted}
+use Rattle.plan.specs.Without.{changesNothing}
+use Rattle.question.specs.Permitted.{ruled, permitted}
 use Rattle.question.specs.Question.{systemOf, startOf}
 use Rattle.plan.specs.Plans.{System, Plan}
 use Rattle.plan.specs.Ranks.{Reach, Cannot, IsRank, Written}
@@ -46,7 +47,7 @@ start-in s = startOf (question-in s)
 
 -- what the search finds (who names it on an `unfolding` line unfolds all of a question, so that its tests compute)
 unfoldable pub search-in : Sheet → Certificate
-unfolding sought asks-so startOf sumOf firstAt firstDigit elem systemOf goalSettled allSettled learnTable offered permitted known learnSettled judgement always
+unfolding sought asks-so startOf sumOf firstAt firstDigit elem systemOf goalSettled allSettled learnTable offered permitted ruled changesNothing known learnSettled judgement always
     fits agrees startTold nowTold afterSet afterLook setTo lookAt digit put bit truth all rule rulePlace tablePlace byteOf bookOf headBlock
     settingBlocks settingBlock sealed checkBytes bytes16 inOrder tablesOf
 search-in s = sought (s .size .settings) (system-in s) (start-in s)

@@ -4,15 +4,14 @@
 use mathlib.Core.Path.{_≡_, refl, ap, ap₂, subst}
 use mathlib.Core.Logic.{inl, inr, _↔_}
 use mathlib.Core.Bool.{Bool, true, false, not}
-use mathlib.Core.List.{List, _∷_, _++_}
 use Prim.Native.Nat.{ℕ, suc, _≤_}
 use native.Mathlib.Omega.{arith}
 use lib.Dec.{T}
 use lib.ListN.{length, length-append}
 use Rattle.ground.specs.Digits.{digit}
 use Rattle.ground.proofs.Bools.{T→true, T→false, decide}
-use Rattle.knowledge_acts.specs.Acts.{byteOf, setTo, lookAt}
-use Rattle.knowledge_acts.specs.declared.act.Act.the-variants.{Set, Look}
+use Rattle.knowledge_acts.specs.Acts.{setTo, lookAt}
+use Rattle.knowledge_acts.specs.declared.act.Act.the-variants.{Set}
 use Rattle.plan.specs.Plans.{System, Plan, stop, set-then, look-then, Permitted, Works, height}
 use Rattle.plan.specs.Bytes.{encode}
 use Rattle.plan.specs.Without.{changesNothing, without, NoneIdle, setUnless, leavingOut}
