@@ -14,13 +14,16 @@ use Rattle.plan.specs.Plans.{System, Plan, Permitted, Works, height}
 use Rattle.plan.specs.Ranks.{IsRank, Written}
 use Rattle.plan.specs.Bytes.{encode}
 use Rattle.plan.specs.Secret.{Twins}
-use Rattle.plan.specs.Without.{NoneIdle, leavingOut}
+use Rattle.plan.specs.Legs.{firstLeg}
+use Rattle.plan.specs.Without.{without, NoneIdle, leavingOut}
 use Rattle.plan.proofs.LeavingOut.{leaving-works, leaving-height, leaving-length, leaving-none, idle-permitted, idle-works}
-use Rattle.plan.proofs.Without.{least-same, cannot-same, rank-same, written-same}
+use Rattle.plan.proofs.Without.{least-same, cannot-same, rank-same, written-same, legs-rank-same, legs-written-same}
 use Rattle.question.specs.Question.{systemOf, ruledSystem, startOf, NoMaking}
 use Rattle.question.specs.Asks.{ValidQuestion}
 use Rattle.question.specs.declared.Question.{Question}
-use Rattle.question.proofs.SystemLaws.{from-ruled}
+use Rattle.question.specs.Legs.{secondQuestion, secondSystem, firstSystem, ValidLegs}
+use Rattle.question.proofs.SystemLaws.{from-ruled, ruled-lawful}
+use Rattle.question.proofs.LegLaws.{second-valid}
 use Rattle.question.proofs.SecretLaws.{none-secret-ruled}
 use Rattle.finder.specs.Answers.{AnswersFrom}
 use Rattle.finder.specs.Finds.{RanksFilled, Finds}
@@ -68,6 +71,24 @@ module _ (n : ℕ) (book : List ℕ) (q : Question) (goal : Goal) where
   plain-unchanged k (PlainReach h) = from-ruled n book q goal (λ (S : System). AnswersPlainly Ruled k (PlainReach h) ↔ AnswersPlainly S k (PlainReach h)) (least-same Ruled k h)
   plain-unchanged k PlainCannot = from-ruled n book q goal (λ (S : System). AnswersPlainly Ruled k PlainCannot ↔ AnswersPlainly S k PlainCannot) (cannot-same Ruled k)
   plain-unchanged k (PlainRefused r) = (λ a. a, λ a. a)
+
+  -- of two legs: the first leg's ranks and its plan, where both teams may do such sets and where neither may
+  module _ (team2 : ℕ) (goal2 : Goal) where
+    abbrev RuledTwo : System
+    RuledTwo = firstLeg n Ruled (ruledSystem n book (secondQuestion q team2) goal2)
+
+    pub two-rank-unchanged : {m : ℕ} → ValidLegs book q goal team2 goal2 n m → (k r : ℕ) → IsRank RuledTwo k r ↔ IsRank (firstSystem n book q goal team2 goal2) k r
+    two-rank-unchanged v k r =
+        from-ruled n book q goal (λ (S : System). IsRank RuledTwo k r ↔ IsRank (firstLeg n S (secondSystem n book q team2 goal2)) k r)
+        (from-ruled n book (secondQuestion q team2) goal2 (λ (R : System). IsRank RuledTwo k r ↔ IsRank (firstLeg n (without Ruled) R) k r)
+        (legs-rank-same Ruled (ruled-lawful (second-valid book q goal team2 goal2 v)) k r))
+
+    pub two-written-unchanged : {m : ℕ} → ValidLegs book q goal team2 goal2 n m → (p : Plan) (k : ℕ)
+        → Written RuledTwo k p ↔ Written (firstSystem n book q goal team2 goal2) k p
+    two-written-unchanged v p k =
+        from-ruled n book q goal (λ (S : System). Written RuledTwo k p ↔ Written (firstLeg n S (secondSystem n book q team2 goal2)) k p)
+        (from-ruled n book (secondQuestion q team2) goal2 (λ (R : System). Written RuledTwo k p ↔ Written (firstLeg n (without Ruled) R) k p)
+        (legs-written-same Ruled (ruled-lawful (second-valid book q goal team2 goal2 v)) p k))
 
   -- ---- "Demands 2 and 3 count plans without such sets"
 

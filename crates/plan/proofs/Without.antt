@@ -1,10 +1,10 @@
 -- Any system, and the same without the sets that change nothing (R-9): both have the same ranks, the same plan written and the same layers, so that
 -- what a finder answers by one it answers by the other. The least plan with such sets left out is no higher, and a set that leads back to its own
 -- state leads to no lower rank, so that no plan written has it.
-use mathlib.Core.Path.{_≡_, subst}
+use mathlib.Core.Path.{_≡_, ap, fun-ext, subst}
 use mathlib.Core.Logic.{inl, inr, _↔_}
-use mathlib.Core.Bool.{true, false, not}
-use Prim.Native.Nat.{ℕ, _<_}
+use mathlib.Core.Bool.{Bool, true, false, not, _&&_}
+use Prim.Native.Nat.{ℕ, suc, _-_, _^_, _<_}
 use native.Mathlib.Omega.{arith}
 use lib.Dec.{T, not-T}
 use Rattle.ground.specs.Digits.{digit}
@@ -16,6 +16,7 @@ use Rattle.knowledge_acts.specs.declared.act.Act.the-variants.{Set, Look}
 use Rattle.plan.specs.Plans.{System, Lawful, after-set, Plan, stop, set-then, look-then}
 use Rattle.plan.specs.Ranks.{Reach, Cannot, IsRank, Lowers, Chosen, Written}
 use Rattle.plan.specs.Layers.{below}
+use Rattle.plan.specs.Legs.{canFrom, withGoal, firstLeg}
 use Rattle.plan.specs.Without.{changesNothing, without, leavingOut}
 use Rattle.plan.proofs.Compare.{works-more, reach-more, cannot-less}
 use Rattle.plan.proofs.Layers.{sound, complete}
@@ -139,3 +140,19 @@ module _ (S : System) where
       complete (without-lawful S law) (leavingOut k p) h k (leaving-works S p k w) (omega (arith, leaving-height p k)))
       (λ t. let (p, w, l) = sound (without-lawful S law) h k t in
       complete law p h k (works-more (permits-fewer S) p k w) l)
+
+-- two legs: whether the second team does such sets or not, and whether the first does, the first leg is the same but for them
+module _ {n : ℕ} (S : System) {R : System} (law : Lawful n R) where
+  pub leg-same : firstLeg n S R ≡ firstLeg n S (without R)
+  unfolding firstLeg canFrom
+  leg-same = ap (λ (goal : ℕ → Bool). withGoal S goal) (fun-ext (λ k. ap (λ (can : Bool). S .goal k && can) (below-same R law (2 ^ suc n - 1) k)))
+
+  pub legs-rank-same : (k r : ℕ) → IsRank (firstLeg n S R) k r ↔ IsRank (firstLeg n (without S) (without R)) k r
+  unfolding firstLeg
+  legs-rank-same k r =
+      subst (λ (T : System). IsRank (firstLeg n S R) k r ↔ IsRank (without T) k r) leg-same (rank-same (firstLeg n S R) k r)
+
+  pub legs-written-same : (p : Plan) (k : ℕ) → Written (firstLeg n S R) k p ↔ Written (firstLeg n (without S) (without R)) k p
+  unfolding firstLeg
+  legs-written-same p k =
+      subst (λ (T : System). Written (firstLeg n S R) k p ↔ Written (without T) k p) leg-same (written-same (firstLeg n S R) p k)
