@@ -196,7 +196,8 @@ enum {
 //   `rights` of pj_book_read, 256 × n, and `book` of pj_book_write and pj_rules, 512 × (1 + n): no less will do
 //   `room` of pj_book_salvage, as many bytes as the book has, 512 × (1 + n): no less will do
 //   `plan` of pj_find and pj_find_two, 2^n × (2^(n+1) - 1): no plan is longer, and room for the plan that is found will do
-//   `ranks` of pj_find, pj_find_two and pj_ask, and `ranks2` of pj_find_two, 7^n each: no less will do
+//   `ranks` of pj_find, pj_find_two and pj_ask, and `ranks2` of pj_find_two, 7^n each: no less will do; for a question text
+//   with a second leg `ranks` of pj_ask takes twice that
 #define PJ_RIGHTS_ROOM(n) (PJ_TABLES * (n))
 #define PJ_BOOK_ROOM(n) (PJ_BLOCK * (1 + (n)))
 #define PJ_PLAN_ROOM(n) ((1 << (n)) * ((2 << (n)) - 1))
@@ -208,7 +209,8 @@ enum {
 // On x86-64, with the library that kit 5b made on 2026-11-16, in the order below: 102,768 bytes (255 brackets: 400 each
 // and 768), 248, 232, 168 (seven damaged blocks), 104,056 (a plan of height 254: 208 for each act and 51,224), 138,984
 // (the same plan: 208 for each act and 86,152), 897,680 (the same plan: 288 for each height and 824,528, of which 823,543
-// are what it remembers), 680, 138,768 and 118,464 (a look rule of 255 brackets), 136,920 (a plan of height 254), and 184.
+// are what it remembers), 680, 138,768 and 118,464 (a look rule of 255 brackets), 1,011,176 (a plan of height 254, and with
+// one leg too there is room for a second leg's 823,543 ranks; two legs 960,536), and 184.
 // memcpy and memset are counted, but the first call of one in a process takes more where the dynamic linker binds it then:
 // 3,152 bytes were seen, for which there is room, since nothing that calls itself calls them.
 enum {
@@ -222,7 +224,7 @@ enum {
     PJ_STACK_PLAN_CHECK = 4096,
     PJ_STACK_SHEET = 139264,
     PJ_STACK_RULES = 118784,
-    PJ_STACK_ASK = 139264,
+    PJ_STACK_ASK = 1011712,
     PJ_STACK_REPLAY = 4096
 };
 

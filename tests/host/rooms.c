@@ -12,7 +12,8 @@ int pthread_join(unsigned long thread, void **result);
 #endif
 
 static pj_u8 rights[PJ_RIGHTS_MOST], book[PJ_BOOK_MOST], ranks[PJ_RANKS_MOST], plan[PJ_PLAN_MOST + 1], make[PJ_TABLE];
-static pj_u8 ranks2[PJ_RANKS_MOST], text[PJ_TEXT_MOST + 1], room[PJ_BOOK_MOST + 1], others[PJ_RANKS_MOST], out[PJ_ASK_MOST], all[PJ_ASK_MOST];
+static pj_u8 ranks2[PJ_RANKS_MOST];
+static pj_u8 text[PJ_TEXT_MOST + 1], room[PJ_BOOK_MOST + 1], others[PJ_RANKS_MOST], out[PJ_ASK_MOST], all[PJ_ASK_MOST];
 
 static pj_u64 find(pj_u64 n, pj_u64 ranks_length, pj_u64 plan_length) {
     return pj_find(book, PJ_BOOK_ROOM(n), 1, 0, 0, 0, make, PJ_TABLE, 0, 0, ranks, ranks_length, plan, plan_length);

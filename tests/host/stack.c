@@ -6,7 +6,7 @@
 
 static pj_u8 stack[1 << 20] __attribute__((aligned(64)));
 static pj_u8 rights[PJ_RIGHTS_MOST], book[PJ_BOOK_MOST], ranks[PJ_RANKS_MOST], plan[PJ_PLAN_MOST], make[PJ_TABLE];
-static pj_u8 ranks2[PJ_RANKS_MOST], text[PJ_FORMULA_MOST], lines[PJ_TEXT_MOST], out[PJ_ASK_MOST];
+static pj_u8 ranks2[PJ_RANKS_MOST], both[2 * PJ_RANKS_MOST], text[PJ_FORMULA_MOST], lines[PJ_TEXT_MOST], out[PJ_ASK_MOST];
 static pj_u64 result, plan_length, lines_length, start, reached[2];
 
 // Calls f on the other stack. The called function keeps rbx, which holds the old stack's end.
@@ -51,7 +51,7 @@ static void sheet_answer(void) { result = pj_sheet(lines, lines_length, out, siz
 static void rules_made(void) { result = pj_rules(lines, lines_length, book, sizeof book); }
 static void replayed(void) { result = pj_replay(book, sizeof book, start, lines, lines_length, reached); }
 static void asked(void) {
-    result = pj_ask(book, sizeof book, lines, lines_length, ranks, sizeof ranks, out, sizeof out);
+    result = pj_ask(book, sizeof book, lines, lines_length, both, sizeof both, out, sizeof out);
 }
 
 static pj_u64 told(const char *name, void (*f)(void)) {
@@ -160,5 +160,8 @@ int main(void) {
     lines_of("team 1\nknown\nmake 1\nask 1\nask ", '(', 255);
     below("pj_ask, a learn formula of 255 brackets", asked, PJ_STACK_ASK);
     test("which is refused", result == 12 && same_text(out, "refused 4 5\n"));
+    lines_of("team 1\nknown\nmake a&b&c&d&e&f&g\nthen\nteam 1\nmake a&b&c&d&e&f&", 'g', 1);
+    below("pj_ask, two legs, the first of height 254", asked, PJ_STACK_ASK);
+    test("which was found", same_text(out, "reach 254\n"));
     return closing();
 }

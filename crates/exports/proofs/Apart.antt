@@ -8,7 +8,7 @@ use native.Mathlib.Nat.{div-eq-of-lt, mod-eq-of-lt}
 use native.Mathlib.Omega.{arith}
 use lib.Arith.{digits-div, digits-mod}
 use Rattle.refusal.specs.declared.Refusal.{Refusal}
-use Rattle.refusal.specs.Refusals.{number, place, team2}
+use Rattle.refusal.specs.Refusals.{number, place, second}
 use Rattle.refusal.specs.Order.{First}
 use Rattle.refusal.proofs.OrderLaws.{first-place-below, places-append}
 use Rattle.book_sound.specs.Rows.{bookRows}
@@ -63,7 +63,7 @@ use Rattle.exports.specs.Check.{PlanChecked}
 pub record Tells-at (result : ℕ) (r : Refusal) (at : ℕ) : Type 0 where
   pub some : 0 < number r
   pub number-is : numberIn result ≡ number r
-  pub second-is : secondIn result ≡ team2 r
+  pub second-is : secondIn result ≡ second r
   pub place-is : lower result ≡ at
 
 -- at its own
@@ -74,13 +74,13 @@ apart-at : {result : ℕ} (r : Refusal) (at : ℕ) → result ≡ packedAt r at 
 unfolding packedAt
 apart-at {result} r at e small =
     let low : at % 2 ^ 32 ≡ at = mod-eq-of-lt small in
-    let is : result ≡ (team2 r * 256 + number r) * 2 ^ 32 + at = omega (arith, e, low) in
-    let up : upper result ≡ team2 r * 256 + number r = ap upper is ∙ digits-div (team2 r * 256 + number r) small in
+    let is : result ≡ (second r * 256 + number r) * 2 ^ 32 + at = omega (arith, e, low) in
+    let up : upper result ≡ second r * 256 + number r = ap upper is ∙ digits-div (second r * 256 + number r) small in
     record {
       some = number-some r;
-      number-is = ap (λ (x : ℕ). x % 256) up ∙ digits-mod (team2 r) (number-small r);
-      second-is = ap (λ (x : ℕ). x / 256 % 256) up ∙ ap (λ (x : ℕ). x % 256) (digits-div (team2 r) (number-small r)) ∙ mod-eq-of-lt (second-small r);
-      place-is = ap lower is ∙ digits-mod (team2 r * 256 + number r) small;
+      number-is = ap (λ (x : ℕ). x % 256) up ∙ digits-mod (second r) (number-small r);
+      second-is = ap (λ (x : ℕ). x / 256 % 256) up ∙ ap (λ (x : ℕ). x % 256) (digits-div (second r) (number-small r)) ∙ mod-eq-of-lt (second-small r);
+      place-is = ap lower is ∙ digits-mod (second r * 256 + number r) small;
     }
 
 apart : {result : ℕ} (r : Refusal) → result ≡ packed r → place r < 2 ^ 32 → Tells-refusal result r
