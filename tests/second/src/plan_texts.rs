@@ -288,7 +288,11 @@ fn every_act(group: &mut Group, files: &Files) {
     let asked = text::question(&book, &question).and_then(|question| question.read());
     let asked = asked.unwrap_or_else(|refusal| panic!("a sound question was {refusal}"));
     let mut seen = [false; 169];
-    for _ in group.times(12) {
+    let least = group.times(12).len();
+    for count in 0..10 * least {
+        if count >= least && seen.iter().all(|&seen| seen) {
+            break;
+        }
         let plan = permitted(&mut group.rng, &asked, &asked.start, 40, 7).bytes();
         plan.iter().for_each(|&byte| seen[usize::from(byte)] = true);
         let text = ["reach 40\n", &plan_lines(&plan)].concat();
