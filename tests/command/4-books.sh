@@ -99,7 +99,7 @@ expect 'a plan with a line too many' 1 'refused 21 8' 'line 10: the plan was who
 expect 'why 18: already known' 1 'refused 18 1 0' "line 3: '1 look a 2': the setting is already known there" check "$night" books/night/both.question books/night/both-again.plan
 expect 'why 18: surely false' 1 'refused 18 4 1' "line 6: '1 set b 2 1': the rule of 'write b 2' is surely false there" check "$night" books/night/both.question books/night/both-barred.plan
 expect 'why 18: not known' 1 'refused 18 0 2' "line 2: '0 set b 2 1': nobody in the team knows there whether the rule of 'write b 2' holds" check "$night" books/night/both.question books/night/both-guess.plan
-expect 'a set that changes nothing' 1 'refused 32 6' "line 8: '3 set b 2 1': the team knows that the setting has this value there, and a plan does not set it again" \
+expect 'a set that changes nothing' 1 'refused 32 6' "line 8: '3 set b 2 1': the team knows that the setting has this value there, so the set changes nothing: leave the line out" \
     check "$night" books/night/both.question books/night/both-needless.plan
 sed '8d' books/night/both-needless.plan >"$room/needed.plan"
 expect 'the same plan with it left out' 0 yes '' check "$night" books/night/both.question "$room/needed.plan"

@@ -7,11 +7,13 @@
 static pj_u8 rights[PJ_RIGHTS_ROOM(3)], book[PJ_BOOK_ROOM(3)], other[PJ_BOOK_ROOM(3)], room[PJ_BOOK_MOST + PJ_BLOCK];
 static pj_u8 ranks[PJ_RANKS_ROOM(3)], plan[PJ_PLAN_MOST + 1], make[PJ_TABLE], out[64], text[PJ_TEXT_MOST + 1];
 static pj_u8 ranks2[PJ_RANKS_ROOM(3)], make2[PJ_TABLE];
-static int seen[32];
+#define REFUSALS 32
+
+static int seen[REFUSALS + 1];
 
 static void refused(const char *name, pj_u64 result, pj_u64 number, pj_u64 place) {
     test(name, pj_number(result) == number && pj_place(result) == place && pj_second(result) == 0);
-    if (number < 32 && pj_number(result) == number) seen[number] = 1;
+    if (number <= REFUSALS && pj_number(result) == number) seen[number] = 1;
 }
 
 // 18 with its second number.
@@ -37,7 +39,7 @@ static void printed(const char *name, const char *sheet, pj_u64 length, pj_u64 n
     fill(out, sizeof out, 0);
     int right = says(pj_sheet((const pj_u8 *)sheet, length, out, sizeof out), number, line);
     test(name, right);
-    if (number < 32 && right) seen[number] = 1;
+    if (number <= REFUSALS && right) seen[number] = 1;
 }
 
 // A text of rules that pj_rules refuses with this line, and leaves the room as it was.
@@ -456,7 +458,7 @@ int main(void) {
     salvages();
 
     int count = 0;
-    for (int i = 1; i < 32; i++) count += seen[i];
-    test("all 31 were given", count == 31);
+    for (int i = 1; i <= REFUSALS; i++) count += seen[i];
+    test("all 32 were given", count == REFUSALS);
     return closing();
 }

@@ -1,7 +1,7 @@
 -- "Where the team knows the present value, setting that same value is no longer an act. Show that no finder's answer, rank or written plan changes."
 -- The demands speak of the question's system, `systemOf`, which has no such acts; `ruledSystem` is the same with them, as it was before. What is
 -- promised by one is promised by the other, for both finders; a plan for the one becomes a plan for the other by leaving such sets out; and 32 exactly.
-use mathlib.Core.Path.{_≡_, refl}
+use mathlib.Core.Path.{_≡_, refl, subst}
 use mathlib.Core.Logic.{_↔_}
 use mathlib.Core.List.{List}
 use Prim.Native.Nat.{ℕ, _≤_}
@@ -16,14 +16,16 @@ use Rattle.plan.specs.Bytes.{encode}
 use Rattle.plan.specs.Secret.{Twins}
 use Rattle.plan.specs.Legs.{firstLeg}
 use Rattle.plan.specs.Without.{without, NoneIdle, leavingOut}
+use Rattle.plan.proofs.Legs.{then-works}
 use Rattle.plan.proofs.LeavingOut.{leaving-works, leaving-height, leaving-length, leaving-none, idle-permitted, idle-works}
-use Rattle.plan.proofs.Without.{least-same, cannot-same, rank-same, written-same, legs-rank-same, legs-written-same}
+use Rattle.plan.proofs.Written.{written-works}
+use Rattle.plan.proofs.Without.{least-same, cannot-same, rank-same, written-same, leg-without}
 use Rattle.question.specs.Question.{systemOf, ruledSystem, startOf, NoMaking}
 use Rattle.question.specs.Asks.{ValidQuestion}
 use Rattle.question.specs.declared.Question.{Question}
-use Rattle.question.specs.Legs.{secondQuestion, secondSystem, firstSystem, ValidLegs}
+use Rattle.question.specs.Legs.{secondQuestion, secondSystem, firstSystem, WorksForTwo, ValidLegs}
 use Rattle.question.proofs.SystemLaws.{from-ruled, ruled-lawful}
-use Rattle.question.proofs.LegLaws.{second-valid}
+use Rattle.question.proofs.LegLaws.{second-valid, second-lawful}
 use Rattle.question.proofs.SecretLaws.{none-secret-ruled}
 use Rattle.finder.specs.Answers.{AnswersFrom}
 use Rattle.finder.specs.Finds.{RanksFilled, Finds}
@@ -72,23 +74,40 @@ module _ (n : ℕ) (book : List ℕ) (q : Question) (goal : Goal) where
   plain-unchanged k PlainCannot = from-ruled n book q goal (λ (S : System). AnswersPlainly Ruled k PlainCannot ↔ AnswersPlainly S k PlainCannot) (cannot-same Ruled k)
   plain-unchanged k (PlainRefused r) = (λ a. a, λ a. a)
 
-  -- of two legs: the first leg's ranks and its plan, where both teams may do such sets and where neither may
-  module _ (team2 : ℕ) (goal2 : Goal) where
+  -- of two legs: the first leg's ranks, its plan and the answer, where both teams may do such sets and where neither may. The second leg is a question of
+  -- its own, so that its ranks are unchanged by `ranks-unchanged`
+  module _ (team2 : ℕ) (goal2 : Goal) {m : ℕ} (v : ValidLegs book q goal team2 goal2 n m) where
     abbrev RuledTwo : System
     RuledTwo = firstLeg n Ruled (ruledSystem n book (secondQuestion q team2) goal2)
 
-    pub two-rank-unchanged : {m : ℕ} → ValidLegs book q goal team2 goal2 n m → (k r : ℕ) → IsRank RuledTwo k r ↔ IsRank (firstSystem n book q goal team2 goal2) k r
-    two-rank-unchanged v k r =
-        from-ruled n book q goal (λ (S : System). IsRank RuledTwo k r ↔ IsRank (firstLeg n S (secondSystem n book q team2 goal2)) k r)
-        (from-ruled n book (secondQuestion q team2) goal2 (λ (R : System). IsRank RuledTwo k r ↔ IsRank (firstLeg n (without Ruled) R) k r)
-        (legs-rank-same Ruled (ruled-lawful (second-valid book q goal team2 goal2 v)) k r))
+    from-two : (P : System → Type 0) → P (without RuledTwo) → P (firstSystem n book q goal team2 goal2)
+    from-two P h =
+        from-ruled n book q goal (λ (S : System). P (firstLeg n S (secondSystem n book q team2 goal2)))
+        (from-ruled n book (secondQuestion q team2) goal2 (λ (R : System). P (firstLeg n (without Ruled) R))
+        (subst P (leg-without Ruled (ruled-lawful (second-valid book q goal team2 goal2 v))) h))
 
-    pub two-written-unchanged : {m : ℕ} → ValidLegs book q goal team2 goal2 n m → (p : Plan) (k : ℕ)
-        → Written RuledTwo k p ↔ Written (firstSystem n book q goal team2 goal2) k p
-    two-written-unchanged v p k =
-        from-ruled n book q goal (λ (S : System). Written RuledTwo k p ↔ Written (firstLeg n S (secondSystem n book q team2 goal2)) k p)
-        (from-ruled n book (secondQuestion q team2) goal2 (λ (R : System). Written RuledTwo k p ↔ Written (firstLeg n (without Ruled) R) k p)
-        (legs-written-same Ruled (ruled-lawful (second-valid book q goal team2 goal2 v)) p k))
+    pub two-rank-unchanged : (k r : ℕ) → IsRank RuledTwo k r ↔ IsRank (firstSystem n book q goal team2 goal2) k r
+    two-rank-unchanged k r = from-two (λ (S : System). IsRank RuledTwo k r ↔ IsRank S k r) (rank-same RuledTwo k r)
+
+    pub two-written-unchanged : (p : Plan) (k : ℕ) → Written RuledTwo k p ↔ Written (firstSystem n book q goal team2 goal2) k p
+    two-written-unchanged p k = from-two (λ (S : System). Written RuledTwo k p ↔ Written S k p) (written-same RuledTwo p k)
+
+    pub two-ranks-unchanged : (ranks r : List ℕ) → RanksFilled n RuledTwo ranks r ↔ RanksFilled n (firstSystem n book q goal team2 goal2) ranks r
+    two-ranks-unchanged ranks r = from-two (λ (S : System). RanksFilled n RuledTwo ranks r ↔ RanksFilled n S ranks r) ranks-without
+
+    pub two-answer-unchanged : (plan : List ℕ) (a : Answer) (x : List ℕ)
+        → AnswersFrom RuledTwo (startOf q) plan a x ↔ AnswersFrom (firstSystem n book q goal team2 goal2) (startOf q) plan a x
+    two-answer-unchanged plan a x =
+        from-two (λ (S : System). AnswersFrom RuledTwo (startOf q) plan a x ↔ AnswersFrom S (startOf q) plan a x) (answers-without RuledTwo (startOf q) plan a x)
+
+    -- and a first leg that worked works with such sets left out, no higher
+    pub two-left-out : (p : Plan) → Works RuledTwo (startOf q) p
+        → WorksForTwo book q goal team2 goal2 n (leavingOut (startOf q) p) × (height (leavingOut (startOf q) p) ≤ height p)
+    two-left-out p w = (
+      then-works (second-lawful book q goal team2 goal2 v) Asked (leavingOut (startOf q) p) (startOf q)
+          (from-two (λ (S : System). Works S (startOf q) (leavingOut (startOf q) p)) (leaving-works RuledTwo p (startOf q) w)),
+      leaving-height p (startOf q),
+    )
 
   -- ---- "Demands 2 and 3 count plans without such sets"
 
@@ -99,6 +118,10 @@ module _ (n : ℕ) (book : List ℕ) (q : Question) (goal : Goal) where
 
     pub permitted-idle : Permitted Asked (startOf q) p ↔ (Permitted Ruled (startOf q) p × NoneIdle (startOf q) p)
     permitted-idle = from-ruled n book q goal (λ (S : System). Permitted S (startOf q) p ↔ (Permitted Ruled (startOf q) p × NoneIdle (startOf q) p)) (idle-permitted Ruled p (startOf q))
+
+    -- no plan that is written has such a set
+    pub written-none-idle : Written Asked (startOf q) p → NoneIdle (startOf q) p
+    written-none-idle w = works-idle .0 (written-works Asked p (startOf q) w) .1
 
     -- every plan that works with such sets works with them left out, and is no higher; and one that has none stays as it is
     pub left-out : Works Ruled (startOf q) p → Works Asked (startOf q) (leavingOut (startOf q) p) × (height (leavingOut (startOf q) p) ≤ height p)

@@ -15,7 +15,7 @@ use Rattle.question.specs.Permitted.{ruled}
 use Rattle.finder_plain.specs.declared.ahead.Ahead.{Ahead}
 use Rattle.finder_plain.specs.declared.ahead.Ahead.the-variants.{Nothing, One, Two}
 
--- the team may do the act at the state k, by the book's rules and the held settings: what `may` says of a question's system
+-- the team may do the act at the state k, by the book's rules and the held settings: what `may` says of the question's rules, `ruledSystem`
 abbrev pub mayDo : ℕ → List ℕ → ℕ → ℕ → ℕ → Act → Bool
 mayDo n book team held k a = offered n team a && given (ruled n book held (digit 7 k) a)
 

@@ -1,5 +1,5 @@
--- A plan with the sets left out that change nothing where they stand (R-9): it works, or is permitted, where the plan was, and is no higher and no
--- longer, since such a set leads back to its own state; nothing else is left out. And the plans of a system without such sets are those that have
+-- A plan with the sets left out that change nothing where they stand (R-9): it works where the plan did, and is no higher and no longer,
+-- since such a set leads back to its own state; nothing else is left out. And the plans of a system without such sets are those that have
 -- none.
 use mathlib.Core.Path.{_≡_, refl, ap, ap₂, subst}
 use mathlib.Core.Logic.{inl, inr, _↔_}
@@ -37,16 +37,6 @@ module _ (S : System) where
       set-left (Works (without S)) k i q b (leavingOut (setTo k i b) p) rest (λ t. (may-exactly S k (Set i q b) .1 (w .0, t), rest))
   leaving-works (look-then i q p r) k w =
       (look-may S k i q (w .0), leaving-works p (lookAt k i false) (w .1), leaving-works r (lookAt k i true) (w .2))
-
-  -- and is permitted where the plan was
-  pub leaving-permitted : (p : Plan) (k : ℕ) → Permitted S k p → Permitted (without S) k (leavingOut k p)
-  unfolding leavingOut
-  leaving-permitted stop k w = tt
-  leaving-permitted (set-then i q b p) k w =
-      let rest = leaving-permitted p (setTo k i b) (w .1) in
-      set-left (Permitted (without S)) k i q b (leavingOut (setTo k i b) p) rest (λ t. (may-exactly S k (Set i q b) .1 (w .0, t), rest))
-  leaving-permitted (look-then i q p r) k w =
-      (look-may S k i q (w .0), leaving-permitted p (lookAt k i false) (w .1), leaving-permitted r (lookAt k i true) (w .2))
 
   -- a plan without such sets stays as it is: nothing else is left out
   pub leaving-none : (p : Plan) (k : ℕ) → Permitted (without S) k p → leavingOut k p ≡ p

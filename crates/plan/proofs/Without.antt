@@ -147,12 +147,6 @@ module _ {n : ℕ} (S : System) {R : System} (law : Lawful n R) where
   unfolding firstLeg canFrom
   leg-same = ap (λ (goal : ℕ → Bool). withGoal S goal) (fun-ext (λ k. ap (λ (can : Bool). S .goal k && can) (below-same R law (2 ^ suc n - 1) k)))
 
-  pub legs-rank-same : (k r : ℕ) → IsRank (firstLeg n S R) k r ↔ IsRank (firstLeg n (without S) (without R)) k r
+  pub leg-without : without (firstLeg n S R) ≡ firstLeg n (without S) (without R)
   unfolding firstLeg
-  legs-rank-same k r =
-      subst (λ (T : System). IsRank (firstLeg n S R) k r ↔ IsRank (without T) k r) leg-same (rank-same (firstLeg n S R) k r)
-
-  pub legs-written-same : (p : Plan) (k : ℕ) → Written (firstLeg n S R) k p ↔ Written (firstLeg n (without S) (without R)) k p
-  unfolding firstLeg
-  legs-written-same p k =
-      subst (λ (T : System). Written (firstLeg n S R) k p ↔ Written (without T) k p) leg-same (written-same (firstLeg n S R) p k)
+  leg-without = ap without leg-same

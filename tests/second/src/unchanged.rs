@@ -60,7 +60,7 @@ pub fn left_out(group: &mut Group) {
             Ok(()) => bytes == fewer,
             Err(refusal) => {
                 let place = refusal.place as usize;
-                refusal.number == 32 && bytes != fewer && bytes[..place] == fewer[..place]
+                refusal.number == 32 && bytes[..place] == fewer[..place] && bytes[place] != fewer[place]
             }
         };
         group.case(as_said, || format!("this program's own check of {}", shown(&bytes)));

@@ -203,7 +203,7 @@ works-below-returns-4 t c =
     none-left (start .pre .1) (ended .before .loop .inv) (omega (arith, ended .loop-test .left))
     (goal-no (a .n) (a .book .now) (a .question) (goalOf (a .make .now) (a .learn .now)) (a .k) (asked .settled .ensures) (open-here .if2 .left)) (omega (arith, more .if1 .left)) (c .raise .ensures)
 
--- what lies ahead where works_by begins, in the question's system
+-- what lies ahead where works_by begins, in the system of the question's rules
 abbrev systemAt : (t : ℕ) → ByStart t → System
 systemAt t s = ruledSystem (s .args .n) (s .args .book .now) (s .args .question) (goalOf (s .args .make .now) (s .args .learn .now))
 
