@@ -43,7 +43,7 @@ $1 == "ask" { asks++ }
 function judged(first,   true_at, post, acts, sets) {
     true_at = counted(make)
     if (true_at == 0) hint("the make formula is never true, so no team can make it so")
-    if (true_at == 2 ^ n && !asks && !first) hint("the make formula is always true and nothing is asked, so there is nothing to do")
+    if (true_at == 2 ^ n && !asks && !first) hint("the make formula is always true and nothing is asked, so " (leg == "" ? "there is nothing to do" : "the answer is that of the first leg alone"))
     else if (true_at == 2 ^ n && make != "1") hint("the make formula is always true")
     for (post in team) {
         if (index(able, post) || (sheet && looks[post] < n)) acts = 1 # a look that is not stated is open

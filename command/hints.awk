@@ -148,7 +148,12 @@ function malformed(   text, at, what) {
     if (at > 0) hint("a tab in column " at ", where words are split by one space")
     if (unended && line == lines) hint("the last line has no byte 10 at its end")
     if ((kind == "sheet" || kind == "plan") && text ~ /^#/) hint("a " kind " has no comments; rules, questions and shifts may have lines that begin with #")
-    if (tolower(word(text)) ~ (kind == "shift" ? "^(look|set)$" : "^(size|read|write|team|known|held|make|ask|then|reach)$") && word(text) != tolower(word(text))) hint("capitals: the word is '" tolower(word(text)) "'")
+    small = tolower(word(text))
+    if (small ~ (kind == "shift" ? "^(look|set)$" : "^(size|read|write|team|known|held|make|ask|then|reach)$") && word(text) != small) {
+        if (small == "then" && !legs && kind != "rules") hint("a second leg is for questions to a book alone, with './parjolenc ask'")
+        if (small ~ /^(known|held)$/ && then) hint("what is known and held is said in the first leg, for both")
+        hint("capitals: the word is '" small "'")
+    }
     if (text ~ /^ /) hint("a space before the first word")
     at = front(text) == 0 ? match(text, /  /) : 0
     if (at > 0) hint("two spaces in column " at ", where words are split by one")
