@@ -207,10 +207,11 @@ enum {
 // Stack that a call takes at most, whatever its arguments, rounded up to 4,096 bytes. It is measured and not proved:
 // tests/host/stack.c paints a stack, calls the function where it goes deepest, and finds the lowest byte that changed.
 // On x86-64, with the library that kit 5b made on 2026-11-16, in the order below: 102,768 bytes (255 brackets: 400 each
-// and 768), 248, 232, 168 (seven damaged blocks), 104,056 (a plan of height 254: 208 for each act and 51,224), 138,984
-// (the same plan: 208 for each act and 86,152), 897,680 (the same plan: 288 for each height and 824,528, of which 823,543
-// are what it remembers), 680, 138,768 and 118,464 (a look rule of 255 brackets), 1,011,176 (a plan of height 254, and with
-// one leg too there is room for a second leg's 823,543 ranks; two legs 960,536), and 184.
+// and 768), 248, 232, 168 (seven damaged blocks), 104,056 (a plan of height 254: 208 for each act and 51,224), 104,168
+// (the same plan, of a first leg: 208 for each act and 51,336), 897,680 (the same plan: 288 for each height and
+// 824,528, of which 823,543 are what it remembers), 680, 138,704 and 118,464 (a look rule of 255 brackets), 960,792
+// (two legs, the first of height 254; 960,776 with one, since there is room for a second leg's 823,543 ranks whichever
+// way it goes), and 184.
 // memcpy and memset are counted, but the first call of one in a process takes more where the dynamic linker binds it then:
 // 3,152 bytes were seen, for which there is room, since nothing that calls itself calls them.
 enum {
@@ -219,12 +220,12 @@ enum {
     PJ_STACK_BOOK_WRITE = 4096,
     PJ_STACK_BOOK_SALVAGE = 4096,
     PJ_STACK_FIND = 106496,
-    PJ_STACK_FIND_TWO = 139264,
+    PJ_STACK_FIND_TWO = 106496,
     PJ_STACK_FIND_PLAIN = 901120,
     PJ_STACK_PLAN_CHECK = 4096,
     PJ_STACK_SHEET = 139264,
     PJ_STACK_RULES = 118784,
-    PJ_STACK_ASK = 1011712,
+    PJ_STACK_ASK = 962560,
     PJ_STACK_REPLAY = 4096
 };
 
