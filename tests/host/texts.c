@@ -28,11 +28,13 @@ static const char question[] =
     "team 1 2\n"
     "known ~c ~d\n"
     "make d\n";
+static const char change[] = "team 2\nknown ~c ~d\nmake ~a\nthen\nteam 1\nmake d\n";
+static const char handed[] = "reach 3\n0 look a 2\n1 set b 2 1\n2 stop\n1 set a 2 0\n2 set b 2 1\n3 stop\n";
 static const char answer[] =
     "reach 4\n0 look a 2\n1 set b 2 1\n2 set d 1 1\n3 stop\n1 set a 2 0\n2 set b 2 1\n3 set d 1 1\n4 stop\n";
 
 static pj_u8 book[PJ_BOOK_MOST], written[PJ_BOOK_ROOM(4)], rights[PJ_RIGHTS_ROOM(4)];
-static pj_u8 ranks[PJ_RANKS_MOST], others[PJ_RANKS_ROOM(4)], plan[PJ_PLAN_ROOM(4)], out[PJ_ASK_MOST];
+static pj_u8 ranks[PJ_RANKS_MOST], others[PJ_RANKS_ROOM(4)], seconds[PJ_RANKS_ROOM(4)], plan[PJ_PLAN_ROOM(4)], out[PJ_ASK_MOST];
 static pj_u64 length;
 
 // The same rules by their formulas, and not by their text. 0 where all are formulas.
@@ -47,6 +49,30 @@ static pj_u64 night_rights(void) {
 static int prints(const char *text, const char *expected, int all) {
     pj_u64 size = pj_ask(book, length, (const pj_u8 *)text, length_of(text), ranks, sizeof ranks, out, sizeof out);
     return same_text(out, expected) && (all ? size == length_of(expected) : size > length_of(expected));
+}
+
+// A rank table under 7^n bytes, or under twice that, for a question of two legs: the place is the first leg that has no
+// room, and every byte stays as it was.
+static int short_table(pj_u64 size, const char *expected) {
+    for (pj_u64 i = 0; i < sizeof ranks; i++) ranks[i] = 99;
+    pj_u64 printed = pj_ask(book, length, (const pj_u8 *)change, sizeof change - 1, ranks, size, out, sizeof out);
+    for (pj_u64 i = 0; i < sizeof ranks; i++)
+        if (ranks[i] != 99) return 0;
+    return printed == length_of(expected) && same_text(out, expected);
+}
+
+// Whether the first leg's ranks stand in `ranks` and the second's behind them, as pj_find_two leaves them, and no byte
+// more is written.
+static int both_tables(void) {
+    enum { ROOM = PJ_RANKS_ROOM(4) };
+    pj_u8 make[PJ_TABLE], make2[PJ_TABLE];
+    formula(4, "~a", make);
+    formula(4, "d", make2);
+    for (pj_u64 i = 0; i < sizeof ranks; i++) ranks[i] = 99;
+    pj_ask(book, length, (const pj_u8 *)change, sizeof change - 1, ranks, 2 * ROOM, out, sizeof out);
+    pj_u64 found = pj_find_two(book, length, 2, 12, 0, 0, make, sizeof make, 0, 0, 1, make2, sizeof make2, 0, 0, others,
+                               ROOM, seconds, ROOM, plan, sizeof plan);
+    return pj_height(found) == 3 && same(ranks, others, ROOM) && same(ranks + ROOM, seconds, ROOM) && ranks[2 * ROOM] == 99;
 }
 
 // Whether the lines that stand in `out` are those of this plan's bytes, by the header's words for them.
@@ -95,5 +121,11 @@ int main(void) {
          prints("team 1 3\nknown ~c ~d\nmake d&~c\n", "reach 3\n", 0));
     test("a question with a `size` line is refused with its line",
          prints("# no rules here\nsize 4 3\nteam 1 2\nknown\nmake d\n", "refused 22 2\n", 1));
+    test("the night operator hands over to the setter in 3 steps", prints(change, handed, 1));
+    test("the ranks of both legs stand one behind the other", both_tables());
+    test("13 1: no room for the first leg's ranks", short_table(PJ_RANKS_ROOM(4) - 1, "refused 13 1\n"));
+    test("13 2: no room for the second leg's", short_table(2 * PJ_RANKS_ROOM(4) - 1, "refused 13 2\n"));
+    test("known behind `then` is refused with its line",
+         prints("team 2\nknown ~c ~d\nmake ~a\nthen\nteam 1\nknown a\nmake d\n", "refused 22 6\n", 1));
     return closing();
 }
