@@ -72,7 +72,7 @@ fn search_two(
 }
 
 // "Reach" with the least height of a first leg and its plan, or "cannot"; or the first of refusals 6 to 12
-// and 31 of the first leg, 10 and 12 of the second, whose team is `second`, 13 with place 1 or 2 for the
+// and 31 of the first leg, 10 and 12 of the second, whose team is `team2`, 13 with place 1 or 2 for the
 // first short table, and 14.
 pub fn find_two(
     book: &[u8],

@@ -60,7 +60,7 @@ pub fn fill_ranks(
 }
 
 // The same for the first of two legs: the goal is settled only where the second leg, by its ranks in
-// `second`, has a plan to go on with. Where those are under 7^n bytes too, the ranks stay as they were.
+// `ranks2`, has a plan to go on with. Where those are under 7^n bytes too, the ranks stay as they were.
 pub fn fill_first(
     n: u8,
     made: &[u8; SIDES],

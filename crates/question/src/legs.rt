@@ -9,7 +9,7 @@ ghost use Rattle.knowledge.specs.Goal.{goalOf};
 ghost use Rattle.question.specs.Legs.{AsksTwo};
 
 // The book's numbers of settings and posts, or the first of refusals 6 to 12 and 31 of the first leg, then 10
-// and 12 of the second, whose team is `second`.
+// and 12 of the second, whose team is `team2`.
 pub fn ask_two(
     book: &[u8],
     question: Question,
