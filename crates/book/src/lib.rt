@@ -5,6 +5,8 @@
 // and at the lowest block; so is a room that is too short. A refusal leaves the lent room as it was. A
 // success fills the first 256 bytes a setting of the room for rights, or the first 512 bytes a block of the
 // room for a book, and no other byte.
+#![tactic(auto)]
+
 mod reading;
 mod writing;
 

@@ -16,7 +16,7 @@ use ground::{POSTS_MOST, SETTINGS_MOST, copy, zeros};
 use refusal::Refusal;
 
 // What the writer says.
-#[derive(Drop)]
+#[derive(Clone, Copy)]
 pub enum WriteAnswer {
     // the book stands at the start of the room
     Written,

@@ -3,6 +3,8 @@
 //
 // It refuses nothing: each question has an answer for all bytes, and bytes that are not there count as 0. In
 // a lent room `seal` writes the four bytes of the check and no other, and none where the block is not whole.
+#![tactic(auto)]
+
 mod bytes;
 mod rule;
 mod stray;

@@ -7,7 +7,7 @@ use crate::BLOCK;
 use ground::TABLE;
 
 // The two rules that a setting has for each post.
-#[derive(Drop)]
+#[derive(Clone, Copy)]
 pub enum Right {
     // who may look at the setting
     Look,

@@ -8,7 +8,7 @@ use super::bytes::{byte_at, put16};
 use super::{BLOCK, CHECKED, S_AT, T_AT};
 
 // The two sums.
-#[derive(Drop)]
+#[derive(Clone, Copy)]
 pub struct Sums {
     pub s: u16,
     pub t: u16,

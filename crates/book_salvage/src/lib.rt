@@ -4,6 +4,8 @@
 // Bytes that are not 2 to 8 whole blocks, a head block that is damaged and a room shorter than the book are
 // refused with 6, 30 and 15, in this order; a refusal leaves the lent room as it was. A success fills the
 // first bytes of the room, as many as the book has, and no other byte.
+#![tactic(auto)]
+
 mod closing;
 mod marking;
 
@@ -19,7 +21,7 @@ use marking::{marks_of, ones};
 use refusal::Refusal;
 
 // What the salvage says.
-#[derive(Drop)]
+#[derive(Clone, Copy)]
 pub enum SalvageAnswer {
     // the book stands at the start of the room; bit i of `marks` is set where the block of setting i was
     // replaced, and `count` is how many were

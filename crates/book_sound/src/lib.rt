@@ -3,6 +3,8 @@
 //
 // Bytes that break a rule of the format are refused with 6 to 9, the first in the written order and at the
 // lowest block. It writes nothing.
+#![tactic(auto)]
+
 ghost use Rattle.std.specs.Prelude.{◌≡◌, ◌+◌, ◌≤◌, length};
 ghost use Rattle.ground.specs.Tells.{Tells};
 ghost use Rattle.ground.specs.Search.{Lowest};
@@ -24,7 +26,7 @@ const BLOCKS_MOST: usize = 1 + ground::SETTINGS_MOST;
 const HEAD_USED: usize = 2;
 
 // What `sound` answers, and `book::read` too.
-#[derive(Drop)]
+#[derive(Clone, Copy)]
 pub enum ReadAnswer {
     // a sound book, with this many settings and posts
     Book { settings: u8, posts: u8 },

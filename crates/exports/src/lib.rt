@@ -1,6 +1,8 @@
 // The C interface, and nothing else: each function hands its arguments to the crate that knows, and gives
 // the answer as one number. A refusal is its number from bit 32 on over its place; a success has 0 in the
 // upper half. A slice is a pointer and a length; a table is a pointer to 16 bytes.
+#![tactic(auto)]
+
 mod packing;
 
 ghost use Rattle.knowledge.specs.Goal.{goal_of};

@@ -11,7 +11,7 @@ use finder_sides::SIDES;
 use ground::SETTINGS_MOST;
 use refusal::Refusal;
 
-#[derive(Drop)]
+#[derive(Clone, Copy)]
 pub enum Answer {
     // A plan of this height, the least, stands in the first `length` bytes of the plan room.
     Reach { height: u8, length: usize },

@@ -9,6 +9,8 @@
 // (`finder_sides`), all ranks filled (`finder_ranks`), the answer from the start (here). `find_two` answers a
 // question of two legs: the second leg's ranks are filled first, in a rank table of their own, and the first
 // leg's goal is settled only where they tell of a plan.
+#![tactic(auto)]
+
 mod answer;
 mod finding;
 mod steps;

@@ -26,7 +26,7 @@ const PAIRS: u8 = 3 * SETTINGS;
 // The index of the last post that there can be.
 const LAST_POST: u8 = POSTS_MOST as u8 - 1;
 
-#[derive(Drop)]
+#[derive(Clone, Copy)]
 pub enum Step {
     Stop,
     Do(Act),

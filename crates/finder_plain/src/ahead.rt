@@ -11,7 +11,7 @@ use crate::may::someone_may;
 use knowledge::Knowledge;
 use knowledge_acts::Act;
 
-#[derive(Drop)]
+#[derive(Clone, Copy)]
 pub(crate) enum Ahead {
     // Nothing: no post may, or an outcome is the state itself, or is known to be too far from the goal.
     Nothing,

@@ -13,7 +13,7 @@ use knowledge::Knowledge;
 use question::{Asked, Question, ask};
 use refusal::Refusal;
 
-#[derive(Drop)]
+#[derive(Clone, Copy)]
 pub enum PlainAnswer {
     // A plan of this height works, and none that is lower.
     Reach(u8),

@@ -6,6 +6,8 @@
 // act by the question's rules at the state where it is tried. For each state it remembers, in its own frame,
 // a height below which no plan works from there. With that it takes less than 1 MiB of the machine's stack:
 // a byte for each of the 7^7 states, and less than 300 bytes for each of at most 255 heights.
+#![tactic(auto)]
+
 mod acts;
 mod ahead;
 mod finding;

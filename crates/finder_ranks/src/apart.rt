@@ -27,7 +27,7 @@ pub(crate) fn start_of(digit: u8) -> usize
 }
 
 // The digit of each setting, and the present and the start side as numbers.
-#[derive(Drop)]
+#[derive(Clone, Copy)]
 pub struct Parts {
     pub digits: [u8; SETTINGS_MOST],
     pub now: usize,

@@ -1,6 +1,8 @@
 // The rank of every knowledge number, the finder's second step. The crate knows what is permitted and
 // where the two halves of the goal are settled, as tables over the sides, and nothing of books, rules or
 // posts. Of the lent ranks it writes only the first 7^n, and nothing where they do not fit.
+#![tactic(auto)]
+
 mod apart;
 mod counts;
 mod marks;

@@ -14,7 +14,7 @@ use ground::SETTINGS_MOST;
 
 // A state but for its digit at one setting: the number and the present side that it has with digit 0
 // there, and what a step of that digit and of that side counts.
-#[derive(Drop)]
+#[derive(Clone, Copy)]
 struct Spot {
     rest: usize,
     side: usize,

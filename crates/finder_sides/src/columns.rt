@@ -11,7 +11,7 @@ use book_block::{Right, rule_at};
 use ground::{POSTS_MOST, Present, Start, bit_of, valuations};
 
 // What a column tells of its valuation.
-#[derive(Drop)]
+#[derive(Clone, Copy)]
 pub enum Judged {
     // 1 where the make formula, whose table the bytes begin with, is true of the present settings
     Make,

@@ -4,6 +4,8 @@
 // what it has learnt on the start side alone.
 //
 // It refuses nothing and is lent nothing to write to: more than seven settings count as seven.
+#![tactic(auto)]
+
 mod columns;
 mod counts;
 mod filled;

@@ -2,7 +2,7 @@
 ghost use Rattle.std.specs.Prelude.{◌^◌, ◌≤◌, ◌<◌};
 ghost use Rattle.finder_sides.specs.Inner.{SideTells};
 
-#[derive(Drop)]
+#[derive(Clone, Copy)]
 pub enum SideTold {
     // a setting i is unknown: 3^i, by which the side changes where setting i is false, and twice
     // that where it is true

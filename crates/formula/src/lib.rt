@@ -1,6 +1,8 @@
 // The formula reader: the bytes of a formula, as `a|b&~c`, to its 16-byte table, or a numbered
 // refusal with its place. It takes any number of settings and any text. A refusal leaves nothing
 // behind: the table beside it is all zeros.
+#![tactic(auto)]
+
 ghost use Rattle.std.specs.Prelude.{◌≡◌, ℕ, replicate};
 ghost use Rattle.ground.specs.Bounds.{SettingsFit};
 ghost use Rattle.formula_grammar.specs.Signs.{Foreign};
@@ -9,7 +11,7 @@ ghost use Rattle.formula.specs.Read.{ReadsFormula, LengthFits};
 use formula_grammar::{Part, Scanned};
 use refusal::Refusal;
 
-#[derive(Drop)]
+#[derive(Clone, Copy)]
 pub enum Answer {
     // The text is a formula, and its table stands beside.
     Accepted,
@@ -18,7 +20,7 @@ pub enum Answer {
 }
 
 // What reading a text gives: the answer, and the table of an accepted one, else sixteen zeros.
-#[derive(Drop)]
+#[derive(Clone, Copy)]
 pub struct FormulaReading {
     pub answer: Answer,
     pub table: [u8; ground::TABLE],

@@ -9,7 +9,7 @@ use crate::signs::is_letter;
 use formula_table::Truths;
 use ground::peek;
 
-#[derive(Drop)]
+#[derive(Clone, Copy)]
 pub enum Part {
     // A whole part: its table, and the place after it.
     Read(Truths, usize),

@@ -4,7 +4,7 @@ ghost use Rattle.std.specs.Prelude.{◌≡◌};
 ghost use Rattle.formula_grammar.specs.Signs.{is_letter, is_sign, is_stray, is_past};
 ghost use Rattle.formula_grammar.specs.Scans.{Scans};
 
-#[derive(Drop)]
+#[derive(Clone, Copy)]
 pub enum Scanned {
     // Every byte is one that a formula over n settings may have.
     Clean,

@@ -1,6 +1,8 @@
 // The truths of a formula at all 128 valuations of seven settings, in two words: its table while it is worked
 // on. A letter, `~`, `&` and `|` are one or two operations. Every function takes any words and any number;
 // nothing is refused.
+#![tactic(auto)]
+
 ghost use Rattle.std.specs.Prelude.{◌≡◌, true, false, not, ◌&&◌, ◌||◌, cond, ℕ, ◌<◌, ◌^◌, ltb};
 ghost use Rattle.ground.specs.Digits.{bit};
 ghost use Rattle.formula_table.specs.Two.{has, WordsOf, words_byte, BytesOf};
@@ -8,7 +10,7 @@ ghost use Rattle.formula_table.specs.Two.{has, WordsOf, words_byte, BytesOf};
 use ground::{SETTINGS_MOST, TABLE};
 
 // Bit v of `low` for the valuations below 64, and bit v - 64 of `high` for the others.
-#[derive(Drop)]
+#[derive(Clone, Copy)]
 pub struct Truths {
     pub low: u64,
     pub high: u64,

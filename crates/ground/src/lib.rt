@@ -1,6 +1,8 @@
 // The ground that every other crate stands on: bytes and bits, valuations, the 16-byte tables that are read
 // at them, and runs of bytes written into a lent room as far as it goes. It refuses nothing; its specs say
 // what a bit, a digit and a table are, and its proofs hold the laws that the other crates cite.
+#![tactic(auto)]
+
 mod bytes;
 
 ghost use Rattle.std.specs.Prelude.{◌≡◌, ◌^◌, min, drop, get_or};
@@ -11,11 +13,11 @@ ghost use Rattle.ground.specs.Tells.{Tells};
 pub use bytes::{copy, zeros};
 
 // A valuation of the settings as they were at the start: bit i is setting i.
-#[derive(Drop)]
+#[derive(Clone, Copy)]
 pub struct Start(pub u8);
 
 // A valuation of the settings as they are now: bit i is setting i.
-#[derive(Drop)]
+#[derive(Clone, Copy)]
 pub struct Present(pub u8);
 
 // The most settings: "Settings n: 1 to 7".

@@ -3,7 +3,7 @@ ghost use Rattle.std.specs.Prelude.{◌≡◌};
 ghost use Rattle.knowledge.specs.Judgement.{holds, settles};
 
 // True at all valuations that fit, false at all, or neither.
-#[derive(Drop)]
+#[derive(Clone, Copy)]
 pub enum Judgement {
     TrueAtAll,
     FalseAtAll,

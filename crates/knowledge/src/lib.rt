@@ -1,6 +1,8 @@
 // What a team knows: a state of one digit for each setting, its number, and what an act makes of it; and the
 // three things that a judgement of a table can say. Its specs also say what is known and when a goal is
 // settled: knowledge_judging and finder_sides have the code. It refuses nothing and writes nothing.
+#![tactic(auto)]
+
 mod judgement;
 mod state;
 

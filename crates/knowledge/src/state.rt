@@ -6,7 +6,7 @@ ghost use Rattle.knowledge.specs.Number.{digit_in, number_of, digits_of, first_a
 use ground::bit_of;
 
 // What a team knows: the digit of each setting.
-#[derive(Drop)]
+#[derive(Clone, Copy)]
 pub struct Knowledge {
     digits: [u8; Knowledge::MOST],
 }

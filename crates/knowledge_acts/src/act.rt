@@ -6,7 +6,7 @@ ghost use Rattle.knowledge_acts.specs.Acts.{of_kind, or_none, plan_byte, act_of,
 use ground::bit_of;
 
 // An act, by a post, on a setting: each by its index.
-#[derive(Drop)]
+#[derive(Clone, Copy)]
 pub enum Act {
     // the setting is set to the value
     Set { setting: u8, post: u8, value: bool },
@@ -15,7 +15,7 @@ pub enum Act {
 }
 
 // What a byte of a plan names.
-#[derive(Drop)]
+#[derive(Clone, Copy)]
 pub enum Named {
     One(Act),
     // 0, which is a stop, and what is past the largest act

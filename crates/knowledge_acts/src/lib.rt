@@ -2,6 +2,8 @@
 // team have it, and the seven knowledge digits, with what each tells and the digit after an act. A byte
 // that names no act is told as such, and what is no digit tells nothing. Nothing is written to what a
 // caller lends.
+#![tactic(auto)]
+
 mod act;
 mod digit;
 

@@ -7,7 +7,7 @@ ghost use Rattle.knowledge_judging.specs.Walk.{MasksOf};
 use crate::valuation::Side;
 use knowledge::Knowledge;
 
-#[derive(Drop)]
+#[derive(Clone, Copy)]
 pub(crate) struct Masks {
     // bit i: the value of setting i is unknown
     pub(crate) unknown: u8,

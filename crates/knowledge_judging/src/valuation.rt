@@ -10,7 +10,7 @@ use knowledge::Knowledge;
 use knowledge_acts::{now_side, start_side};
 
 // The two sides of a knowledge digit.
-#[derive(Drop)]
+#[derive(Clone, Copy)]
 pub enum Side {
     // the value at the start
     Start,
@@ -19,7 +19,7 @@ pub enum Side {
 }
 
 // A valuation of one side.
-#[derive(Drop)]
+#[derive(Clone, Copy)]
 pub(crate) enum Valuation {
     AtStart(Start),
     Present(Present),

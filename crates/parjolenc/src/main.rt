@@ -1,6 +1,8 @@
 // The sheet program: a sheet on standard input, its answer on standard output, and what came of it on descriptor 3.
 // Where reading fails nothing is answered, and where writing fails what was written stays; both are said on
 // standard error.
+#![tactic(auto)]
+
 use libc::STDIN_FILENO;
 use program_files::Input;
 use sheet_reading::SheetTold;

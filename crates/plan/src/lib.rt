@@ -1,9 +1,11 @@
 // Plans and ranks, their meaning and their theory: no code, so that every finder and every check
 // stands on the same definitions and laws.
+#![tactic(auto)]
+
 use refusal::Why;
 
 // What is said of an act where a team knows so much.
-#[derive(Drop)]
+#[derive(Clone, Copy)]
 pub enum Permit {
     // It is permitted.
     Given,

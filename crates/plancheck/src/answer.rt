@@ -2,7 +2,7 @@
 use refusal::Refusal;
 
 // Whether the bytes are those of a plan that works.
-#[derive(Drop)]
+#[derive(Clone, Copy)]
 pub enum CheckAnswer {
     Yes,
     Refused(Refusal),

@@ -15,7 +15,7 @@ use plan::Permit;
 use question::{Question, permits};
 use refusal::Refusal;
 
-#[derive(Drop)]
+#[derive(Clone, Copy)]
 pub enum ByteReading {
     // A stop where the goal is settled: this branch is whole.
     Stops,

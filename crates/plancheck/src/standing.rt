@@ -7,7 +7,7 @@ use crate::reading::ByteReading;
 use knowledge::Knowledge;
 use refusal::Refusal;
 
-#[derive(Drop)]
+#[derive(Clone, Copy)]
 pub enum Stands {
     // The next byte is read at the standing's number.
     Open,
@@ -19,7 +19,7 @@ pub enum Stands {
 
 // At most n numbers wait: each is the true outcome of a look that is open, and a look makes one more
 // of the n settings known.
-#[derive(Drop)]
+#[derive(Clone, Copy)]
 pub struct Standing {
     // The knowledge number at which the next byte is read.
     pub here: u32,

@@ -2,6 +2,8 @@
 // content is taken: one that is too long is 24, and any line that is not of the form is 22. The bytes go
 // to the start of a lent room, as far as they fit; a refusal leaves the room as it was. Whether the bytes
 // are a plan is for plancheck. The forms of a line's words are public: a shift's text has the same signs.
+#![tactic(auto)]
+
 mod line;
 
 ghost use Rattle.std.specs.Prelude.{◌≡◌, ◌≤◌, length, drop};
@@ -22,7 +24,7 @@ pub const PLAN_TEXT_MOST: usize = 524288;
 pub const TEXT_BYTES_MOST: usize = (PLAN_TEXT_MOST - 8) / 7;
 
 // What is said of a plan's text.
-#[derive(Drop)]
+#[derive(Clone, Copy)]
 pub enum PlanTold {
     // It is a text of this many plan bytes. The room holds as many of them as fit.
     Read(usize),

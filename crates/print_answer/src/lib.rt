@@ -1,6 +1,8 @@
 // How an answer is written out: one of the three forms of the sheet program, a height without
 // its plan, or a refusal with its second number, line by line, into a room that the caller lends. It refuses nothing: a room shorter than the answer holds as much of it as fits,
 // and the length given is the whole answer's. Nothing past the answer is touched.
+#![tactic(auto)]
+
 mod listing;
 
 ghost use Rattle.std.specs.Prelude.{◌≡◌, ◌≤◌, length};

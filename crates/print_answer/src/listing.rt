@@ -10,7 +10,7 @@ ghost use Rattle.print_answer.specs.Inner.{Readable, Lines};
 use knowledge_acts::{Act, Named};
 
 // The places after a plan's bytes and after its lines.
-#[derive(Drop)]
+#[derive(Clone, Copy)]
 pub struct Next {
     pub at: usize,
     pub to: usize,

@@ -1,5 +1,7 @@
 // The program of `ask BOOK QUESTION`: the question text that its second word names, put to the book that its first word
 // names; the answer on standard output, and what came of it on descriptor 3.
+#![tactic(auto)]
+
 ghost use Rattle.std.specs.Prelude.{◌≡◌, length};
 
 use book_sound::ReadAnswer;

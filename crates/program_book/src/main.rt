@@ -1,5 +1,7 @@
 // The program of `book RULES BOOK`: the rules text that its first word names, to a book in the file that its second word
 // names. That file is made; one that is there is never overwritten, and a refusal or a failed write leaves none.
+#![tactic(auto)]
+
 use program_files::Input;
 use program_outcome::Outcome;
 use sheet_book::MakeAnswer;

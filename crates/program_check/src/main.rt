@@ -2,6 +2,8 @@
 // output: `yes`, or `refused NUMBER PLACE`, of 18 with its second number behind it. What came of it goes to descriptor 3, of a
 // refusal with whose it is.
 // Where a file cannot be read nothing is answered, and that is said on standard error.
+#![tactic(auto)]
+
 ghost use Rattle.std.specs.Prelude.{◌≡◌, ◌<◌, ◌≤◌};
 
 use book_block::BLOCK;

@@ -2,10 +2,12 @@
 // of the input. What the system reads and writes no contract can say; what is proved is that no byte
 // outside the room is counted. Nothing is refused, and no function has a `requires`. A failure to do with
 // a named file is said on standard error here.
+#![tactic(auto)]
+
 ghost use Rattle.program_files.specs.Input.{InRoom};
 
 // What was read.
-#[derive(Drop)]
+#[derive(Clone, Copy)]
 pub enum Input {
     // All of it, so many bytes at the start of the room; or as many as the room has.
     Whole(usize),

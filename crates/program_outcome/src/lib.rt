@@ -1,6 +1,8 @@
 // How a program says what came of it. A Rattle program has no exit status: it writes one digit and a newline to
 // descriptor 3, and the command `./parjolenc` turns the digit into its status. A program that ended without
 // saying it is in trouble. Nothing is refused; where descriptor 3 is not open, nobody asked.
+#![tactic(auto)]
+
 ghost use Rattle.std.specs.Prelude.{◌≡◌};
 ghost use Rattle.program_outcome.specs.Outcomes.{status_digit, answer_outcome};
 
@@ -12,7 +14,7 @@ const OUTCOME_FILENO: i32 = 3;
 const REFUSED_MOST: usize = 64;
 
 // What came of a program.
-#[derive(Drop)]
+#[derive(Clone, Copy)]
 pub enum Outcome {
     // Reach, yes or done.
     Done,

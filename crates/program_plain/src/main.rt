@@ -1,6 +1,8 @@
 // The second program of `both BOOK QUESTION`, whose words name two files: what the plain finder, which has no rank table,
 // says of the question; `reach H` alone, `cannot`, or a refusal as `ask` prints it, on standard output, and what came
 // of it on descriptor 3. Where a file cannot be read nothing is answered, and that is said on standard error.
+#![tactic(auto)]
+
 use program_files::{Input, read_named};
 use program_outcome::Outcome;
 use sheet_plain::PlainTold;

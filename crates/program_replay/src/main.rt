@@ -3,6 +3,8 @@
 // goes to standard output, and a refusal as `refused NUMBER PLACE`; what came of it goes to descriptor 3, of a fault
 // with its number and whose it is. Where a file cannot be read, or START is none for the book, nothing is answered, and
 // that is said on standard error.
+#![tactic(auto)]
+
 ghost use Rattle.std.specs.Prelude.{◌≡◌};
 ghost use Rattle.program_replay.specs.Outcomes.{replay_outcome};
 

@@ -1,6 +1,8 @@
 // The program of `salvage DAMAGED BOOK`: the book that its first word names, with each damaged setting block closed, to
 // the file that its second word names. That file is made; one that is there is never overwritten, and a refusal or a
 // failed write leaves none. Once it is made, the settings that were closed are named on standard output.
+#![tactic(auto)]
+
 ghost use Rattle.std.specs.Prelude.{◌≤◌, ◌<◌};
 ghost use Rattle.print_room.specs.Wrote.{Wrote};
 ghost use Rattle.program_salvage.specs.Closed.{closed_name, closed_names, closed_text};

@@ -1,6 +1,8 @@
 // The program of `shift TEXT SHIFT`: the shift's text in the file that its first word names, as bytes, to the file that
 // its second word names. That file is made; one that is there is never overwritten, and a refusal or a failed write
 // leaves none.
+#![tactic(auto)]
+
 ghost use Rattle.std.specs.Prelude.{◌≡◌, length};
 
 use program_files::Input;

@@ -1,6 +1,8 @@
 // A question to the finder or to the plan check: who asks, what they know, which settings are held, the
 // goal, and which of refusals 6 to 12 and 31 it meets. Here a book meets plans: its specs say which acts the book's rules permit and which
 // system of plans the question fixes. It writes nothing.
+#![tactic(auto)]
+
 mod legs;
 mod permit;
 
@@ -22,7 +24,7 @@ const LEARN_MOST: usize = 4;
 // Who asks, what they know and what is held: bit q of `team` for the post with index q, bit i of `known`
 // for setting i, bit i of `values` where it is known to be true, and bit i of `held` where no set act may
 // touch it, though looks may.
-#[derive(Drop)]
+#[derive(Clone, Copy)]
 pub struct Question {
     pub team: u8,
     pub known: u8,
@@ -31,7 +33,7 @@ pub struct Question {
 }
 
 // Whether a question is valid.
-#[derive(Drop)]
+#[derive(Clone, Copy)]
 pub enum Asked {
     // It is, over a book with this many settings and posts.
     Valid { settings: u8, posts: u8 },

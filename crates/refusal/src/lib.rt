@@ -1,12 +1,14 @@
 // Every refusal of the library and of the sheet program, in one enum, with the numbers that paper 01
 // gives to each. A refusal is made at the place that finds the fault and is handed upward as it is; its
 // numbers stand here alone. The crate refuses nothing itself and writes nothing.
+#![tactic(auto)]
+
 ghost use Rattle.std.specs.Prelude.{◌≡◌, suc};
 ghost use Rattle.refusal.specs.Refusals.{second_of, numbered, seconded, numbers};
 
 // Why an act is not permitted: the second number of 18. A set of a held setting, 3, is judged first, and
 // the others in the order of their numbers.
-#[derive(Drop)]
+#[derive(Clone, Copy)]
 pub enum Why {
     // 0: a look at a known setting.
     KnownSetting,
@@ -33,7 +35,7 @@ impl Why {
 }
 
 // In the order of their numbers. Where a case holds a number, that number is the place.
-#[derive(Drop)]
+#[derive(Clone, Copy)]
 pub enum Refusal {
     // 1: formula empty or over 255 bytes.
     FormulaLength,
@@ -102,7 +104,7 @@ pub enum Refusal {
 }
 
 // The numbers that a refusal gives: "a refusal gives a number and a place", and 18 "carries a second number".
-#[derive(Drop)]
+#[derive(Clone, Copy)]
 pub struct Numbers {
     pub number: u64,
     // 0 unless the refusal names one

@@ -1,6 +1,8 @@
 // The sheet program's answer, all in memory: a text sheet to what is printed. A sheet that is not
 // whole is answered by the first of its refusals, with the number and the line. Nothing is refused: a
 // room shorter than the answer holds as much of it as fits.
+#![tactic(auto)]
+
 mod asking;
 
 ghost use Rattle.sheet.specs.Answer.{AnswersSheet};

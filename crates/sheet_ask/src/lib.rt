@@ -3,6 +3,8 @@
 // the first refusal in the written order. Nothing else is refused: a room shorter than what is printed
 // holds as much of it as fits. The lent rank table is left as the finder leaves it; with two legs it holds
 // the first leg's ranks and behind them the second's.
+#![tactic(auto)]
+
 mod tell;
 mod two;
 

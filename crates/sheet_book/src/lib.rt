@@ -2,6 +2,8 @@
 // read, and what they state is written as a book. A text that is not whole is refused by the first of its
 // refusals, with the line; a room that is too short is refused after them. A refusal leaves the room as it
 // was. A success fills the first 512 bytes a block of it, and no other byte.
+#![tactic(auto)]
+
 ghost use Rattle.sheet_rules.specs.Rules.{Rules};
 ghost use Rattle.sheet_rules.specs.Desk.{OnDesk};
 ghost use Rattle.sheet_rules.specs.Meaning.{rules_meaning};
@@ -17,7 +19,7 @@ use sheet_rules::{RulesDesk, WholeTold, read_rules};
 pub const BOOK_MOST: usize = BLOCK * (1 + SETTINGS_MOST);
 
 // What becomes of a text of rules.
-#[derive(Drop)]
+#[derive(Clone, Copy)]
 pub enum MakeAnswer {
     // The book stands at the start of the room, and has this many bytes.
     Made(usize),

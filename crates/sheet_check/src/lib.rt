@@ -1,6 +1,8 @@
 // The text of a plan put to a stored book and a question text, all in memory: yes, or the first refusal in
 // the written order and which of the three it is of. Any bytes are taken as each of them. Nothing that is
 // lent is written to.
+#![tactic(auto)]
+
 ghost use Rattle.std.specs.Prelude.{true};
 ghost use Rattle.book_sound.specs.Sound.{Sound};
 ghost use Rattle.plancheck.specs.Checks.{Checks};
@@ -18,7 +20,7 @@ use refusal::Refusal;
 use sheet_question::{AskedDesk, QuestionTold, read_question};
 
 // What is said of a plan's text.
-#[derive(Drop)]
+#[derive(Clone, Copy)]
 pub enum CheckTold {
     // Its bytes are those of a plan that works for the question.
     Yes,

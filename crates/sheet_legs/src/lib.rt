@@ -1,6 +1,8 @@
 // A question text that may have a second leg behind a line `then`: what each leg asks, or the first refusal, with its
 // line. A text of any length and content is taken, with any numbers of settings and posts; nothing is written to what a
 // caller lends.
+#![tactic(auto)]
+
 ghost use Rattle.std.specs.Prelude.{◌≡◌, true, ℕ, ◌≤◌, length};
 ghost use Rattle.sheet_question.specs.Asked.{nothing_asked};
 ghost use Rattle.sheet_question.specs.Desk.{AskedOnDesk};
@@ -15,7 +17,7 @@ use sheet_question::{AskedDesk, QuestionTold, nothing_asked, read_question, seco
 use sheet_words::{TEXT_MOST, begins, piece_end};
 
 // What is said of a question text.
-#[derive(Drop)]
+#[derive(Clone, Copy)]
 pub enum LegsTold {
     // It has one leg, and all that it asks is on the first desk; on the second nothing is asked.
     One,
@@ -26,7 +28,7 @@ pub enum LegsTold {
 }
 
 // What is said, and the desks of the first leg and of the second; where the text is refused, nothing is asked on them.
-#[derive(Drop)]
+#[derive(Clone, Copy)]
 pub struct LegsReading {
     pub told: LegsTold,
     pub first: AskedDesk,
@@ -34,7 +36,7 @@ pub struct LegsReading {
 }
 
 // Where the first line `then` is.
-#[derive(Drop)]
+#[derive(Clone, Copy)]
 pub enum ThenLine {
     Nowhere,
     // It begins at this byte, and has this number.

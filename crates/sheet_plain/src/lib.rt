@@ -1,6 +1,8 @@
 // A question text put to a stored book and answered by the plain finder, all in memory: reach with the height, or
 // cannot; or the first refusal in the written order and whose it is. Any bytes are taken as each of the two. Nothing
 // is lent for writing.
+#![tactic(auto)]
+
 ghost use Rattle.std.specs.Prelude.{true};
 ghost use Rattle.book_sound.specs.Sound.{Sound};
 ghost use Rattle.finder_plain.specs.Finds.{FindsPlain};
@@ -16,7 +18,7 @@ use refusal::Refusal;
 use sheet_question::{AskedDesk, QuestionTold, read_question};
 
 // What is said of a question text.
-#[derive(Drop)]
+#[derive(Clone, Copy)]
 pub enum PlainTold {
     // A plan of this height works, and none that is lower.
     Reach(u8),

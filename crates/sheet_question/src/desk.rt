@@ -11,7 +11,7 @@ use refusal::Refusal;
 pub(crate) const LEARN: usize = ASKS_MOST * TABLE;
 
 // The line that may come next.
-#[derive(Drop)]
+#[derive(Clone, Copy)]
 pub enum Due {
     // The team.
     Team,
@@ -27,7 +27,7 @@ pub enum Due {
 
 // What is asked. Any caller may make one: that it is a question's is what a contract says of it
 // (`AskedOnDesk`).
-#[derive(Drop)]
+#[derive(Clone, Copy)]
 pub struct AskedDesk {
     // A bit for each post of the team, for each known setting, for each of those that is true, and for
     // each held setting.
@@ -42,7 +42,7 @@ pub struct AskedDesk {
 }
 
 // What becomes of a line.
-#[derive(Drop)]
+#[derive(Clone, Copy)]
 pub enum Taken {
     // It is taken, and this is due next.
     Next(Due),
@@ -51,7 +51,7 @@ pub enum Taken {
 }
 
 // The desk after a line; what it holds says nothing where the line is at fault.
-#[derive(Drop)]
+#[derive(Clone, Copy)]
 pub struct Turn {
     pub taken: Taken,
     pub desk: AskedDesk,

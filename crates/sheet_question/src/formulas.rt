@@ -12,7 +12,7 @@ use formula::Answer;
 use ground::{TABLE, copy};
 
 // What a line's formula is for, and so where its table goes.
-#[derive(Drop)]
+#[derive(Clone, Copy)]
 pub enum Place {
     // What is to be made.
     Make,

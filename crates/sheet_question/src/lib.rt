@@ -1,6 +1,8 @@
 // The lines of a question, `team` to `ask`, with `held` after `known`, and those of a second leg, which has neither
 // of the two: what they ask, or the first refusal, with its line. A text of any length and content is taken, with any
 // numbers of settings and posts; nothing is written to what a caller lends.
+#![tactic(auto)]
+
 mod desk;
 mod formulas;
 mod line;
@@ -26,7 +28,7 @@ use sheet_words::{TEXT_MOST, piece_end};
 pub const ASKS_MOST: usize = 4;
 
 // What is said of a question text.
-#[derive(Drop)]
+#[derive(Clone, Copy)]
 pub enum QuestionTold {
     // All that it asks is on the desk.
     Stated,
@@ -35,7 +37,7 @@ pub enum QuestionTold {
 }
 
 // What is said, and the desk; where the text is refused, nothing is asked on it.
-#[derive(Drop)]
+#[derive(Clone, Copy)]
 pub struct QuestionReading {
     pub told: QuestionTold,
     pub desk: AskedDesk,

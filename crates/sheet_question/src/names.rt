@@ -13,7 +13,7 @@ use refusal::Refusal;
 use sheet_words::{Marks, Naming, begins, marks_of};
 
 // What becomes of a line that is to name things.
-#[derive(Drop)]
+#[derive(Clone, Copy)]
 pub enum Named {
     // It names these, each once.
     As(Marks),

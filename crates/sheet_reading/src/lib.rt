@@ -1,5 +1,7 @@
 // A whole sheet: rules, and then a question. What it states, on a desk, or its first refusal, with its
 // line. A sheet of any length and content is taken, and nothing is written to what a caller lends.
+#![tactic(auto)]
+
 ghost use Rattle.std.specs.Prelude.{◌≡◌};
 ghost use Rattle.sheet_reading.specs.Sheet.{sized};
 ghost use Rattle.sheet_reading.specs.Desk.{OnDesk};
@@ -18,14 +20,14 @@ pub const SHEET_SETTINGS_MOST: usize = 5;
 
 // What a sheet of up to 5 settings states, each formula as its table. Any caller may make one: that it
 // is a sheet's is what a contract says of it (`OnDesk`).
-#[derive(Drop)]
+#[derive(Clone, Copy)]
 pub struct Desk {
     pub rules: RulesDesk,
     pub asked: AskedDesk,
 }
 
 // What is said of a whole sheet.
-#[derive(Drop)]
+#[derive(Clone, Copy)]
 pub enum SheetTold {
     // All of it is on the desk.
     Stated,
@@ -34,7 +36,7 @@ pub enum SheetTold {
 }
 
 // What is said, and the desk; beside a refusal it states the smallest size, 1 1, and nothing else.
-#[derive(Drop)]
+#[derive(Clone, Copy)]
 pub struct SheetReading {
     pub told: SheetTold,
     pub desk: Desk,

@@ -15,7 +15,7 @@ pub(crate) const SLOTS: usize = RIGHTS / TABLE;
 
 // The size and the rights. Any caller may make one: that it is a text's is what a contract says of it
 // (`RulesOnDesk`).
-#[derive(Drop)]
+#[derive(Clone, Copy)]
 pub struct RulesDesk {
     pub settings: u8,
     pub posts: u8,
@@ -25,7 +25,7 @@ pub struct RulesDesk {
 }
 
 // What becomes of a line of rules.
-#[derive(Drop)]
+#[derive(Clone, Copy)]
 pub enum Taken {
     // It is taken.
     Next,
@@ -34,7 +34,7 @@ pub enum Taken {
 }
 
 // The desk after a line; what it holds says nothing where the line is at fault.
-#[derive(Drop)]
+#[derive(Clone, Copy)]
 pub struct Turn {
     pub taken: Taken,
     pub desk: RulesDesk,

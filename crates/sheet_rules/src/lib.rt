@@ -2,6 +2,8 @@
 // alone in a text of rules, where lines that begin with `#` and empty lines are passed over. A text of any
 // length and content is taken: what its rules state, or its first refusal, with the line. Nothing is
 // written to what a caller lends.
+#![tactic(auto)]
+
 mod desk;
 mod line;
 mod rights;
@@ -26,7 +28,7 @@ use sheet_words::{TEXT_MOST, piece_end};
 const RULES_SETTINGS_MOST: u8 = ground::SETTINGS_MOST as u8;
 
 // What is said of the rules at the beginning of a text.
-#[derive(Drop)]
+#[derive(Clone, Copy)]
 pub enum RulesTold {
     // They end at byte `at`, and `lines` lines are before it, those that are passed over counted. What stands
     // there is no line of rules, or is what follows the last byte 10.
@@ -36,7 +38,7 @@ pub enum RulesTold {
 }
 
 // What is said, and the desk; beside a refusal it states the smallest size, 1 1, and no right.
-#[derive(Drop)]
+#[derive(Clone, Copy)]
 pub struct RulesReading {
     pub told: RulesTold,
     pub desk: RulesDesk,
@@ -144,7 +146,7 @@ pub fn rules_of(text: &[u8], passes: bool, most: u8) -> RulesReading
 }
 
 // What is said of a whole text of rules.
-#[derive(Drop)]
+#[derive(Clone, Copy)]
 pub enum WholeTold {
     // All of it is on the desk.
     Stated,
@@ -153,7 +155,7 @@ pub enum WholeTold {
 }
 
 // What is said, and the desk; beside a refusal it states the smallest size, 1 1, and no right.
-#[derive(Drop)]
+#[derive(Clone, Copy)]
 pub struct WholeReading {
     pub told: WholeTold,
     pub desk: RulesDesk,

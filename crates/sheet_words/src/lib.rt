@@ -1,6 +1,8 @@
 // Pieces of a text between marks: the lines of a sheet, and the words of a line. And the words that
 // name settings or posts by their signs. Every function takes any text; nothing is refused, and nothing
 // is written to what a caller lends.
+#![tactic(auto)]
+
 mod names;
 
 ghost use Rattle.std.specs.Prelude.{◌≡◌};

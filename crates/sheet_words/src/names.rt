@@ -61,7 +61,7 @@ const MARKS_MOST: u8 = 8;
 
 // What some words name: a bit for each thing, a bit for each without `~`, and whether one is named
 // twice.
-#[derive(Drop)]
+#[derive(Clone, Copy)]
 pub struct Marks {
     pub named: u8,
     pub values: u8,
@@ -97,7 +97,7 @@ fn mark(marks: Marks, i: u8, value: bool) -> Marks
 }
 
 // What becomes of words that should be names.
-#[derive(Drop)]
+#[derive(Clone, Copy)]
 pub enum Naming {
     // One of them is no name; or more things could be named than a byte can mark.
     Stray,

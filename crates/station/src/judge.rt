@@ -10,7 +10,7 @@ use knowledge_acts::{Act, Named};
 use refusal::Refusal;
 
 // What is said of a record.
-#[derive(Drop)]
+#[derive(Clone, Copy)]
 pub enum Judged {
     // The rules allow its act, and it showed what was recorded.
     Faultless,

@@ -3,6 +3,8 @@
 // book, a starting valuation and a shift of any content are taken. The replay is refused with the book's 6 to
 // 9 or with 26; an act at fault gets 27, 28 or 29, with what was reached before it. Nothing that is lent is
 // written to.
+#![tactic(auto)]
+
 mod act;
 mod judge;
 mod record;

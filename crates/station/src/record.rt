@@ -7,7 +7,7 @@ use crate::act::after;
 use ground::Present;
 
 // Where a replay stands.
-#[derive(Drop)]
+#[derive(Clone, Copy)]
 pub struct Running {
     // The settings as the acts so far have left them.
     pub present: Present,

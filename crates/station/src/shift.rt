@@ -14,7 +14,7 @@ use refusal::Refusal;
 const RECORD: usize = 2;
 
 // What comes of a shift.
-#[derive(Drop)]
+#[derive(Clone, Copy)]
 pub enum Replayed {
     // Every act was done: where that leaves the station.
     Whole(Running),

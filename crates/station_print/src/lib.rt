@@ -3,6 +3,8 @@
 // as the book, as START and as the shift, which may be text or bytes. The text goes to the start of a lent
 // room, as far as it fits. Refused are an unsound book, a START that does not name each setting once, and a
 // shift that cannot be read or run; a refusal leaves the room as it was.
+#![tactic(auto)]
+
 mod fault;
 mod settings;
 mod start;
@@ -33,7 +35,7 @@ pub const REPLAY_MOST: usize = 151;
 const RECORD: usize = 2;
 
 // What is said of a shift.
-#[derive(Drop)]
+#[derive(Clone, Copy)]
 pub enum ReplayTold {
     // Every act was done. The text has this many bytes; the room holds as many of them as fit.
     Done(usize),

@@ -9,7 +9,7 @@ use ground::bit_of;
 use sheet_words::{Naming, marks_of};
 
 // What START says.
-#[derive(Drop)]
+#[derive(Clone, Copy)]
 pub enum StartTold {
     // The settings that the shift begins on: bit i is setting i.
     Settings(u8),

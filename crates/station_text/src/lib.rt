@@ -1,6 +1,8 @@
 // A recorded shift as text, a line an act in the sheet's words, and as bytes, two a record: each to the
 // other. Any bytes are taken as either. What is given goes to the start of a lent room, as far as it fits;
 // a refusal leaves the room as it was. Whether a book allows the shift is for station.
+#![tactic(auto)]
+
 mod bytes;
 mod line;
 mod record;
@@ -29,7 +31,7 @@ const LINE_LEAST: usize = 10;
 pub const READ_MOST: usize = RECORD * (SHIFT_MOST / LINE_LEAST);
 
 // What is said of a shift that is read or printed.
-#[derive(Drop)]
+#[derive(Clone, Copy)]
 pub enum ShiftTold {
     // The other form of it has this many bytes. The room holds as many of them as fit.
     Read(usize),

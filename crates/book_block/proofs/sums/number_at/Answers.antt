@@ -1,0 +1,12 @@
+-- `book_block::sums::number_at` meets its contract: each of the two bytes is one that `byte_at` found.
+use Rattle.std.proofs.Common.{◌+◌, ◌*◌, sym, ◌∙◌, ap₂, get_or-drop, rules}
+use Rattle.book_block.specs.Check.{number16}
+use Rattle.book_block.proofs.sums.number_at.Goals as goal
+
+pub returns : goal.returns
+unfolding number16
+returns c =
+    let a = c.args in
+    ap₂ (λ x y. x + 256 * y)
+    (c.byte_at-low.ensures ∙ sym (get_or-drop a.from a.bytes.now a.i 0))
+    (c.byte_at-high.ensures ∙ sym (get_or-drop a.from a.bytes.now (a.i + 1) 0))

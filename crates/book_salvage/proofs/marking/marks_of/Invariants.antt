@@ -1,0 +1,13 @@
+-- `marks_of` meets its contract: after i turns there is a mark for each of i settings whose block does not stand.
+use borrow.Author.Rules.{rules}
+use mathlib.Core.Path.{◌≡◌, subst}
+use Prim.Native.Nat.{◌≤◌, ◌-◌}
+use native.Mathlib.Omega.{arith}
+use Rattle.book_salvage.proofs.MarkLaws.{MarkedTo, marked-none, marked_more, marked_all}
+use Rattle.book_salvage.proofs.marking.marks_of.Given as goal
+
+abbrev pub invariant-loop-i : goal.invariant-loop-i
+invariant-loop-i l = (l.i ≤ l.n) × MarkedTo l.book l.n l.m l.i l.marks
+
+abbrev pub decreases-loop-i : goal.decreases-loop-i
+decreases-loop-i l = l.n - l.i

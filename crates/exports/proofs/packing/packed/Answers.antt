@@ -1,0 +1,17 @@
+-- `packed` meets its contract: its three numbers are the refusal's, and the number is a byte.
+use borrow.Author.Rules.{rules}
+use mathlib.Core.Path.{sym, ap, subst, ◌∙◌}
+use Prim.Native.Nat.{ℕ, ◌+◌, ◌*◌, ◌%◌, ◌^◌, ◌<◌}
+use Rattle.refusal.specs.declared.Numbers.{Numbers}
+use Rattle.refusal.proofs.NumberLaws.{number_small}
+use Rattle.exports.specs.Packed.{packed}
+use Rattle.exports.proofs.packing.packed.Goals as goal
+
+pub joined-requires : goal.joined-requires
+joined-requires c = subst (λ (x : Numbers). x.number < 256) (sym c.numbers-told.ensures) (number_small c.args.why)
+
+pub returns : goal.returns
+unfolding packed
+returns c =
+    c.joined.ensures
+    ∙ ap (λ (x : Numbers). x.second * 2 ^ 40 + x.number * 2 ^ 32 + x.place % 2 ^ 32) c.numbers-told.ensures

@@ -1,0 +1,36 @@
+-- `pj_replay` meets its contract: the answer is the replay's, and the two lent numbers are what it reached.
+use mathlib.Core.Path.{sym, ap, ◌∙◌}
+use Rattle.station.specs.declared.shift.Replayed.{Replayed}
+use Rattle.exports.specs.Returned.{replay_returned, reached_after}
+use borrow.Author.Rules.{rules}
+use Rattle.exports.proofs.pj_replay.Goals as goal
+
+pub returns-in-Whole : goal.returns-in-Whole
+returns-in-Whole c =
+    let is = c.in-Whole.is in
+    record {
+      answer = c.replay.result;
+      replays = c.replay.ensures;
+      result_is = sym (ap replay_returned is);
+      new_is = c.reached_as.ensures ∙ sym (ap (λ x. reached_after x c.args.reached.now) is);
+    }
+
+pub returns-in-Stopped : goal.returns-in-Stopped
+returns-in-Stopped c =
+    let is = c.in-Stopped.is in
+    record {
+      answer = c.replay.result;
+      replays = c.replay.ensures;
+      result_is = c.packed.ensures ∙ sym (ap replay_returned is);
+      new_is = c.reached_as-in-Stopped.ensures ∙ sym (ap (λ x. reached_after x c.args.reached.now) is);
+    }
+
+pub returns-in-Refused : goal.returns-in-Refused
+returns-in-Refused c =
+    let is = c.in-Refused.is in
+    record {
+      answer = c.replay.result;
+      replays = c.replay.ensures;
+      result_is = c.packed-in-Refused.ensures ∙ sym (ap replay_returned is);
+      new_is = sym (ap (λ x. reached_after x c.args.reached.now) is);
+    }

@@ -1,0 +1,14 @@
+-- `seen` meets its contract: a value that was marked stays marked.
+use borrow.Author.Rules.{rules}
+use Prim.Native.Nat.{◌-◌, ◌≤◌}
+use mathlib.Core.Path.{refl}
+use native.Mathlib.Omega.{arith}
+use Rattle.finder_plain.specs.Gaps.{SeenBelow}
+use Rattle.finder_plain.proofs.GapLaws.{seen_none, seen_more, seen_all}
+use Rattle.finder_plain.proofs.gap.seen.Given as goal
+
+abbrev pub invariant-loop-k : goal.invariant-loop-k
+invariant-loop-k l = (l.k ≤ l.count) × SeenBelow l.entries l.k l.found
+
+abbrev pub decreases-loop-k : goal.decreases-loop-k
+decreases-loop-k l = l.count - l.k

@@ -1,0 +1,15 @@
+-- `finder_ranks::marks::mark` meets its contract. The loop has marked the states below seven times the rest.
+use borrow.Author.Rules.{rules}
+use mathlib.Core.Path.{◌≡◌, ap, ◌∙◌}
+use Prim.Native.Nat.{◌+◌, ◌*◌, ◌^◌, ◌≤◌, ◌-◌}
+use native.Mathlib.Omega.{arith}
+use native.Mathlib.Nat.{zero-mul, min-eq_left}
+use Rattle.finder_ranks.specs.Marks.{Stored, mark_at}
+use Rattle.finder_ranks.proofs.MarkLaws.{stored_none, stored_both, marks-all, sevens}
+use Rattle.finder_ranks.proofs.marks.mark.Given as goal
+
+abbrev pub invariant-loop-rest : goal.invariant-loop-rest
+invariant-loop-rest l = (l.rest ≤ l.rests) × Stored (mark_at l.n l.made l.learnt) 0 (l.rest * 7) l.initial.ranks l.ranks
+
+abbrev pub decreases-loop-rest : goal.decreases-loop-rest
+decreases-loop-rest l = l.rests - l.rest

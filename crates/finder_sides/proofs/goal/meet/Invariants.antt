@@ -1,0 +1,15 @@
+-- `finder_sides::goal::meet` meets its contract. The loop has stored the entries below the side.
+use borrow.Author.Rules.{rules}
+use mathlib.Core.Path.{◌≡◌, refl, ◌∙◌}
+use Prim.Native.Nat.{ℕ, ◌≤◌, ◌<◌, ◌-◌}
+use native.Mathlib.Omega.{arith}
+use lib.ListN.{length, length-set, get_or}
+use Rattle.finder_sides.specs.Inner.{both_of}
+use Rattle.finder_sides.proofs.ListLaws.{each_more}
+use Rattle.finder_sides.proofs.goal.meet.Given as goal
+
+abbrev pub invariant-loop-side : goal.invariant-loop-side
+invariant-loop-side l = (l.side ≤ 2187) × (length l.table ≡ 2187) × ((s : ℕ) → s < l.side → get_or l.table s 0 ≡ both_of (get_or l.a s 0) (get_or l.b s 0))
+
+abbrev pub decreases-loop-side : goal.decreases-loop-side
+decreases-loop-side l = 2187 - l.side

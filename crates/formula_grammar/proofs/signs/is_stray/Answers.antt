@@ -1,0 +1,12 @@
+-- `is_stray` meets its contract: no letter and no sign.
+use mathlib.Core.Path.{sym, ap, ◌∙◌}
+use mathlib.Core.Bool.{not}
+use Rattle.formula_grammar.proofs.ScanLaws.{letter-not_stray, sign_not_stray}
+use borrow.Author.Rules.{rules}
+use Rattle.formula_grammar.proofs.signs.is_stray.Goals as goal
+
+pub returns-then-is_letter : goal.returns-then-is_letter
+returns-then-is_letter c = letter-not_stray c.args.c (sym c.is_letter.ensures ∙ c.if-is_letter.true)
+
+pub returns : goal.returns
+returns c = ap not c.is_sign.ensures ∙ sign_not_stray c.args.c (sym c.is_letter.ensures ∙ c.if-is_letter.false)

@@ -1,0 +1,15 @@
+-- `Truths::bytes` meets its contract. The loop has stored the first j bytes.
+use borrow.Author.Rules.{rules}
+use Prim.Native.Nat.{ℕ, ◌-◌, ◌<◌}
+use mathlib.Core.Path.{◌≡◌, refl, ◌∙◌}
+use lib.ListN.{length, get_or, length-set}
+use native.Mathlib.Omega.{arith}
+use Rattle.formula_table.specs.Two.{words_byte}
+use Rattle.formula_table.proofs.TwoWords.{stored}
+use Rattle.formula_table.proofs.Truths.bytes.Given as goal
+
+abbrev pub invariant-loop-j : goal.invariant-loop-j
+invariant-loop-j l = (length l.table ≡ 16) × ((k : ℕ) → k < l.j → get_or l.table k 0 ≡ words_byte l.self k)
+
+abbrev pub decreases-loop-j : goal.decreases-loop-j
+decreases-loop-j l = 16 - l.j

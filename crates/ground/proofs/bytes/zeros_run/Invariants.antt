@@ -1,0 +1,15 @@
+-- `zeros_run` meets its contract: after i turns i zero bytes stand in the room.
+use borrow.Author.Rules.{rules}
+use mathlib.Core.Path.{◌≡◌, refl}
+use Prim.Native.Nat.{◌≤◌, ◌-◌}
+use native.Mathlib.Omega.{arith}
+use lib.ListN.{length, take, replicate, length-set, length-replicate, get_or-replicate}
+use lib.Seq.{sets}
+use Rattle.ground.proofs.Lists.{write_step, write_done}
+use Rattle.ground.proofs.bytes.zeros_run.Given as goal
+
+abbrev pub invariant-loop-i : goal.invariant-loop-i
+invariant-loop-i l = (l.i ≤ l.count) × (length l.room ≡ length l.initial.room) × (l.room ≡ sets l.initial.room l.to (take l.i (replicate l.count 0)))
+
+abbrev pub decreases-loop-i : goal.decreases-loop-i
+decreases-loop-i l = l.count - l.i

@@ -1,0 +1,8 @@
+-- `peek` meets its contract: past the end `get_or` gives the 0 that it is handed.
+use mathlib.Core.Path.{sym}
+use lib.ListN.{get_or-eq_default}
+use borrow.Author.Rules.{rules}
+use Rattle.ground.proofs.peek.Goals as goal
+
+pub returns-else-at-bytes : goal.returns-else-at-bytes
+returns-else-at-bytes c = sym (get_or-eq_default c.args.bytes.now 0 c.if-at-bytes.false)

@@ -1,0 +1,9 @@
+-- `main` lends a room of its type's length.
+use mathlib.Core.Path.{sym}
+use Prim.Native.Nat.{ℕ}
+use lib.ListN.{length-replicate}
+use borrow.Author.Rules.{rules}
+use Rattle.program_shift.proofs.main.Goals as goal
+
+pub slice_bounds-make_named-end : goal.slice_bounds-make_named-end
+slice_bounds-make_named-end c = sym (length-replicate {A = ℕ} 2097153 0)

@@ -1,0 +1,17 @@
+-- `print_by` hands out no byte that is not there: a text that is printed fits its room.
+use mathlib.Core.Path.{sym}
+use native.Mathlib.Omega.{arith}
+use lib.Seq.{length-take-le}
+use Rattle.program_shift_text.proofs.Fits.{print_most}
+use borrow.Author.Rules.{rules}
+use Rattle.program_shift_text.proofs.print_by.Goals as goal
+
+pub slice_bounds-deliver-end : goal.slice_bounds-deliver-end
+slice_bounds-deliver-end c =
+    let most = print_most c.args.shift.now _ _ _ c.print.ensures _ c.in-Read.is in
+    omega (arith, most, c.requires, c.print.kept.1.0)
+
+pub slice_bounds-deliver-end-in-Read : goal.slice_bounds-deliver-end-in-Read
+slice_bounds-deliver-end-in-Read c =
+    let most = print_most c.args.shift.now _ _ _ c.print.ensures _ c.in-Read.is in
+    sym (length-take-le _ _ (omega (arith, most, c.requires, c.print.kept.1.0)))

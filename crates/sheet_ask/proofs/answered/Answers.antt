@@ -1,0 +1,12 @@
+-- `answered` meets its contract: what the finder answered is printed, and it refuses 13 alone.
+use Prim.Native.Nat.{ℕ}
+use lib.ListN.{length-replicate}
+use Rattle.sheet_ask.proofs.FoundLaws.{found-readable, found-told}
+use borrow.Author.Rules.{rules}
+use Rattle.sheet_ask.proofs.answered.Goals as goal
+
+pub tell-requires : goal.tell-requires
+tell-requires c = found-readable c.requires.1.2 _ _ _ _ _ c.find-answer.ensures
+
+pub returns : goal.returns
+returns c = λ n m v. found-told v _ _ _ _ _ c.find-answer.ensures _ _ _ (length-replicate {A = ℕ} 32640 0) c.tell.ensures

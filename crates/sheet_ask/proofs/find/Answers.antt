@@ -1,0 +1,14 @@
+-- `find` meets its contract: what is on the desk is handed to the finder as it is.
+use mathlib.Core.Path.{sym}
+use native.Mathlib.Omega.{arith}
+use lib.Seq.{length-take-le}
+use Rattle.sheet_ask.specs.Inner.{learn_in}
+use borrow.Author.Rules.{rules}
+use Rattle.sheet_ask.proofs.find.Goals as goal
+
+pub slice_bounds-find-end-2 : goal.slice_bounds-find-end-2
+slice_bounds-find-end-2 c = sym (length-take-le _ _ (omega (arith, c.requires.0, c.requires.1)))
+
+pub returns : goal.returns
+unfolding learn_in
+returns c = c.find.ensures

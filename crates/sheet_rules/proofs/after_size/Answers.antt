@@ -1,0 +1,149 @@
+-- `after_size` meets its contract: what is left from `at` on is what was to be read from the start.
+use mathlib.Core.Path.{◌≡◌, refl, sym, ◌∙◌}
+use Prim.Native.Nat.{suc, ◌+◌, ◌-◌, ◌≤◌}
+use native.Mathlib.Omega.{arith}
+use lib.ListN.{length, drop}
+use borrow.Author.Tests.{not-true, not-false}
+use Rattle.ground.proofs.Bools.{true→T}
+use Rattle.sheet_words.specs.Words.{split, newline}
+use Rattle.sheet_words.proofs.Pieces.{part, piece_is}
+use Rattle.sheet_rules.specs.Rules.{Rules}
+use Rattle.sheet_rules.specs.Desk.{OnDesk}
+use Rattle.sheet_rules.specs.Steps.{line_step}
+use Rattle.sheet_rules.specs.Reading.{rules_from}
+use Rattle.sheet_rules.proofs.Turns.{faulted_by, went_on_by}
+use Rattle.sheet_rules.proofs.RuleTurns.{of_rules}
+use Rattle.sheet_rules.proofs.ReadLaws.{rest-ends, rest-stops, rest_goes_on, rest-next, refused-is, upto_is}
+use Rattle.sheet_rules.proofs.after_size.Goals as goal
+
+pub loop-desk-init : goal.loop-desk-init
+loop-desk-init c =
+    let h = c.requires in
+    (h.1, h.2, h.3, h.4, λ rules o. (rules, o, refl))
+
+pub upto-requires : goal.upto-requires
+upto-requires c = c.loop-desk.invariant.1
+
+pub returns-then-text-end : goal.returns-then-text-end
+returns-then-text-end c =
+    let a = c.args in
+    let s = a.text.now in
+    let l = c.loop-desk in
+    let end = c.piece_end-end in
+    let p = piece_is s l.at newline end.result l.invariant.0 end.ensures in
+    λ rules h.
+    let z = l.invariant.4 rules h in
+    upto_is s l.desk c.upto.result.desk z.0 l.at (l.number - 1) l.number
+    (sym z.2 ∙ rest-ends s l.at end.result l.number a.passes p z.0 c.if-text-end.true)
+    c.upto.ensures l.invariant.0 (omega (arith, l.invariant.1)) z.1
+
+pub slice_bounds-line-count : goal.slice_bounds-line-count
+slice_bounds-line-count c =
+    let a = c.args in
+    let s = a.text.now in
+    let l = c.loop-desk in
+    let end = c.piece_end-end in
+    let p = piece_is s l.at newline end.result l.invariant.0 end.ensures in
+    p.from
+
+pub upto-requires-then-not-is_of_rules : goal.upto-requires-then-not-is_of_rules
+upto-requires-then-not-is_of_rules c = c.loop-desk.invariant.1
+
+pub returns-then-not-is_of_rules : goal.returns-then-not-is_of_rules
+returns-then-not-is_of_rules c =
+    let a = c.args in
+    let s = a.text.now in
+    let l = c.loop-desk in
+    let end = c.piece_end-end in
+    let p = piece_is s l.at newline end.result l.invariant.0 end.ensures in
+    let is = c.is_of_rules.ensures in
+    λ rules h.
+    let z = l.invariant.4 rules h in
+    upto_is s l.desk c.upto-then-not-is_of_rules.result.desk z.0 l.at (l.number - 1) l.number
+    (sym z.2 ∙ rest-stops s l.at end.result l.number a.passes p z.0 c.if-text-end.false
+    (of_rules a.passes z.0 l.desk z.1 (part s l.at end.result) l.number (sym is ∙ not-true _ c.if-not-is_of_rules.true)))
+    c.upto-then-not-is_of_rules.ensures l.invariant.0 (omega (arith, l.invariant.1)) z.1
+
+pub rules_line-turn-requires : goal.rules_line-turn-requires
+rules_line-turn-requires c =
+    let is = c.is_of_rules.ensures in
+    let h = c.requires.0 in
+    let z = c.loop-desk.invariant.4 h.0 h.1 in
+    ((z.0, z.1), true→T (sym is ∙ not-false _ c.if-not-is_of_rules.false))
+
+pub enum_known-taken : goal.enum_known-taken
+enum_known-taken c = c.in-No.keys1
+
+pub returns-in-No : goal.returns-in-No
+returns-in-No c =
+    let line-point : tie.After-rules-line invariant-loop decreases-loop = search c in
+    let no2 : tie.Else2 invariant-loop decreases-loop = search line-point in
+    let of-rules-point : tie.After-is-of-rules invariant-loop decreases-loop = search no2 in
+    let no1 : tie.Else1 invariant-loop decreases-loop = search of-rules-point in
+    let piece-end-point : tie.After-piece-end invariant-loop decreases-loop = search no1 in
+    let at-loop : tie.At-loop invariant-loop decreases-loop = search piece-end-point in
+    let start : tie.Start invariant-loop decreases-loop = search at-loop in
+    let a = start.args in
+    let s = a.text.now in
+    let l = at-loop.loop in
+    let end = piece-end-point.piece-end in
+    let p = piece_is s l.at newline end.result l.inv.0 end.ensures in
+    let is = of-rules-point.is-of-rules.ensures in
+    let turn = line-point.rules-line in
+    λ rules h.
+    let z = l.inv.4 rules h in
+    let line = part s l.at end.result in
+    let w = faulted_by (line_step a.passes l.number z.0 line) turn.result.desk c.in-No.is (turn.ensures z.0 z.1) in
+    refused-is s c.refused.result.desk c.in-No.why l.number
+    (sym z.2 ∙ rest_goes_on s l.at end.result l.number a.passes p z.0 no1.if1.left
+    (of_rules a.passes z.0 l.desk z.1 line l.number (sym is ∙ not-false _ no2.if2.left)) w)
+    c.refused.ensures
+
+pub enum_told-1 : goal.enum_told-1
+enum_told-1 c = c.in-No.keys2
+
+pub overflow_add-at : goal.overflow_add-at
+overflow_add-at c = omega (arith, c.if-text-end.false)
+
+pub overflow_add-number : goal.overflow_add-number
+overflow_add-number c =
+    let l = c.loop-desk in
+    omega (arith, l.invariant.0, l.invariant.2, l.invariant.3)
+
+pub loop-desk-smaller : goal.loop-desk-smaller
+loop-desk-smaller c =
+    let a = c.args in
+    let s = a.text.now in
+    let l = c.loop-desk in
+    let end = c.piece_end-end in
+    let p = piece_is s l.at newline end.result l.invariant.0 end.ensures in
+    omega (arith, p.from, c.if-text-end.false)
+
+pub loop-desk-preserved : goal.loop-desk-preserved
+loop-desk-preserved c =
+    let line-point : tie.After-rules-line invariant-loop decreases-loop = search c in
+    let no2 : tie.Else2 invariant-loop decreases-loop = search line-point in
+    let of-rules-point : tie.After-is-of-rules invariant-loop decreases-loop = search no2 in
+    let no1 : tie.Else1 invariant-loop decreases-loop = search of-rules-point in
+    let piece-end-point : tie.After-piece-end invariant-loop decreases-loop = search no1 in
+    let at-loop : tie.At-loop invariant-loop decreases-loop = search piece-end-point in
+    let start : tie.Start invariant-loop decreases-loop = search at-loop in
+    let a = start.args in
+    let s = a.text.now in
+    let l = at-loop.loop in
+    let end = piece-end-point.piece-end in
+    let p = piece_is s l.at newline end.result l.inv.0 end.ensures in
+    let is = of-rules-point.is-of-rules.ensures in
+    let turn = line-point.rules-line in
+    let more = no1.if1.left in (
+      omega (arith, more),
+      omega arith,
+      omega (arith, p.from, l.inv.2),
+      l.inv.3,
+      λ rules h.
+          let z = l.inv.4 rules h in
+          let line = part s l.at end.result in
+          let w = went_on_by (line_step a.passes l.number z.0 line) turn.result.desk c.in-Next.is (turn.ensures z.0 z.1) in
+          let yes = of_rules a.passes z.0 l.desk z.1 line l.number (sym is ∙ not-false _ no2.if2.left) in
+          (w.0, w.2, rest-next s l.at end.result l.number a.passes p z.0 (l.number + 1) (end.result + 1) (omega arith) (omega arith) more yes w.1 z.2),
+    )

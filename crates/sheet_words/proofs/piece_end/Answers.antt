@@ -1,0 +1,30 @@
+-- `piece_end` meets its contract: the piece that begins at i ends where the one that begins at `at` does.
+use mathlib.Core.Path.{◌≡◌, refl, sym, ◌∙◌}
+use Prim.Native.Nat.{◌-◌}
+use native.Mathlib.Numerals.{add-one}
+use native.Mathlib.Omega.{arith}
+use lib.ListN.{length}
+use Rattle.sheet_words.specs.Words.{piece_end}
+use Rattle.sheet_words.proofs.Pieces.{end_past, end_mark, end_other}
+use Rattle.sheet_words.proofs.piece_end.Goals as goal
+
+pub loop-i-init : goal.loop-i-init
+loop-i-init c = refl
+
+pub returns-then-text-i : goal.returns-then-text-i
+returns-then-text-i c =
+    let a = c.args in
+    let r = c.loop-i in
+    sym (end_mark a.text.now r.i a.mark (omega arith) c.if-text-i.true) ∙ r.invariant
+
+pub loop-i-preserved : goal.loop-i-preserved
+loop-i-preserved c =
+    let a = c.args in
+    let r = c.loop-i in
+    rw add-one (sym (end_other a.text.now r.i a.mark (omega arith) c.if-text-i.false) ∙ r.invariant)
+
+pub returns : goal.returns
+returns c =
+    let a = c.args in
+    let r = c.loop-i in
+    sym (end_past a.text.now r.i a.mark (omega arith)) ∙ r.invariant
