@@ -8,7 +8,7 @@ use Rattle.program_salvage.specs.Closed.{closed_name}
 use Rattle.program_salvage.proofs.name.Goals as goal
 
 pub returns-then-not-closed : goal.returns-then-not-closed
-returns-then-not-closed c = wrote_as (ap (λ (b : Bool). closed_name b c.args.i) (sym (not-true c.args.closed c.if-not-closed.true))) wrote_none
+returns-then-not-closed c = wrote_as (ap (λ (b : Bool). closed_name b c.args.i) (sym (c.if-not-closed.true))) wrote_none
 
 pub returns : goal.returns
-returns c = wrote_as (ap (λ (b : Bool). closed_name b c.args.i) (sym (not-false c.args.closed c.if-not-closed.false))) (wrote_then c.put-to.ensures c.put.ensures)
+returns c = wrote_as (ap (λ (b : Bool). closed_name b c.args.i) (sym (c.if-not-closed.false))) (wrote_then c.put-to.ensures c.put.ensures)

@@ -61,7 +61,7 @@ returns-then-not-is_of_rules c =
     let z = l.invariant.4 rules h in
     upto_is s l.desk c.upto-then-not-is_of_rules.result.desk z.0 l.at (l.number - 1) l.number
     (sym z.2 ∙ rest-stops s l.at end.result l.number a.passes p z.0 c.if-text-end.false
-    (of_rules a.passes z.0 l.desk z.1 (part s l.at end.result) l.number (sym is ∙ not-true _ c.if-not-is_of_rules.true)))
+    (of_rules a.passes z.0 l.desk z.1 (part s l.at end.result) l.number (sym is ∙ c.if-not-is_of_rules.true)))
     c.upto-then-not-is_of_rules.ensures l.invariant.0 (omega (arith, l.invariant.1)) z.1
 
 pub rules_line-turn-requires : goal.rules_line-turn-requires
@@ -69,7 +69,7 @@ rules_line-turn-requires c =
     let is = c.is_of_rules.ensures in
     let h = c.requires.0 in
     let z = c.loop-desk.invariant.4 h.0 h.1 in
-    ((z.0, z.1), true→T (sym is ∙ not-false _ c.if-not-is_of_rules.false))
+    ((z.0, z.1), true→T (sym is ∙ c.if-not-is_of_rules.false))
 
 pub enum_known-taken : goal.enum_known-taken
 enum_known-taken c = c.in-No.keys1

@@ -32,7 +32,7 @@ returns-in-Do c =
     let ranks = c.args.ranks.now in
     let k = c.args.k in
     λ S t. (
-    let x = subst (Tries S ranks k (family loop.pair)) c.in-Do.is (c.step_of_lem.ensures S t) in
+    let x = subst (Tries S ranks k (family loop.pair)) c.in-Do.is (c.step_of.ensures S t) in
     smallest t k c.requires.1 loop.pair x.0 c.in-Do.act c.loop-pair-test.true (loop.invariant.1 S t) x.1 x.2 x.3)
 
 pub enum_told-1 : goal.enum_told-1
@@ -46,7 +46,7 @@ loop-pair-preserved c =
       omega arith,
       λ S t.
           none_more t k c.requires.1 loop.pair (loop.invariant.1 S t)
-          (subst (Tries S ranks k (family loop.pair)) c.in-Stop.is (c.step_of_lem.ensures S t)),
+          (subst (Tries S ranks k (family loop.pair)) c.in-Stop.is (c.step_of.ensures S t)),
     )
 
 pub returns : goal.returns

@@ -71,7 +71,7 @@ returns-then-not-passed_over c =
     (ap (λ (t : _). from_team x.settings x.posts l.number (split newline t) team) (tail s (end + 1))
     ∙ ap (λ (k : ℕ). from_team x.settings x.posts l.number (split newline (drop k s)) team) (add-one end)
     ∙ sym (second-begins x.settings x.posts s l.at end l.number p c.if-text-end.false
-    (sym c.passed_over.ensures ∙ not-true _ c.if-not-passed_over.true)) ∙ l.invariant.2)
+    (sym c.passed_over.ensures ∙ c.if-not-passed_over.true)) ∙ l.invariant.2)
     c.from_team.ensures
 
 pub overflow_add-at : goal.overflow_add-at
@@ -100,5 +100,5 @@ loop-before-preserved c =
       omega (arith, p.from, l.invariant.1),
       ap (λ (k : ℕ). second_from x.settings x.posts k (split newline (drop (end + 1) s))) (add-one l.number)
           ∙ ap (λ (k : ℕ). second_from x.settings x.posts (suc l.number) (split newline (drop k s))) (add-one end)
-          ∙ sym (second_passes x.settings x.posts s l.at end l.number p more (sym c.passed_over.ensures ∙ not-false _ c.if-not-passed_over.false)) ∙ l.invariant.2,
+          ∙ sym (second_passes x.settings x.posts s l.at end l.number p more (sym c.passed_over.ensures ∙ c.if-not-passed_over.false)) ∙ l.invariant.2,
     )
