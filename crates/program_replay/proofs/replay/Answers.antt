@@ -11,7 +11,7 @@ pub slice_bounds-out-end : goal.slice_bounds-out-end
 slice_bounds-out-end c =
     let printed-fits : text_bytes c.print-told.result ≤ 151 =
         let a = c.args in
-    printed-most a.book.now a.start.now a.shift.now (λ i. (c.type_inv.shift i)) _ _ _ c.print-told.ensures in
+    printed-most a.book.now a.start.now a.shift.now (λ i. (omega (arith, c.type_inv.shift i))) _ _ _ c.print-told.ensures in
     let most = subst (λ (r : ReplayTold). text_bytes r ≤ 151) c.in-Done.is (printed-fits) in
     search rules
 
@@ -19,7 +19,7 @@ pub slice_bounds-deliver-end : goal.slice_bounds-deliver-end
 slice_bounds-deliver-end c =
     let printed-fits : text_bytes c.print-told.result ≤ 151 =
         let a = c.args in
-    printed-most a.book.now a.start.now a.shift.now (λ i. (c.type_inv.shift i)) _ _ _ c.print-told.ensures in
+    printed-most a.book.now a.start.now a.shift.now (λ i. (omega (arith, c.type_inv.shift i))) _ _ _ c.print-told.ensures in
     let most = subst (λ (r : ReplayTold). text_bytes r ≤ 151) c.in-Done.is (printed-fits) in
     sym (length-take-le _ _ (search rules))
 
@@ -27,7 +27,7 @@ pub slice_bounds-out-end-in-Stopped : goal.slice_bounds-out-end-in-Stopped
 slice_bounds-out-end-in-Stopped c =
     let printed-fits : text_bytes c.print-told.result ≤ 151 =
         let a = c.args in
-    printed-most a.book.now a.start.now a.shift.now (λ i. (c.type_inv.shift i)) _ _ _ c.print-told.ensures in
+    printed-most a.book.now a.start.now a.shift.now (λ i. (omega (arith, c.type_inv.shift i))) _ _ _ c.print-told.ensures in
     let most = subst (λ (r : ReplayTold). text_bytes r ≤ 151) c.in-Stopped.is (printed-fits) in
     search rules
 
@@ -35,6 +35,6 @@ pub slice_bounds-stop-end : goal.slice_bounds-stop-end
 slice_bounds-stop-end c =
     let printed-fits : text_bytes c.print-told.result ≤ 151 =
         let a = c.args in
-    printed-most a.book.now a.start.now a.shift.now (λ i. (c.type_inv.shift i)) _ _ _ c.print-told.ensures in
+    printed-most a.book.now a.start.now a.shift.now (λ i. (omega (arith, c.type_inv.shift i))) _ _ _ c.print-told.ensures in
     let most = subst (λ (r : ReplayTold). text_bytes r ≤ 151) c.in-Stopped.is (printed-fits) in
     sym (length-take-le _ _ (search rules))

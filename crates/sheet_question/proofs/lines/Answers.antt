@@ -48,9 +48,6 @@ any_line-turn-requires c =
     let z = c.loop-due.invariant.2 h.5.0 h.5.1 in
     (h.1, h.2, (z.0, z.1))
 
-pub enum_known-taken : goal.enum_known-taken
-enum_known-taken c = c.in-No.keys1
-
 pub returns-in-No : goal.returns-in-No
 returns-in-No c =
     let x = c.args in
@@ -67,9 +64,6 @@ returns-in-No c =
     refused-is n c.refused.result.desk c.in-No.why l.number h.0 h.1
     (sym z.2 ∙ rest-faults x.passes n x.posts s l.at end.result l.number l.due z.0 p c.if-text-end.false w)
     c.refused.ensures
-
-pub enum_known-taken-in-Next-1 : goal.enum_known-taken-in-Next-1
-enum_known-taken-in-Next-1 c = c.in-No.keys2
 
 pub overflow_add-at : goal.overflow_add-at
 overflow_add-at c = omega (arith, c.if-text-end.false)

@@ -71,9 +71,6 @@ rules_line-turn-requires c =
     let z = c.loop-desk.invariant.4 h.0 h.1 in
     ((z.0, z.1), true→T (sym is ∙ c.if-not-is_of_rules.false))
 
-pub enum_known-taken : goal.enum_known-taken
-enum_known-taken c = c.in-No.keys1
-
 pub returns-in-No : goal.returns-in-No
 returns-in-No c =
     let line-point : tie.After-rules-line invariant-loop decreases-loop = search c in
@@ -98,9 +95,6 @@ returns-in-No c =
     (sym z.2 ∙ rest_goes_on s l.at end.result l.number a.passes p z.0 no1.if1.left
     (of_rules a.passes z.0 l.desk z.1 line l.number (sym is ∙ not-false _ no2.if2.left)) w)
     c.refused.ensures
-
-pub enum_told-1 : goal.enum_told-1
-enum_told-1 c = c.in-No.keys2
 
 pub overflow_add-at : goal.overflow_add-at
 overflow_add-at c = omega (arith, c.if-text-end.false)

@@ -23,7 +23,7 @@ returns-then-not-fits c =
     let a = c.args in
     λ good. untold ((let a = c.args in
     Alive a.n a.m (drop a.from a.bytes.now) c.loop-j.j)) c.fits.result (tested) c.if-not-fits.true
-    (tables-clean a.n a.m (drop a.from a.bytes.now) (dropped_small _ a.from (λ k. (c.type_inv.bytes k))) good
+    (tables-clean a.n a.m (drop a.from a.bytes.now) (dropped_small _ a.from (λ k. (omega (arith, c.type_inv.bytes k)))) good
     c.loop-j.j c.loop-j-test.true)
 
 pub loop-j-preserved : goal.loop-j-preserved
