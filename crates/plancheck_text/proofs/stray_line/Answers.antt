@@ -38,6 +38,15 @@ slice_bounds-is_plan_line-count c =
     let end = c.piece_end-end in
     (piece_is c.args.text.now l.at newline end.result l.invariant.0 end.ensures).from
 
+pub slice_bounds-is_plan_line-start : goal.slice_bounds-is_plan_line-start
+slice_bounds-is_plan_line-start c = sub-is-plan-line c
+
+pub slice_bounds-is_plan_line-end : goal.slice_bounds-is_plan_line-end
+slice_bounds-is_plan_line-end c =
+    let l = c.loop-from in
+    let end = c.piece_end-end in
+    (piece_is c.args.text.now l.at newline end.result l.invariant.0 end.ensures).within
+
 pub returns-then-not-is_plan_line : goal.returns-then-not-is_plan_line
 returns-then-not-is_plan_line c =
     let s = c.args.text.now in

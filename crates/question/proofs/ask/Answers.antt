@@ -175,9 +175,9 @@ returns-else-not-goal_fits c =
     let wanted : Goal =
         let a = c.args in goal_of a.make.now a.learn.now in
     record {
-      sound sound;
-      team team;
-      known known;
-      held held;
+      sound = sound;
+      team = team;
+      known = known;
+      held = held;
       goal = told ((GoalFits (settings) (wanted))) c.goal_fits.result c.goal_fits.ensures c.if-not-goal_fits.false;
     }

@@ -48,6 +48,9 @@ slice_bounds-two_legs-count c =
     let here : CutsAt s (At at number) = subst (CutsAt s) c.in-At.is c.then_line.ensures in
     omega (arith, here.0)
 
+pub slice_bounds-two_legs-start : goal.slice_bounds-two_legs-start
+slice_bounds-two_legs-start c = sub-two-legs c
+
 pub overflow_cast-number : goal.overflow_cast-number
 overflow_cast-number c =
     let x = c.args in

@@ -23,6 +23,14 @@ slice_bounds-ending-count c =
     let l = c.loop-due in
     (piece_is c.args.text.now l.at newline c.piece_end-end.result l.invariant.0 c.piece_end-end.ensures).from
 
+pub slice_bounds-ending-start : goal.slice_bounds-ending-start
+slice_bounds-ending-start c = sub-ending c
+
+pub slice_bounds-ending-end : goal.slice_bounds-ending-end
+slice_bounds-ending-end c =
+    let l = c.loop-due in
+    (piece_is c.args.text.now l.at newline c.piece_end-end.result l.invariant.0 c.piece_end-end.ensures).within
+
 pub returns-then-text-end : goal.returns-then-text-end
 returns-then-text-end c =
     let x = c.args in
@@ -41,6 +49,14 @@ pub slice_bounds-any_line-count : goal.slice_bounds-any_line-count
 slice_bounds-any_line-count c =
     let l = c.loop-due in
     (piece_is c.args.text.now l.at newline c.piece_end-end.result l.invariant.0 c.piece_end-end.ensures).from
+
+pub slice_bounds-any_line-start : goal.slice_bounds-any_line-start
+slice_bounds-any_line-start c = sub-any-line c
+
+pub slice_bounds-any_line-end : goal.slice_bounds-any_line-end
+slice_bounds-any_line-end c =
+    let l = c.loop-due in
+    (piece_is c.args.text.now l.at newline c.piece_end-end.result l.invariant.0 c.piece_end-end.ensures).within
 
 pub any_line-turn-requires : goal.any_line-turn-requires
 any_line-turn-requires c =

@@ -41,6 +41,18 @@ slice_bounds-is_passed-count c =
     let p = piece_is s l.at newline end.result l.invariant.0 end.ensures in
     p.from
 
+pub slice_bounds-is_passed-start : goal.slice_bounds-is_passed-start
+slice_bounds-is_passed-start c = sub-is-passed c
+
+pub slice_bounds-is_passed-end : goal.slice_bounds-is_passed-end
+slice_bounds-is_passed-end c =
+    let a = c.args in
+    let s = a.text.now in
+    let l = c.loop-passes in
+    let end = c.piece_end-end in
+    let p = piece_is s l.at newline end.result l.invariant.0 end.ensures in
+    p.within
+
 pub from_size-requires : goal.from_size-requires
 from_size-requires c =
     let a = c.args in

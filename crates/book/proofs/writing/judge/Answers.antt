@@ -77,8 +77,8 @@ returns c =
         c.first_stray-stray.ensures in
     (
       record {
-        settings settings;
-        posts posts;
+        settings = settings;
+        posts = posts;
         size = c.if-rights-n.false;
         tables = lowest-all (strays) c.if-stray-n.false;
       },

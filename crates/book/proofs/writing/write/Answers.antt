@@ -39,7 +39,7 @@ write_settings-requires c =
         let a = c.args in
     may_write a.n a.m a.rights.now a.room.now c.judge-answer.result c.judge-answer.ensures c.in-Written.is in
     let w = may in
-    omega (arith, w.0.settings.most, w.0.size, w.1, c.write_head.kept.1.1.0)
+    omega (arith, w.0.settings.most, w.0.size, w.1, c.write_head.auto.room)
 
 pub returns-in-Refused : goal.returns-in-Refused
 returns-in-Refused c =

@@ -145,7 +145,7 @@ write-requires-in-Look t c =
       next.0,
       (
         next.1,
-        subst (Fits t start after.result c.write-next.result) (sym (c.write-next.kept.1.1.1.1.1.0 ∙ stored t start byte))
+        subst (Fits t start after.result c.write-next.result) (sym (c.write-next.auto.room ∙ stored t start byte))
             (room_true start.pre.1.0 (look-chosen t c) start.args.at (length start.args.room.now) byte start.args.room.now
             c.look_at.ensures after.ensures c.write-next.ensures start.pre.1.1),
       ),
@@ -164,15 +164,15 @@ returns-in-Stop t c =
     )
 
 pub shape_of-room-in-Set : goal.shape_of-room-in-Set
-shape_of-room-in-Set t c = c.write.kept.1.1.1.1.1.0 ∙ stored t (set-begun t c) c.byte.result
+shape_of-room-in-Set t c = c.write.auto.room ∙ stored t (set-begun t c) c.byte.result
 
 pub returns-in-Set : goal.returns-in-Set
 returns-in-Set t c = set-written (set-begun t c).pre.1.0 (set-chosen t c) c.set_to.ensures (set-byte t c) c.write.ensures
 
 pub shape_of-room-in-Look : goal.shape_of-room-in-Look
 shape_of-room-in-Look t c =
-    c.write-in-Look.kept.1.1.1.1.1.0
-    ∙ (c.write-next.kept.1.1.1.1.1.0 ∙ stored t (look-begun t c) c.byte.result)
+    c.write-in-Look.auto.room
+    ∙ (c.write-next.auto.room ∙ stored t (look-begun t c) c.byte.result)
 
 pub returns-in-Look : goal.returns-in-Look
 returns-in-Look t c =

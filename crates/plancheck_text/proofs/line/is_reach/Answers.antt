@@ -18,6 +18,9 @@ returns-then-not-begins c = sym (reach_by c.args.line.now false _ (sym c.begins.
 pub slice_bounds-is_number-count : goal.slice_bounds-is_number-count
 slice_bounds-is_number-count c = begins-length (bytes "reach ") c.args.line.now (sym c.begins.ensures ∙ c.if-not-begins.false)
 
+pub slice_bounds-is_number-start : goal.slice_bounds-is_number-start
+slice_bounds-is_number-start c = sub-is-number c
+
 pub returns : goal.returns
 returns c =
     let s = c.args.line.now in

@@ -55,6 +55,9 @@ slice_bounds-marks_of-count c =
     let there = inside line (length w) (sym c.peek.ensures ∙ c.if-peek-ne32.false) in
     omega (arith, there)
 
+pub slice_bounds-marks_of-start : goal.slice_bounds-marks_of-start
+slice_bounds-marks_of-start c = sub-marks-of c
+
 pub returns : goal.returns
 returns c =
     let a = c.args in

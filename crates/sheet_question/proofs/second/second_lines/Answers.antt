@@ -37,6 +37,15 @@ slice_bounds-passed_over-count c =
     let p = piece_is c.args.text.now l.at newline c.piece_end-end.result l.invariant.0 c.piece_end-end.ensures in
     p.from
 
+pub slice_bounds-passed_over-start : goal.slice_bounds-passed_over-start
+slice_bounds-passed_over-start c = sub-passed-over c
+
+pub slice_bounds-passed_over-end : goal.slice_bounds-passed_over-end
+slice_bounds-passed_over-end c =
+    let l = c.loop-before in
+    let p = piece_is c.args.text.now l.at newline c.piece_end-end.result l.invariant.0 c.piece_end-end.ensures in
+    p.within
+
 pub overflow_add-next : goal.overflow_add-next
 overflow_add-next c = omega (arith, c.if-text-end.false)
 
@@ -45,6 +54,15 @@ slice_bounds-from_team-count c =
     let l = c.loop-before in
     let p = piece_is c.args.text.now l.at newline c.piece_end-end.result l.invariant.0 c.piece_end-end.ensures in
     p.from
+
+pub slice_bounds-from_team-start : goal.slice_bounds-from_team-start
+slice_bounds-from_team-start c = sub-from-team c
+
+pub slice_bounds-from_team-end : goal.slice_bounds-from_team-end
+slice_bounds-from_team-end c =
+    let l = c.loop-before in
+    let p = piece_is c.args.text.now l.at newline c.piece_end-end.result l.invariant.0 c.piece_end-end.ensures in
+    p.within
 
 pub slice_bounds-from_team-count-then-not-passed_over : goal.slice_bounds-from_team-count-then-not-passed_over
 slice_bounds-from_team-count-then-not-passed_over c = omega (arith, c.if-text-end.false)

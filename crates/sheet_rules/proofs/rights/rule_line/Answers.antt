@@ -59,6 +59,9 @@ slice_bounds-formula_line-count c =
     let b = rule_bounds w a.desk.settings a.desk.posts line c.requires.2 in
     b.size
 
+pub slice_bounds-formula_line-start : goal.slice_bounds-formula_line-start
+slice_bounds-formula_line-start c = sub-formula-line c
+
 pub formula_line-requires : goal.formula_line-requires
 formula_line-requires c =
     let a = c.args in

@@ -29,6 +29,12 @@ loop-word-init c =
 pub slice_bounds-word-count : goal.slice_bounds-word-count
 slice_bounds-word-count c = (piece_is c.args.words.now c.loop-word.at 32 c.piece_end-end.result c.loop-word.invariant.0 c.piece_end-end.ensures).from
 
+pub slice_bounds-word-start : goal.slice_bounds-word-start
+slice_bounds-word-start c = sub_word c
+
+pub slice_bounds-word-end : goal.slice_bounds-word-end
+slice_bounds-word-end c = (piece_is c.args.words.now c.loop-word.at 32 c.piece_end-end.result c.loop-word.invariant.0 c.piece_end-end.ensures).within
+
 pub returns-then-not-is_name : goal.returns-then-not-is_name
 returns-then-not-is_name c =
     let a = c.args in let l = c.loop-word in let e = c.piece_end-end in

@@ -26,6 +26,18 @@ slice_bounds-records_in-count c =
         piece_is _ c.loop-index.at newline c.piece_end-end.result c.loop-index.invariant.0 c.piece_end-end.ensures in
     (line-here).from
 
+pub slice_bounds-records_in-start : goal.slice_bounds-records_in-start
+slice_bounds-records_in-start c =
+    let line-here : (PieceEnd c.args.text.now c.loop-index.at newline c.piece_end-end.result) =
+        piece_is _ c.loop-index.at newline c.piece_end-end.result c.loop-index.invariant.0 c.piece_end-end.ensures in
+    (line-here).from
+
+pub slice_bounds-records_in-end : goal.slice_bounds-records_in-end
+slice_bounds-records_in-end c =
+    let line-here : (PieceEnd c.args.text.now c.loop-index.at newline c.piece_end-end.result) =
+        piece_is _ c.loop-index.at newline c.piece_end-end.result c.loop-index.invariant.0 c.piece_end-end.ensures in
+    (line-here).within
+
 pub overflow_add-lines : goal.overflow_add-lines
 overflow_add-lines c =
     let line-here : (PieceEnd c.args.text.now c.loop-index.at newline c.piece_end-end.result) =

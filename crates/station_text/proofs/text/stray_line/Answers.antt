@@ -34,6 +34,18 @@ slice_bounds-is_line-count c =
         piece_is _ c.loop-at.at newline c.piece_end-end.result c.loop-at.invariant.0 c.piece_end-end.ensures in
     (line-here).from
 
+pub slice_bounds-is_line-start : goal.slice_bounds-is_line-start
+slice_bounds-is_line-start c =
+    let line-here : (PieceEnd c.args.text.now c.loop-at.at newline c.piece_end-end.result) =
+        piece_is _ c.loop-at.at newline c.piece_end-end.result c.loop-at.invariant.0 c.piece_end-end.ensures in
+    (line-here).from
+
+pub slice_bounds-is_line-end : goal.slice_bounds-is_line-end
+slice_bounds-is_line-end c =
+    let line-here : (PieceEnd c.args.text.now c.loop-at.at newline c.piece_end-end.result) =
+        piece_is _ c.loop-at.at newline c.piece_end-end.result c.loop-at.invariant.0 c.piece_end-end.ensures in
+    (line-here).within
+
 pub returns-then-not-is_line : goal.returns-then-not-is_line
 returns-then-not-is_line c =
     let line-here : (PieceEnd c.args.text.now c.loop-at.at newline c.piece_end-end.result) =

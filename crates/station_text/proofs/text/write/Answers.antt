@@ -36,6 +36,18 @@ slice_bounds-write_record-count c =
         piece_is _ c.loop-at.at newline c.piece_end-end.result c.loop-at.invariant.0 c.piece_end-end.ensures in
     (line-here).from
 
+pub slice_bounds-write_record-start : goal.slice_bounds-write_record-start
+slice_bounds-write_record-start c =
+    let line-here : (PieceEnd c.args.text.now c.loop-at.at newline c.piece_end-end.result) =
+        piece_is _ c.loop-at.at newline c.piece_end-end.result c.loop-at.invariant.0 c.piece_end-end.ensures in
+    (line-here).from
+
+pub slice_bounds-write_record-end : goal.slice_bounds-write_record-end
+slice_bounds-write_record-end c =
+    let line-here : (PieceEnd c.args.text.now c.loop-at.at newline c.piece_end-end.result) =
+        piece_is _ c.loop-at.at newline c.piece_end-end.result c.loop-at.invariant.0 c.piece_end-end.ensures in
+    (line-here).within
+
 pub write_record-to-requires : goal.write_record-to-requires
 write_record-to-requires c =
     let l = c.loop-at in
