@@ -39,7 +39,10 @@ slice_bounds-is_plan_line-count c =
     (piece_is c.args.text.now l.at newline end.result l.invariant.0 end.ensures).from
 
 pub slice_bounds-is_plan_line-start : goal.slice_bounds-is_plan_line-start
-slice_bounds-is_plan_line-start c = sub-is-plan-line c
+slice_bounds-is_plan_line-start c =
+    (let l = c.loop-from in
+    let end = c.piece_end-end in
+    (piece_is c.args.text.now l.at newline end.result l.invariant.0 end.ensures).from)
 
 pub slice_bounds-is_plan_line-end : goal.slice_bounds-is_plan_line-end
 slice_bounds-is_plan_line-end c =

@@ -39,7 +39,10 @@ slice_bounds-line_byte-count c =
     (piece_is c.args.text.now l.at newline end.result l.invariant.0 end.ensures).from
 
 pub slice_bounds-line_byte-start : goal.slice_bounds-line_byte-start
-slice_bounds-line_byte-start c = sub-line-byte c
+slice_bounds-line_byte-start c =
+    (let l = c.loop-from in
+    let end = c.piece_end-end in
+    (piece_is c.args.text.now l.at newline end.result l.invariant.0 end.ensures).from)
 
 pub slice_bounds-line_byte-end : goal.slice_bounds-line_byte-end
 slice_bounds-line_byte-end c =

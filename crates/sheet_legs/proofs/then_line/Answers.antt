@@ -33,7 +33,12 @@ slice_bounds-is_then-count c =
     p.from
 
 pub slice_bounds-is_then-start : goal.slice_bounds-is_then-start
-slice_bounds-is_then-start c = sub-is-then c
+slice_bounds-is_then-start c =
+    (let l = c.loop-at in
+    let s = c.args.text.now in
+    let end = c.piece_end-end.result in
+    let p = piece_is s l.at newline end l.invariant.0 c.piece_end-end.ensures in
+    p.from)
 
 pub slice_bounds-is_then-end : goal.slice_bounds-is_then-end
 slice_bounds-is_then-end c =

@@ -24,7 +24,9 @@ slice_bounds-ending-count c =
     (piece_is c.args.text.now l.at newline c.piece_end-end.result l.invariant.0 c.piece_end-end.ensures).from
 
 pub slice_bounds-ending-start : goal.slice_bounds-ending-start
-slice_bounds-ending-start c = sub-ending c
+slice_bounds-ending-start c =
+    (let l = c.loop-due in
+    (piece_is c.args.text.now l.at newline c.piece_end-end.result l.invariant.0 c.piece_end-end.ensures).from)
 
 pub slice_bounds-ending-end : goal.slice_bounds-ending-end
 slice_bounds-ending-end c =
@@ -51,7 +53,9 @@ slice_bounds-any_line-count c =
     (piece_is c.args.text.now l.at newline c.piece_end-end.result l.invariant.0 c.piece_end-end.ensures).from
 
 pub slice_bounds-any_line-start : goal.slice_bounds-any_line-start
-slice_bounds-any_line-start c = sub-any-line c
+slice_bounds-any_line-start c =
+    (let l = c.loop-due in
+    (piece_is c.args.text.now l.at newline c.piece_end-end.result l.invariant.0 c.piece_end-end.ensures).from)
 
 pub slice_bounds-any_line-end : goal.slice_bounds-any_line-end
 slice_bounds-any_line-end c =

@@ -47,7 +47,13 @@ slice_bounds-line-count c =
     p.from
 
 pub slice_bounds-line-start : goal.slice_bounds-line-start
-slice_bounds-line-start c = sub-line c
+slice_bounds-line-start c =
+    (let a = c.args in
+    let s = a.text.now in
+    let l = c.loop-desk in
+    let end = c.piece_end-end in
+    let p = piece_is s l.at newline end.result l.invariant.0 end.ensures in
+    p.from)
 
 pub slice_bounds-line-end : goal.slice_bounds-line-end
 slice_bounds-line-end c =

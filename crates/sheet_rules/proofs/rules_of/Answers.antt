@@ -42,7 +42,13 @@ slice_bounds-is_passed-count c =
     p.from
 
 pub slice_bounds-is_passed-start : goal.slice_bounds-is_passed-start
-slice_bounds-is_passed-start c = sub-is-passed c
+slice_bounds-is_passed-start c =
+    (let a = c.args in
+    let s = a.text.now in
+    let l = c.loop-passes in
+    let end = c.piece_end-end in
+    let p = piece_is s l.at newline end.result l.invariant.0 end.ensures in
+    p.from)
 
 pub slice_bounds-is_passed-end : goal.slice_bounds-is_passed-end
 slice_bounds-is_passed-end c =

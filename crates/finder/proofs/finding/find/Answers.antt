@@ -19,7 +19,7 @@ returns-then-ranks-numbers c =
         goal_of c.args.make.now c.args.learn.now in
     let valid : ValidQuestion c.args.book.now c.args.question (goalHere) c.in-Valid.settings c.in-Valid.posts =
         as_valid c.args.book.now c.args.question (goalHere) c.in-Valid.is c.ask.ensures in
-    let size_is : c.numbers.result ≡ 7 ^ c.settings.given.0.0 =
+    let size_is : c.numbers.result ≡ 7 ^ c.in-Valid.settings =
         c.numbers.ensures ∙ ap (λ k. 7 ^ k) (min-eq_left (few (valid))) in
     inl record {
       why = RankRoom 0;
@@ -35,7 +35,7 @@ search-requires c =
         goal_of c.args.make.now c.args.learn.now in
     let valid : ValidQuestion c.args.book.now c.args.question (goalHere) c.in-Valid.settings c.in-Valid.posts =
         as_valid c.args.book.now c.args.question (goalHere) c.in-Valid.is c.ask.ensures in
-    let size_is : c.numbers.result ≡ 7 ^ c.settings.given.0.0 =
+    let size_is : c.numbers.result ≡ 7 ^ c.in-Valid.settings =
         c.numbers.ensures ∙ ap (λ k. 7 ^ k) (min-eq_left (few (valid))) in
     ((c.in-Valid.posts, valid), omega (arith, size_is, c.if-ranks-numbers.false))
 
@@ -59,7 +59,7 @@ returns-else-ranks-numbers c =
         goal_of c.args.make.now c.args.learn.now in
     let valid : ValidQuestion c.args.book.now c.args.question (goalHere) c.in-Valid.settings c.in-Valid.posts =
         as_valid c.args.book.now c.args.question (goalHere) c.in-Valid.is c.ask.ensures in
-    let size_is : c.numbers.result ≡ 7 ^ c.settings.given.0.0 =
+    let size_is : c.numbers.result ≡ 7 ^ c.in-Valid.settings =
         c.numbers.ensures ∙ ap (λ k. 7 ^ k) (min-eq_left (few (valid))) in
     inr (
       c.in-Valid.settings,

@@ -24,7 +24,7 @@ returns-then-ranks-count c =
         rooms_of c.args.ranks.now c.args.ranks2.now c.args.plan.now in
     let valid : ValidLegs c.args.book.now c.args.question (wantedFirst) c.args.team2 (wantedSecond) c.in-Valid.settings c.in-Valid.posts =
         as_legs c.args.book.now c.args.question (wantedFirst) c.args.team2 (wantedSecond) c.in-Valid.is c.ask_two.ensures in
-    let size_is : c.numbers-count.result ≡ 7 ^ c.settings.given.0.0 =
+    let size_is : c.numbers-count.result ≡ 7 ^ c.in-Valid.settings =
         c.numbers-count.ensures ∙ ap (λ k. 7 ^ k) (min-eq_left (few (valid).first)) in
     inl record {
       why = RankRoom 1;
@@ -45,7 +45,7 @@ returns-then-ranks2-count c =
         rooms_of c.args.ranks.now c.args.ranks2.now c.args.plan.now in
     let valid : ValidLegs c.args.book.now c.args.question (wantedFirst) c.args.team2 (wantedSecond) c.in-Valid.settings c.in-Valid.posts =
         as_legs c.args.book.now c.args.question (wantedFirst) c.args.team2 (wantedSecond) c.in-Valid.is c.ask_two.ensures in
-    let size_is : c.numbers-count.result ≡ 7 ^ c.settings.given.0.0 =
+    let size_is : c.numbers-count.result ≡ 7 ^ c.in-Valid.settings =
         c.numbers-count.ensures ∙ ap (λ k. 7 ^ k) (min-eq_left (few (valid).first)) in
     inl record {
       why = RankRoom 2;
@@ -64,7 +64,7 @@ search_two-requires c =
         goal_of c.args.make2.now c.args.learn2.now in
     let valid : ValidLegs c.args.book.now c.args.question (wantedFirst) c.args.team2 (wantedSecond) c.in-Valid.settings c.in-Valid.posts =
         as_legs c.args.book.now c.args.question (wantedFirst) c.args.team2 (wantedSecond) c.in-Valid.is c.ask_two.ensures in
-    let size_is : c.numbers-count.result ≡ 7 ^ c.settings.given.0.0 =
+    let size_is : c.numbers-count.result ≡ 7 ^ c.in-Valid.settings =
         c.numbers-count.ensures ∙ ap (λ k. 7 ^ k) (min-eq_left (few (valid).first)) in
     (
       (c.in-Valid.posts, valid),
@@ -96,7 +96,7 @@ returns-else-ranks2-count c =
         goal_of c.args.make2.now c.args.learn2.now in
     let valid : ValidLegs c.args.book.now c.args.question (wantedFirst) c.args.team2 (wantedSecond) c.in-Valid.settings c.in-Valid.posts =
         as_legs c.args.book.now c.args.question (wantedFirst) c.args.team2 (wantedSecond) c.in-Valid.is c.ask_two.ensures in
-    let size_is : c.numbers-count.result ≡ 7 ^ c.settings.given.0.0 =
+    let size_is : c.numbers-count.result ≡ 7 ^ c.in-Valid.settings =
         c.numbers-count.ensures ∙ ap (λ k. 7 ^ k) (min-eq_left (few (valid).first)) in
     inr (
       c.in-Valid.settings,

@@ -18,7 +18,7 @@ pub bounds-found-value : goal.bounds-found-value
 bounds-found-value c = omega (arith, c.ranges.top.fits)
 
 pub returns-then-found-value-ne1 : goal.returns-then-found-value-ne1
-returns-then-found-value-ne1 c = gap_here c.seen-found.ensures c.numbers.ensures c.loop-value-test.true c.if-found-value-ne1.true
+returns-then-found-value-ne1 c e = gap_here c.seen-found.ensures c.numbers.ensures c.loop-value-test.true c.if-found-value-ne1.true
 
 pub returns : goal.returns
 returns c = no_gap

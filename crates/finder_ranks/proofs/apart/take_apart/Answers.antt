@@ -30,7 +30,7 @@ pub now_of-requires : goal.now_of-requires
 now_of-requires c =
     let below : c.loop-i.i < 7 =
         omega (arith, c.requires, c.loop-i-test.true) in
-    let here : c.digit-d.result ≡ digit 7 c.args.k c.loop.i =
+    let here : c.digit-d.result ≡ digit 7 c.args.k c.loop-i.i =
         digit-here c.args.k c.loop-i.i c.from_number-state.ensures (below) c.digit-d.ensures in
     let here_lt : c.digit-d.result < 7 =
         rw (here) (digit_lt seven c.args.k c.loop-i.i) in
@@ -40,9 +40,9 @@ pub overflow_mul-now : goal.overflow_mul-now
 overflow_mul-now c =
     let below : c.loop-i.i < 7 =
         omega (arith, c.requires, c.loop-i-test.true) in
-    let here : c.digit-d.result ≡ digit 7 c.args.k c.loop.i =
+    let here : c.digit-d.result ≡ digit 7 c.args.k c.loop-i.i =
         digit-here c.args.k c.loop-i.i c.from_number-state.ensures (below) c.digit-d.ensures in
-    let now-fits : c.loop.now + c.now_of.result * c.loop.three < 2187 =
+    let now-fits : c.loop-i.now + c.now_of.result * c.loop-i.three < 2187 =
         omega (
       arith,
       now_up c.loop-i.invariant.2 c.loop-i.invariant.1 (here) c.now_of.result c.now_of.ensures,
@@ -54,9 +54,9 @@ pub overflow_add-now : goal.overflow_add-now
 overflow_add-now c =
     let below : c.loop-i.i < 7 =
         omega (arith, c.requires, c.loop-i-test.true) in
-    let here : c.digit-d.result ≡ digit 7 c.args.k c.loop.i =
+    let here : c.digit-d.result ≡ digit 7 c.args.k c.loop-i.i =
         digit-here c.args.k c.loop-i.i c.from_number-state.ensures (below) c.digit-d.ensures in
-    let now-fits : c.loop.now + c.now_of.result * c.loop.three < 2187 =
+    let now-fits : c.loop-i.now + c.now_of.result * c.loop-i.three < 2187 =
         omega (
       arith,
       now_up c.loop-i.invariant.2 c.loop-i.invariant.1 (here) c.now_of.result c.now_of.ensures,
@@ -68,7 +68,7 @@ pub start_of-requires : goal.start_of-requires
 start_of-requires c =
     let below : c.loop-i.i < 7 =
         omega (arith, c.requires, c.loop-i-test.true) in
-    let here : c.digit-d.result ≡ digit 7 c.args.k c.loop.i =
+    let here : c.digit-d.result ≡ digit 7 c.args.k c.loop-i.i =
         digit-here c.args.k c.loop-i.i c.from_number-state.ensures (below) c.digit-d.ensures in
     let here_lt : c.digit-d.result < 7 =
         rw (here) (digit_lt seven c.args.k c.loop-i.i) in
@@ -78,9 +78,9 @@ pub overflow_mul-start : goal.overflow_mul-start
 overflow_mul-start c =
     let below : c.loop-i.i < 7 =
         omega (arith, c.requires, c.loop-i-test.true) in
-    let here : c.digit-d.result ≡ digit 7 c.args.k c.loop.i =
+    let here : c.digit-d.result ≡ digit 7 c.args.k c.loop-i.i =
         digit-here c.args.k c.loop-i.i c.from_number-state.ensures (below) c.digit-d.ensures in
-    let start_fits : c.loop.start + c.start_of.result * c.loop.three < 2187 =
+    let start_fits : c.loop-i.start + c.start_of.result * c.loop-i.three < 2187 =
         omega (
       arith,
       start_up c.loop-i.invariant.2 c.loop-i.invariant.1 (here) c.start_of.result c.start_of.ensures,
@@ -92,9 +92,9 @@ pub overflow_add-start : goal.overflow_add-start
 overflow_add-start c =
     let below : c.loop-i.i < 7 =
         omega (arith, c.requires, c.loop-i-test.true) in
-    let here : c.digit-d.result ≡ digit 7 c.args.k c.loop.i =
+    let here : c.digit-d.result ≡ digit 7 c.args.k c.loop-i.i =
         digit-here c.args.k c.loop-i.i c.from_number-state.ensures (below) c.digit-d.ensures in
-    let start_fits : c.loop.start + c.start_of.result * c.loop.three < 2187 =
+    let start_fits : c.loop-i.start + c.start_of.result * c.loop-i.three < 2187 =
         omega (
       arith,
       start_up c.loop-i.invariant.2 c.loop-i.invariant.1 (here) c.start_of.result c.start_of.ensures,
@@ -121,7 +121,7 @@ pub loop-i-preserved : goal.loop-i-preserved
 loop-i-preserved c =
     let below : c.loop-i.i < 7 =
         omega (arith, c.requires, c.loop-i-test.true) in
-    let here : c.digit-d.result ≡ digit 7 c.args.k c.loop.i =
+    let here : c.digit-d.result ≡ digit 7 c.args.k c.loop-i.i =
         digit-here c.args.k c.loop-i.i c.from_number-state.ensures (below) c.digit-d.ensures in
     let inv = c.loop-i.invariant in (
       omega (arith, c.loop-i-test.true),

@@ -18,7 +18,7 @@ loop-j-init c = (c.requires, omega arith, λ i l. absurd (omega arith))
 
 pub returns-then-not-settles : goal.returns-then-not-settles
 returns-then-not-settles c =
-    let tested : let a = c.args in c.settles.result ≡ learn_settled a.n (digit_in a.state.digits) (learn_table a.learn.now c.loop.j) =
+    let tested : let a = c.args in c.settles.result ≡ learn_settled a.n (digit_in a.state.digits) (learn_table a.learn.now c.loop-j.j) =
         let a = c.args in
     let r = c.loop-j in
     learn-at a.n (digit_in a.state.digits) a.learn.now r.invariant.0 r.j c.judge.ensures c.settles.ensures in
@@ -29,7 +29,7 @@ returns-then-not-settles c =
 
 pub loop-j-preserved : goal.loop-j-preserved
 loop-j-preserved c =
-    let tested : let a = c.args in c.settles.result ≡ learn_settled a.n (digit_in a.state.digits) (learn_table a.learn.now c.loop.j) =
+    let tested : let a = c.args in c.settles.result ≡ learn_settled a.n (digit_in a.state.digits) (learn_table a.learn.now c.loop-j.j) =
         let a = c.args in
     let r = c.loop-j in
     learn-at a.n (digit_in a.state.digits) a.learn.now r.invariant.0 r.j c.judge.ensures c.settles.ensures in

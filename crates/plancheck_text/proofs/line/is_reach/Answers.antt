@@ -19,7 +19,7 @@ pub slice_bounds-is_number-count : goal.slice_bounds-is_number-count
 slice_bounds-is_number-count c = begins-length (bytes "reach ") c.args.line.now (sym c.begins.ensures ∙ c.if-not-begins.false)
 
 pub slice_bounds-is_number-start : goal.slice_bounds-is_number-start
-slice_bounds-is_number-start c = sub-is-number c
+slice_bounds-is_number-start c = (begins-length (bytes "reach ") c.args.line.now (sym c.begins.ensures ∙ c.if-not-begins.false))
 
 pub returns : goal.returns
 returns c =

@@ -10,7 +10,7 @@ pub slice_bounds-words_byte-count : goal.slice_bounds-words_byte-count
 slice_bounds-words_byte-count c = omega (arith, c.digit_count-end.ensures, digits-most c.args.line.now)
 
 pub slice_bounds-words_byte-start : goal.slice_bounds-words_byte-start
-slice_bounds-words_byte-start c = sub-words-byte c
+slice_bounds-words_byte-start c = (omega (arith, c.digit_count-end.ensures, digits-most c.args.line.now))
 
 pub returns : goal.returns
 unfolding line_byte

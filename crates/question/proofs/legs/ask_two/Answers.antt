@@ -27,7 +27,7 @@ returns-then-not-team_fits c =
     let valid : ValidQuestion c.args.book.now c.args.question (wantedFirst) c.in-Valid.settings c.in-Valid.posts =
         as_valid c.args.book.now c.args.question (wantedFirst) c.in-Valid.is c.ask.ensures in
     second-team-row c.args.book.now c.args.question (wantedFirst) c.args.team2 (wantedSecond) (valid)
-    (untold ((TeamFits c.settings.given.0.1.0 c.args.team2)) c.team_fits.result c.team_fits.ensures c.if-not-team_fits.true)
+    (untold ((TeamFits c.in-Valid.posts c.args.team2)) c.team_fits.result c.team_fits.ensures c.if-not-team_fits.true)
 
 pub returns-then-not-goal_fits : goal.returns-then-not-goal_fits
 returns-then-not-goal_fits c =
@@ -37,10 +37,10 @@ returns-then-not-goal_fits c =
         goal_of c.args.make2.now c.args.learn2.now in
     let valid : ValidQuestion c.args.book.now c.args.question (wantedFirst) c.in-Valid.settings c.in-Valid.posts =
         as_valid c.args.book.now c.args.question (wantedFirst) c.in-Valid.is c.ask.ensures in
-    let team : (TeamFits c.settings.given.0.1.0 c.args.team2) =
-        told ((TeamFits c.settings.given.0.1.0 c.args.team2)) c.team_fits.result c.team_fits.ensures c.if-not-team_fits.false in
+    let team : (TeamFits c.in-Valid.posts c.args.team2) =
+        told ((TeamFits c.in-Valid.posts c.args.team2)) c.team_fits.result c.team_fits.ensures c.if-not-team_fits.false in
     second-goal-row c.args.book.now c.args.question (wantedFirst) c.args.team2 (wantedSecond) (valid) (team)
-    (untold ((GoalFits c.settings.given.0.0 (wantedSecond))) c.goal_fits.result c.goal_fits.ensures c.if-not-goal_fits.true)
+    (untold ((GoalFits c.in-Valid.settings (wantedSecond))) c.goal_fits.result c.goal_fits.ensures c.if-not-goal_fits.true)
 
 pub returns-in-Not : goal.returns-in-Not
 returns-in-Not c =
@@ -57,12 +57,12 @@ returns-else-not-goal_fits c =
         goal_of c.args.make.now c.args.learn.now in
     let valid : ValidQuestion c.args.book.now c.args.question (wantedFirst) c.in-Valid.settings c.in-Valid.posts =
         as_valid c.args.book.now c.args.question (wantedFirst) c.in-Valid.is c.ask.ensures in
-    let team : (TeamFits c.settings.given.0.1.0 c.args.team2) =
-        told ((TeamFits c.settings.given.0.1.0 c.args.team2)) c.team_fits.result c.team_fits.ensures c.if-not-team_fits.false in
+    let team : (TeamFits c.in-Valid.posts c.args.team2) =
+        told ((TeamFits c.in-Valid.posts c.args.team2)) c.team_fits.result c.team_fits.ensures c.if-not-team_fits.false in
     let wantedSecond : Goal =
         goal_of c.args.make2.now c.args.learn2.now in
     record {
       first = valid;
       second-team = team;
-      second-goal = told ((GoalFits c.settings.given.0.0 (wantedSecond))) c.goal_fits.result c.goal_fits.ensures c.if-not-goal_fits.false;
+      second-goal = told ((GoalFits c.in-Valid.settings (wantedSecond))) c.goal_fits.result c.goal_fits.ensures c.if-not-goal_fits.false;
     }

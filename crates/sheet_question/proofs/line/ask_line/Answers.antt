@@ -29,7 +29,9 @@ slice_bounds-formula_line-count c =
     begins-length (bytes "ask ") a.line.now (sym c.begins.ensures ∙ c.if-not-begins.false)
 
 pub slice_bounds-formula_line-start : goal.slice_bounds-formula_line-start
-slice_bounds-formula_line-start c = sub-formula-line c
+slice_bounds-formula_line-start c =
+    (let a = c.args in
+    begins-length (bytes "ask ") a.line.now (sym c.begins.ensures ∙ c.if-not-begins.false))
 
 pub formula_line-requires : goal.formula_line-requires
 formula_line-requires c = (c.if-desk-ge-ASKS_MOST.false, c.requires.1.learn-size)

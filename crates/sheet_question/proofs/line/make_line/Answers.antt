@@ -22,7 +22,9 @@ slice_bounds-formula_line-count c =
     begins-length (bytes "make ") a.line.now (sym c.begins.ensures ∙ c.if-not-begins.false)
 
 pub slice_bounds-formula_line-start : goal.slice_bounds-formula_line-start
-slice_bounds-formula_line-start c = sub-formula-line c
+slice_bounds-formula_line-start c =
+    (let a = c.args in
+    begins-length (bytes "make ") a.line.now (sym c.begins.ensures ∙ c.if-not-begins.false))
 
 pub returns : goal.returns
 returns c =

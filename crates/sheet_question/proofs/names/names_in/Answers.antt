@@ -56,7 +56,12 @@ slice_bounds-marks_of-count c =
     omega (arith, there)
 
 pub slice_bounds-marks_of-start : goal.slice_bounds-marks_of-start
-slice_bounds-marks_of-start c = sub-marks-of c
+slice_bounds-marks_of-start c =
+    (let a = c.args in
+    let w = a.word.now in
+    let line = a.line.now in
+    let there = inside line (length w) (sym c.peek.ensures ∙ c.if-peek-ne32.false) in
+    omega (arith, there))
 
 pub returns : goal.returns
 returns c =

@@ -38,7 +38,10 @@ slice_bounds-passed_over-count c =
     p.from
 
 pub slice_bounds-passed_over-start : goal.slice_bounds-passed_over-start
-slice_bounds-passed_over-start c = sub-passed-over c
+slice_bounds-passed_over-start c =
+    (let l = c.loop-before in
+    let p = piece_is c.args.text.now l.at newline c.piece_end-end.result l.invariant.0 c.piece_end-end.ensures in
+    p.from)
 
 pub slice_bounds-passed_over-end : goal.slice_bounds-passed_over-end
 slice_bounds-passed_over-end c =
@@ -56,7 +59,10 @@ slice_bounds-from_team-count c =
     p.from
 
 pub slice_bounds-from_team-start : goal.slice_bounds-from_team-start
-slice_bounds-from_team-start c = sub-from-team c
+slice_bounds-from_team-start c =
+    (let l = c.loop-before in
+    let p = piece_is c.args.text.now l.at newline c.piece_end-end.result l.invariant.0 c.piece_end-end.ensures in
+    p.from)
 
 pub slice_bounds-from_team-end : goal.slice_bounds-from_team-end
 slice_bounds-from_team-end c =

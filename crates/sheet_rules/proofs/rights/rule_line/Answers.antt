@@ -60,7 +60,12 @@ slice_bounds-formula_line-count c =
     b.size
 
 pub slice_bounds-formula_line-start : goal.slice_bounds-formula_line-start
-slice_bounds-formula_line-start c = sub-formula-line c
+slice_bounds-formula_line-start c =
+    (let a = c.args in
+    let w = a.word.now in
+    let line = a.line.now in
+    let b = rule_bounds w a.desk.settings a.desk.posts line c.requires.2 in
+    b.size)
 
 pub formula_line-requires : goal.formula_line-requires
 formula_line-requires c =

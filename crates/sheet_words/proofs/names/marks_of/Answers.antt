@@ -30,7 +30,7 @@ pub slice_bounds-word-count : goal.slice_bounds-word-count
 slice_bounds-word-count c = (piece_is c.args.words.now c.loop-word.at 32 c.piece_end-end.result c.loop-word.invariant.0 c.piece_end-end.ensures).from
 
 pub slice_bounds-word-start : goal.slice_bounds-word-start
-slice_bounds-word-start c = sub_word c
+slice_bounds-word-start c = ((piece_is c.args.words.now c.loop-word.at 32 c.piece_end-end.result c.loop-word.invariant.0 c.piece_end-end.ensures).from)
 
 pub slice_bounds-word-end : goal.slice_bounds-word-end
 slice_bounds-word-end c = (piece_is c.args.words.now c.loop-word.at 32 c.piece_end-end.result c.loop-word.invariant.0 c.piece_end-end.ensures).within
