@@ -33,7 +33,7 @@ pub spread-requires : goal.spread-requires
 spread-requires c =
     let room : (RanksFit c.args.n c.args.ranks.now) =
         told ((RanksFit c.args.n c.args.ranks.now)) c.has_room-2.result c.has_room-2.ensures c.if-not-has_room-2.false in
-    let marked : let s = c.args in Marks s.n (goal_then s.n s.made.now s.learnt.now s.ranks2.now) s.ranks.now c.unmark.new.1.1.0 =
+    let marked : let s = c.args in Marks s.n (goal_then s.n s.made.now s.learnt.now s.ranks2.now) s.ranks.now c.unmark.new.ranks =
         marks_then c.args.made.now c.args.learnt.now c.args.ranks2.now c.mark.ensures c.unmark.ensures in
     ready (marked) (room)
 
@@ -43,6 +43,6 @@ returns c =
         told ((RanksFit c.args.n c.args.ranks2.now)) c.has_room.result c.has_room.ensures c.if-not-has_room.false in
     let room : (RanksFit c.args.n c.args.ranks.now) =
         told ((RanksFit c.args.n c.args.ranks.now)) c.has_room-2.result c.has_room-2.ensures c.if-not-has_room-2.false in
-    let marked : let s = c.args in Marks s.n (goal_then s.n s.made.now s.learnt.now s.ranks2.now) s.ranks.now c.unmark.new.1.1.0 =
+    let marked : let s = c.args in Marks s.n (goal_then s.n s.made.now s.learnt.now s.ranks2.now) s.ranks.now c.unmark.new.ranks =
         marks_then c.args.made.now c.args.learnt.now c.args.ranks2.now c.mark.ensures c.unmark.ensures in
     filled-first (second) (room) (table (marked) c.spread.ensures)

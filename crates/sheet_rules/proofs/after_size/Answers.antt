@@ -91,27 +91,20 @@ rules_line-turn-requires c =
 
 pub returns-in-No : goal.returns-in-No
 returns-in-No c =
-    let line-point : tie.After-rules-line invariant-loop decreases-loop = search c in
-    let no2 : tie.Else2 invariant-loop decreases-loop = search line-point in
-    let of-rules-point : tie.After-is-of-rules invariant-loop decreases-loop = search no2 in
-    let no1 : tie.Else1 invariant-loop decreases-loop = search of-rules-point in
-    let piece-end-point : tie.After-piece-end invariant-loop decreases-loop = search no1 in
-    let at-loop : tie.At-loop invariant-loop decreases-loop = search piece-end-point in
-    let start : tie.Start invariant-loop decreases-loop = search at-loop in
-    let a = start.args in
+    let a = c.args in
     let s = a.text.now in
-    let l = at-loop.loop in
-    let end = piece-end-point.piece-end in
-    let p = piece_is s l.at newline end.result l.inv.0 end.ensures in
-    let is = of-rules-point.is-of-rules.ensures in
-    let turn = line-point.rules-line in
+    let l = c.loop-desk in
+    let end = c.piece_end-end in
+    let p = piece_is s l.at newline end.result l.invariant.0 end.ensures in
+    let is = c.is_of_rules.ensures in
+    let turn = c.rules_line-turn in
     λ rules h.
-    let z = l.inv.4 rules h in
+    let z = l.invariant.4 rules h in
     let line = part s l.at end.result in
     let w = faulted_by (line_step a.passes l.number z.0 line) turn.result.desk c.in-No.is (turn.ensures z.0 z.1) in
     refused-is s c.refused.result.desk c.in-No.why l.number
-    (sym z.2 ∙ rest_goes_on s l.at end.result l.number a.passes p z.0 no1.if1.left
-    (of_rules a.passes z.0 l.desk z.1 line l.number (sym is ∙ not-false _ no2.if2.left)) w)
+    (sym z.2 ∙ rest_goes_on s l.at end.result l.number a.passes p z.0 c.if-text-end.false
+    (of_rules a.passes z.0 l.desk z.1 line l.number (sym is ∙ c.if-not-is_of_rules.false)) w)
     c.refused.ensures
 
 pub overflow_add-at : goal.overflow_add-at
@@ -133,29 +126,22 @@ loop-desk-smaller c =
 
 pub loop-desk-preserved : goal.loop-desk-preserved
 loop-desk-preserved c =
-    let line-point : tie.After-rules-line invariant-loop decreases-loop = search c in
-    let no2 : tie.Else2 invariant-loop decreases-loop = search line-point in
-    let of-rules-point : tie.After-is-of-rules invariant-loop decreases-loop = search no2 in
-    let no1 : tie.Else1 invariant-loop decreases-loop = search of-rules-point in
-    let piece-end-point : tie.After-piece-end invariant-loop decreases-loop = search no1 in
-    let at-loop : tie.At-loop invariant-loop decreases-loop = search piece-end-point in
-    let start : tie.Start invariant-loop decreases-loop = search at-loop in
-    let a = start.args in
+    let a = c.args in
     let s = a.text.now in
-    let l = at-loop.loop in
-    let end = piece-end-point.piece-end in
-    let p = piece_is s l.at newline end.result l.inv.0 end.ensures in
-    let is = of-rules-point.is-of-rules.ensures in
-    let turn = line-point.rules-line in
-    let more = no1.if1.left in (
+    let l = c.loop-desk in
+    let end = c.piece_end-end in
+    let p = piece_is s l.at newline end.result l.invariant.0 end.ensures in
+    let is = c.is_of_rules.ensures in
+    let turn = c.rules_line-turn in
+    let more = c.if-text-end.false in (
       omega (arith, more),
       omega arith,
-      omega (arith, p.from, l.inv.2),
-      l.inv.3,
+      omega (arith, p.from, l.invariant.2),
+      l.invariant.3,
       λ rules h.
-          let z = l.inv.4 rules h in
+          let z = l.invariant.4 rules h in
           let line = part s l.at end.result in
           let w = went_on_by (line_step a.passes l.number z.0 line) turn.result.desk c.in-Next.is (turn.ensures z.0 z.1) in
-          let yes = of_rules a.passes z.0 l.desk z.1 line l.number (sym is ∙ not-false _ no2.if2.left) in
+          let yes = of_rules a.passes z.0 l.desk z.1 line l.number (sym is ∙ c.if-not-is_of_rules.false) in
           (w.0, w.2, rest-next s l.at end.result l.number a.passes p z.0 (l.number + 1) (end.result + 1) (omega arith) (omega arith) more yes w.1 z.2),
     )

@@ -21,10 +21,10 @@ pub from_start-requires : goal.from_start-requires
 from_start-requires c =
     let systemHere : System =
         ruled_system c.args.n c.args.book.now c.args.question (goal_of c.args.make.now c.args.learn.now) in
-    let told : TablesTell c.args.n c.posts_allowed-set.result c.posts_allowed-look.result c.fill_ranks.new.1.1.1.1.1.0 (systemHere) =
+    let told : TablesTell c.args.n c.posts_allowed-set.result c.posts_allowed-look.result c.fill_ranks.new.ranks (systemHere) =
         tables_tell c.requires.0.1 c.posts_allowed-set.ensures c.posts_allowed-look.ensures
     c.made-done.ensures c.learnt-known.ensures c.fill_ranks.ensures c.requires.1 in
-    let filled : RanksFilled c.args.n (systemHere) c.args.ranks.now c.fill_ranks.new.1.1.1.1.1.0 =
+    let filled : RanksFilled c.args.n (systemHere) c.args.ranks.now c.fill_ranks.new.ranks =
         ranks-filled c.requires.0.1 c.posts_allowed-set.ensures c.posts_allowed-look.ensures
     c.made-done.ensures c.learnt-known.ensures c.fill_ranks.ensures c.requires.1 in
     let start-here : c.number-start.result ≡ start_of c.args.question =
@@ -41,10 +41,10 @@ returns c =
         ruled_system c.args.n c.args.book.now c.args.question (goal_of c.args.make.now c.args.learn.now) in
     let asked : (P : System → Type 0) → P (without (systemHere)) → P (system_of c.args.n c.args.book.now c.args.question (goal_of c.args.make.now c.args.learn.now)) =
         λ P. λ h. from_ruled c.args.n c.args.book.now c.args.question (goal_of c.args.make.now c.args.learn.now) P h in
-    let told : TablesTell c.args.n c.posts_allowed-set.result c.posts_allowed-look.result c.fill_ranks.new.1.1.1.1.1.0 (systemHere) =
+    let told : TablesTell c.args.n c.posts_allowed-set.result c.posts_allowed-look.result c.fill_ranks.new.ranks (systemHere) =
         tables_tell c.requires.0.1 c.posts_allowed-set.ensures c.posts_allowed-look.ensures
     c.made-done.ensures c.learnt-known.ensures c.fill_ranks.ensures c.requires.1 in
-    let filled : RanksFilled c.args.n (systemHere) c.args.ranks.now c.fill_ranks.new.1.1.1.1.1.0 =
+    let filled : RanksFilled c.args.n (systemHere) c.args.ranks.now c.fill_ranks.new.ranks =
         ranks-filled c.requires.0.1 c.posts_allowed-set.ensures c.posts_allowed-look.ensures
     c.made-done.ensures c.learnt-known.ensures c.fill_ranks.ensures c.requires.1 in
     let start-here : c.number-start.result ≡ start_of c.args.question =

@@ -41,13 +41,13 @@ from_start-requires c =
         second_system c.args.n c.args.book.now c.args.question c.args.team2 (wantedSecond) in
     let firstHere : System =
         first_leg c.args.n (ruled_system c.args.n c.args.book.now c.args.question (wantedFirst)) (secondHere) in
-    let told : TablesTell c.args.n c.posts_allowed-set.result c.posts_allowed-look.result c.fill_first.new.1.1.1.1.1.1.0 (firstHere) =
+    let told : TablesTell c.args.n c.posts_allowed-set.result c.posts_allowed-look.result c.fill_first.new.ranks (firstHere) =
         let v = c.requires.0.1 in
     let leg = c.fill_leg.ensures in
     first-tells v.first c.posts_allowed-set.ensures c.posts_allowed-look.ensures c.made-done.ensures c.learnt-known.ensures
     (second_lawful c.args.book.now c.args.question (wantedFirst) c.args.team2 (wantedSecond) v) leg.ranks
     c.fill_first.ensures (omega (arith, c.requires.1.second-room, leg.size)) c.requires.1.first-room in
-    let filled : RanksFilled c.args.n (firstHere) c.args.ranks.now c.fill_first.new.1.1.1.1.1.1.0 =
+    let filled : RanksFilled c.args.n (firstHere) c.args.ranks.now c.fill_first.new.ranks =
         let v = c.requires.0.1 in
     let leg = c.fill_leg.ensures in
     first-filled v.first c.posts_allowed-set.ensures c.posts_allowed-look.ensures c.made-done.ensures c.learnt-known.ensures
@@ -77,13 +77,13 @@ returns c =
         first_leg c.args.n (ruled_system c.args.n c.args.book.now c.args.question (wantedFirst)) (secondHere) in
     let asked : (P : System → Type 0) → P (without (firstHere)) → P (first_system c.args.n c.args.book.now c.args.question (wantedFirst) c.args.team2 (wantedSecond)) =
         λ P. λ h. from_ruled c.args.n c.args.book.now c.args.question (wantedFirst) (λ (S : System). P (first_leg c.args.n S (secondHere))) h in
-    let told : TablesTell c.args.n c.posts_allowed-set.result c.posts_allowed-look.result c.fill_first.new.1.1.1.1.1.1.0 (firstHere) =
+    let told : TablesTell c.args.n c.posts_allowed-set.result c.posts_allowed-look.result c.fill_first.new.ranks (firstHere) =
         let v = c.requires.0.1 in
     let leg = c.fill_leg.ensures in
     first-tells v.first c.posts_allowed-set.ensures c.posts_allowed-look.ensures c.made-done.ensures c.learnt-known.ensures
     (second_lawful c.args.book.now c.args.question (wantedFirst) c.args.team2 (wantedSecond) v) leg.ranks
     c.fill_first.ensures (omega (arith, c.requires.1.second-room, leg.size)) c.requires.1.first-room in
-    let filled : RanksFilled c.args.n (firstHere) c.args.ranks.now c.fill_first.new.1.1.1.1.1.1.0 =
+    let filled : RanksFilled c.args.n (firstHere) c.args.ranks.now c.fill_first.new.ranks =
         let v = c.requires.0.1 in
     let leg = c.fill_leg.ensures in
     first-filled v.first c.posts_allowed-set.ensures c.posts_allowed-look.ensures c.made-done.ensures c.learnt-known.ensures

@@ -39,6 +39,6 @@ formula_line-requires c = (c.if-desk-ge-ASKS_MOST.false, c.requires.1.learn-size
 pub returns : goal.returns
 returns c =
     let a = c.args in
-    λ b h. ask_read a.settings a.number b a.desk h a.line.now c.formula_line.result.true
+    λ b h. ask_read a.settings a.number b a.desk h a.line.now c.formula_line.result.taken
     c.formula_line.result.desk (sym c.begins.ensures ∙ c.if-not-begins.false)
     c.if-desk-ge-ASKS_MOST.false c.formula_line.ensures

@@ -29,6 +29,6 @@ slice_bounds-formula_line-start c =
 pub returns : goal.returns
 returns c =
     let a = c.args in
-    λ b h. make-read a.settings a.number b a.desk h a.line.now c.formula_line.result.true
+    λ b h. make-read a.settings a.number b a.desk h a.line.now c.formula_line.result.taken
     c.formula_line.result.desk (sym c.begins.ensures ∙ c.if-not-begins.false)
     c.formula_line.ensures

@@ -94,5 +94,5 @@ returns c =
     let slot = c.slot_of-slot in
     λ rules h. line_read rules a.desk h a.right w line b (p.result - 97) (q.result - 49)
     (ap (λ (x : ℕ). x - 97) p.ensures) (ap (λ (x : ℕ). x - 49) q.ensures) slot.result slot.ensures
-    a.number c.if-stated-slot-ne0.false c.formula_line.result.true c.formula_line.result.desk
+    a.number c.if-stated-slot-ne0.false c.formula_line.result.taken c.formula_line.result.desk
     c.formula_line.ensures
