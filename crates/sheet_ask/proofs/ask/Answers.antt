@@ -11,11 +11,11 @@ ask_sound-requires c = subst (Judges c.args.book.now) c.in-Book.is c.sound.ensur
 
 pub returns-in-Refused : goal.returns-in-Refused
 returns-in-Refused c =
-    l (
+    inl (
       c.in-Refused.why,
       subst (Judges c.args.book.now) c.in-Refused.is c.sound.ensures,
       record { ranks-kept = refl; printed = numbers-printed c.in-Refused.why c.numbers-numbers.ensures c.refused.ensures },
     )
 
 pub returns-in-Book : goal.returns-in-Book
-returns-in-Book c = r (_, _, subst (Judges c.args.book.now) c.in-Book.is c.sound.ensures, c.ask_sound.ensures)
+returns-in-Book c = inr (_, _, subst (Judges c.args.book.now) c.in-Book.is c.sound.ensures, c.ask_sound.ensures)

@@ -9,7 +9,7 @@ pub ask_sound-requires : goal.ask_sound-requires
 ask_sound-requires c = subst (Judges c.args.book.now) c.in-Book.is c.sound.ensures
 
 pub returns-in-Refused : goal.returns-in-Refused
-returns-in-Refused c = l (_, subst (Judges c.args.book.now) c.in-Refused.is c.sound.ensures, refl)
+returns-in-Refused c = inl (_, subst (Judges c.args.book.now) c.in-Refused.is c.sound.ensures, refl)
 
 pub returns-in-Book : goal.returns-in-Book
-returns-in-Book c = r (_, _, subst (Judges c.args.book.now) c.in-Book.is c.sound.ensures, c.ask_sound.ensures)
+returns-in-Book c = inr (_, _, subst (Judges c.args.book.now) c.in-Book.is c.sound.ensures, c.ask_sound.ensures)

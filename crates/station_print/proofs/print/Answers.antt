@@ -11,7 +11,7 @@ print_start-requires c =
     sound.settings.most
 
 pub returns-in-Refused : goal.returns-in-Refused
-returns-in-Refused c = l (_, subst (Judges c.args.book.now) c.in-Refused.is c.sound.ensures, refl, refl)
+returns-in-Refused c = inl (_, subst (Judges c.args.book.now) c.in-Refused.is c.sound.ensures, refl, refl)
 
 pub returns-in-Book : goal.returns-in-Book
-returns-in-Book c = r (_, _, subst (Judges c.args.book.now) c.in-Book.is c.sound.ensures, c.print_start.ensures)
+returns-in-Book c = inr (_, _, subst (Judges c.args.book.now) c.in-Book.is c.sound.ensures, c.print_start.ensures)

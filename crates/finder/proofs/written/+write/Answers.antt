@@ -74,7 +74,7 @@ Fits : (t : ℕ) → Begun t → ℕ → ℕ → ℕ → Type 0
 Fits t s x at end = PlanFits s.args.n s.args.set.now s.args.look.now s.args.ranks.now x at end
 
 pub choose-requires : goal.choose-requires
-choose-requires t c = let from = c.decreases in (from.few, from.state, from.size)
+choose-requires t c = let from = c.requires.0 in (from.few, from.state, from.size)
 
 pub bounds-room-at : goal.bounds-room-at
 bounds-room-at t c = here t c
@@ -158,7 +158,7 @@ pub returns-in-Stop : goal.returns-in-Stop
 returns-in-Stop t c =
     λ S u. (
       stop,
-      stop-plan c.decreases S u (subst (Chooses S c.args.ranks.now c.args.k) c.in-Stop.is (c.choose.ensures S u)),
+      stop-plan c.requires.0 S u (subst (Chooses S c.args.ranks.now c.args.k) c.in-Stop.is (c.choose.ensures S u)),
       refl,
       refl,
     )

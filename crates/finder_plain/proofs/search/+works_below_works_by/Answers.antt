@@ -15,34 +15,6 @@ use Rattle.finder_plain.proofs.SearchLaws.{in_system, asks-goal, goal_yes, goal_
 use Rattle.finder_plain.proofs.SearchLaws.{nothing_says, remembered, at-goal, Trying, trying_none, still_searches, try_fits, try_yes, try_no, none_left}
 use Rattle.finder_plain.proofs.search.+works_below_works_by.Goals as goal
 
--- what lies ahead where works_by begins, in the system of the question's rules
-systemAt : (t : ℕ) → ByStart t → System
-systemAt t s = ruled_system s.args.n s.args.book.now s.args.question (goal_of s.args.make.now s.args.learn.now)
-
-Opened : (t : ℕ) → ByStart t → ℕ → ℕ → Type 0
-Opened t s x y = Opens (may (systemAt t s) s.args.k) s.args.k s.args.act x y
-
-ahead : (t : ℕ) (s : ByStart t) {r : Ahead} (e : Ahead) → r ≡ e → Foresees (may_do s.args.n s.args.book.now s.args.question.team s.args.question.held s.args.k) s.args.entries.now s.args.k s.args.act s.args.h r → Foresees (may (systemAt t s) s.args.k) s.args.entries.now s.args.k s.args.act s.args.h e
-ahead t s e f g =
-    let a = s.args in
-    in_system a.n a.book.now a.question (goal_of a.make.now a.learn.now) a.k a.entries.now a.act a.h e f g
-
-set-start : (t : ℕ) → ToSet t → ByStart t
-set-start t c = search
-
-look-start : (t : ℕ) → ToLook t → ByStart t
-look-start t c = search
-
-set-opened : (t : ℕ) (c : ToSet t) → Opened t (set-start t c) c.x.given.0.0 c.x.given.0.0
-set-opened t c =
-    let foreseen : Foreseen t = search in
-    ahead t (set-start t c) (One c.x.given.0.0) c.x.given.1 foreseen.foresee.ensures
-
-look-opened : (t : ℕ) (c : ToLook t) → Opened t (look-start t c) c.no.given.0.0 c.no.given.0.1.0
-look-opened t c =
-    let foreseen : Foreseen t = search in
-    ahead t (look-start t c) (Two c.no.given.0.0 c.no.given.0.1.0) c.no.given.1 foreseen.foresee.ensures
-
 pub works_below-bounds-entries-k : goal.works_below-bounds-entries-k
 works_below-bounds-entries-k t c = entry-there c.requires
 
@@ -96,29 +68,48 @@ works_below-returns t c =
     (goal_no a.n a.book.now a.question (goal_of a.make.now a.learn.now) a.k c.settled.ensures c.if-settled.false) (omega (arith, c.if-h-entries.false)) c.raise.ensures
 
 pub works_by-foresee-requires : goal.works_by-foresee-requires
-works_by-foresee-requires t c = asks c.decreases c.requires.1
+works_by-foresee-requires t c = asks c.requires.0 c.requires.1
 
 pub works_by-works_below-requires : goal.works_by-works_below-requires
 works_by-works_below-requires t c =
-    let s = c.decreases in
-    (omega (arith, c.decreases), from_first s (set-opened t c) s.bars)
+    let a = c.args in
+    let opened = in_system a.n a.book.now a.question (goal_of a.make.now a.learn.now) a.k a.entries.now a.act a.h (One c.in-One.x) c.in-One.is c.foresee.ensures in
+    let s = c.requires.0 in
+    (omega (arith, c.decreases), from_first s opened s.bars)
 
 pub works_by-works_below-requires-in-Two : goal.works_by-works_below-requires-in-Two
 works_by-works_below-requires-in-Two t c =
-    let s = c.decreases in
-    (omega (arith, c.decreases), from_first s (look-opened t c) s.bars)
+    let a = c.args in
+    let opened = in_system a.n a.book.now a.question (goal_of a.make.now a.learn.now) a.k a.entries.now a.act a.h (Two c.in-Two.no c.in-Two.yes) c.in-Two.is c.foresee.ensures in
+    let s = c.requires.0 in
+    (omega (arith, c.decreases), from_first s opened s.bars)
 
 pub works_by-returns-then-not-works_below : goal.works_by-returns-then-not-works_below
-works_by-returns-then-not-works_below t c = first_no c.decreases (look-opened t c) c.works_below-in-Two.ensures (c.if-not-works_below.true)
+works_by-returns-then-not-works_below t c =
+    let a = c.args in
+    let opened = in_system a.n a.book.now a.question (goal_of a.make.now a.learn.now) a.k a.entries.now a.act a.h (Two c.in-Two.no c.in-Two.yes) c.in-Two.is c.foresee.ensures in
+    first_no c.requires.0 opened c.works_below-in-Two.ensures (c.if-not-works_below.true)
 
 pub works_by-works_below-requires-in-Two-2 : goal.works_by-works_below-requires-in-Two-2
-works_by-works_below-requires-in-Two-2 t c = (omega (arith, c.decreases), from_second c.decreases (look-opened t c) c.works_below-in-Two.ensures.bars)
+works_by-works_below-requires-in-Two-2 t c =
+    let a = c.args in
+    let opened = in_system a.n a.book.now a.question (goal_of a.make.now a.learn.now) a.k a.entries.now a.act a.h (Two c.in-Two.no c.in-Two.yes) c.in-Two.is c.foresee.ensures in
+    (omega (arith, c.decreases), from_second c.requires.0 opened c.works_below-in-Two.ensures.bars)
 
 pub works_by-returns-in-Nothing : goal.works_by-returns-in-Nothing
-works_by-returns-in-Nothing t c = nothing_says c.decreases (ahead t c Nothing c.in-Nothing.is c.foresee.ensures)
+works_by-returns-in-Nothing t c =
+    let a = c.args in
+    let opened = in_system a.n a.book.now a.question (goal_of a.make.now a.learn.now) a.k a.entries.now a.act a.h Nothing c.in-Nothing.is c.foresee.ensures in
+    nothing_says c.requires.0 opened
 
 pub works_by-returns-in-One : goal.works_by-returns-in-One
-works_by-returns-in-One t c = one-says c.decreases (set-opened t c) c.works_below.ensures
+works_by-returns-in-One t c =
+    let a = c.args in
+    let opened = in_system a.n a.book.now a.question (goal_of a.make.now a.learn.now) a.k a.entries.now a.act a.h (One c.in-One.x) c.in-One.is c.foresee.ensures in
+    one-says c.requires.0 opened c.works_below.ensures
 
 pub works_by-returns-else-not-works_below : goal.works_by-returns-else-not-works_below
-works_by-returns-else-not-works_below t c = second-says c.decreases (look-opened t c) c.works_below-in-Two.ensures (c.if-not-works_below.false) c.works_below-in-Two-2.ensures
+works_by-returns-else-not-works_below t c =
+    let a = c.args in
+    let opened = in_system a.n a.book.now a.question (goal_of a.make.now a.learn.now) a.k a.entries.now a.act a.h (Two c.in-Two.no c.in-Two.yes) c.in-Two.is c.foresee.ensures in
+    second-says c.requires.0 opened c.works_below-in-Two.ensures (c.if-not-works_below.false) c.works_below-in-Two-2.ensures

@@ -20,4 +20,4 @@ in_table d l = at-digit (λ d. get_or table d 0) other tt d l
 
 pub returns : goal.returns
 unfolding table
-returns c = _table c.args.d c.requires
+returns c = in_table c.args.d c.requires

@@ -98,28 +98,6 @@ returns-in-Set t c =
 
 pub returns-in-Look : goal.returns-in-Look
 returns-in-Look t c =
-    let enum-told3 = after-enum-told3.enum-told3 in
-    look_lined (sym after-of-byte.of-byte.ensures ∙ after_act.act.given.1 ∙ ap One enum-told3.given.1)
-    (wrote_act start.args.depth enum-told3.given.1 after-act-line.act-line.ensures)
-    after-lines2.lines2.ensures after-lines3.lines3.ensures
-  where
-    after-lines3 : lines-lts.After-lines3 (claims t) (lines_at t) lines.Post
-    after-lines3 = search
-
-    after-lines2 : lines-lts.After-lines2 (claims t) (lines_at t) lines.Post
-    after-lines2 = search
-
-    after-enum-told3 : lines-lts.After-enum-told3 (claims t) (lines_at t) lines.Post
-    after-enum-told3 = search
-
-    after-act-line : lines-lts.After-act-line (claims t) (lines_at t) lines.Post
-    after-act-line = search
-
-    after_act : lines-lts.After-act (claims t) (lines_at t) lines.Post
-    after_act = search after-act-line
-
-    after-of-byte : lines-lts.After-of-byte (claims t) (lines_at t) lines.Post
-    after-of-byte = search after_act
-
-    start : lines-lts.Start (claims t) (lines_at t) lines.Post
-    start = search after-of-byte
+    look_lined (sym c.of_byte.ensures ∙ c.in-One.is ∙ ap One c.in-Look.is)
+    (wrote_act c.args.depth c.in-Look.is c.act_line-to.ensures)
+    c.lines-no.ensures c.lines-in-Look.ensures
