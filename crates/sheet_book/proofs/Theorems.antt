@@ -75,6 +75,8 @@ makes_of_one rules room (Refused why line) (Refused else at) x y (e, f, g, h) (i
 pub makes_one : (o : Meaning) (room : List ℕ) (a b : MakeAnswer) (x y : List ℕ) → MakesBook o room a x → MakesBook o room b y → (a ≡ b) × (x ≡ y)
 makes_one (refused r at) room (Refused why line) (Refused else place) x y (e, f, g) (h, i, j) = (ap₂ Refused (e ∙ sym h) (f ∙ sym i), g ∙ sym j)
 makes_one (stated rules) room a b x y h k = makes_of_one rules room a b x y h k
+makes_one (refused r at) room (Made _) b x y h k = elim h [ ]
+makes_one (refused r at) room (Refused why line) (Made _) x y h k = elim k [ ]
 
 -- ---- 25 is never given: not by the lines, and the room's refusal is 15
 

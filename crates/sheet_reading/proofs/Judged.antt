@@ -49,6 +49,7 @@ Judged w (stated v) = (v ≡ w) × ((K : ℕ) (x : Refusal) → LineFault w K x 
 
 not-not : (b : Bool) → T (not (not b)) → T b
 not-not true h = tt
+not-not false h = elim h [ ]
 
 not-most : (n : ℕ) → T (not (leb n 5)) → 5 < n
 not-most n h = elim (lt_or_ge 5 n) [ inl l ↦ l | inr l ↦ both (leb n 5) (le→leb n 5 l) h ]

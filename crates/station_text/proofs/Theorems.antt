@@ -142,6 +142,10 @@ text_no_bytes s e fits even =
 pub told-one : (m : Meaning) (x y : ShiftTold) (old new other : List ℕ) → Tells m x old new → Tells m y old other → (x ≡ y) × (new ≡ other)
 told-one (refused r) (Refused why) (Refused cause) old new other p q = (ap Refused (p.0 ∙ sym q.0), p.1 ∙ sym q.1)
 told-one (gives b) (Read n) (Read k) old new other p q = (ap Read (p.count ∙ sym q.count), p.room ∙ sym q.room)
+told-one (refused r) (Read n) y old new other p q = elim p [ ]
+told-one (refused r) (Refused why) (Read k) old new other p q = elim q [ ]
+told-one (gives b) (Read n) (Refused cause) old new other p q = elim q [ ]
+told-one (gives b) (Refused why) y old new other p q = elim p [ ]
 
 pub read_unique : (κs : _) (a : _) (x y : _) (s : _) → read.Post κs a x s → read.Post κs a y s → x ≡ y
 read_unique κs a x y s p q = (told-one (read_meaning a.0.now) x y a.1.0.now s.1.0.now s.1.0.now p q).0
