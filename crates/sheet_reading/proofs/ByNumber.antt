@@ -66,11 +66,11 @@ module _ (s : List ℕ) where
   -- 22 at line L
   pub malformed_exactly : (L : ℕ) → (sheet_meaning s ≡ refused (Malformed L) L)
       ↔ ((length s ≤ 32768) × MalformedAt s L × ((K : ℕ) (r : Refusal) → K < L → FaultAt s K r → ⊥))
-  malformed_exactly L = (λ e. there ((refused_exactly s (Malformed L) L).0 e), λ (fits, m, none). (refused_exactly s (Malformed L) L).1 (malformed fits m none))
+  malformed_exactly L = (λ e. there refl ((refused_exactly s (Malformed L) L).0 e), λ (fits, m, none). (refused_exactly s (Malformed L) L).1 (malformed fits m none))
     where
-      there : RefusedSheet s (Malformed L) L → (length s ≤ 32768) × MalformedAt s L × ((K : ℕ) (r : Refusal) → K < L → FaultAt s K r → ⊥)
-      there (malformed fits m none) = (fits, m, none)
-      there (at-fault fits f) = absurd (elim (fault-number f.begun.sheet.size.settings L f.here.before f.here.holds) [
+      there : {k l : ℕ} → k ≡ l → RefusedSheet s (Malformed k) l → (length s ≤ 32768) × MalformedAt s l × ((K : ℕ) (r : Refusal) → K < l → FaultAt s K r → ⊥)
+      there e (malformed fits m none) = (fits, m, none)
+      there {l = l} e (at-fault fits f) = absurd (elim (fault-number f.begun.sheet.size.settings l f.here.before f.here.holds) [
         | inl h ↦ omega (arith, h)
         | inr (inl h) ↦ omega (arith, h)
         | inr (inr h) ↦ omega (arith, h)

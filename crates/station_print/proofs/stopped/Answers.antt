@@ -31,7 +31,7 @@ fault_line-requires c =
               c.reached-to.ensures.next_place,
               reached-length a.n a.running c.requires.0 early,
               fault-length a.shift.now a.running.count c.peek-byte.result c.peek-seen.result a.number a.n a.running.present.0
-                  next.readable.shift_most early (omega (arith, c.peek-byte.ok)) (omega (arith, c.peek-seen.ok)) c.requires.0,
+                  next.readable.shift_most early (omega (arith, c.peek-byte.type_inv)) (omega (arith, c.peek-seen.type_inv)) c.requires.0,
             );
       },
     )

@@ -50,9 +50,9 @@ returns c =
     let start-here : c.number-start.result ≡ start_of c.args.question =
         start_is c.args.question c.at_start.ensures c.number-start.ensures in
     (
-      asked (λ (S : System). RanksFilled c.args.n S c.args.ranks.now c.fill_ranks.last.1.1.1.1.1.0) (ranks-without.0 (filled)),
-      asked (λ (S : System). AnswersFrom S (start_of c.args.question) c.args.plan.now c.from_start.result c.from_start.last.1.1.1.1.1.0)
-          ((answers-without (systemHere) (start_of c.args.question) c.args.plan.now c.from_start.result c.from_start.last.1.1.1.1.1.0).0
-          (subst (λ (x : ℕ). AnswersFrom (systemHere) x c.args.plan.now c.from_start.result c.from_start.last.1.1.1.1.1.0)
+      asked (λ (S : System). RanksFilled c.args.n S c.args.ranks.now c.fill_ranks.new.ranks) (ranks-without.0 (filled)),
+      asked (λ (S : System). AnswersFrom S (start_of c.args.question) c.args.plan.now c.from_start.result c.from_start.new.plan)
+          ((answers-without (systemHere) (start_of c.args.question) c.args.plan.now c.from_start.result c.from_start.new.plan).0
+          (subst (λ (x : ℕ). AnswersFrom (systemHere) x c.args.plan.now c.from_start.result c.from_start.new.plan)
           (start-here) (c.from_start.ensures (systemHere) (told)))),
     )

@@ -49,7 +49,7 @@ bounds-ranks-k c =
     omega (arith, pre.1, pre.2)
 
 pub overflow_cast-no : goal.overflow_cast-no
-overflow_cast-no c = omega (arith, c.look_at-no.ok)
+overflow_cast-no c = omega (arith, c.look_at-no.type_inv)
 
 pub bounds-ranks-no : goal.bounds-ranks-no
 bounds-ranks-no c =
@@ -65,7 +65,7 @@ returns-then-rank-ranks c =
     (rank-at args.ranks.now c.look_at-no.ensures) c.if-rank-ranks.true)
 
 pub overflow_cast-yes : goal.overflow_cast-yes
-overflow_cast-yes c = omega (arith, c.look_at-yes.ok)
+overflow_cast-yes c = omega (arith, c.look_at-yes.type_inv)
 
 pub bounds-ranks-yes : goal.bounds-ranks-yes
 bounds-ranks-yes c =

@@ -27,7 +27,7 @@ set_to-next-requires c =
     (number_small args.n args.k pre.0 pre.1, omega (arith, pre))
 
 pub overflow_cast-next : goal.overflow_cast-next
-overflow_cast-next c = omega (arith, c.set_to-next.type-inv)
+overflow_cast-next c = omega (arith, c.set_to-next.type_inv)
 
 pub bounds-ranks-next : goal.bounds-ranks-next
 bounds-ranks-next c =

@@ -94,11 +94,11 @@ returns c =
     record {
       second-ranks = c.fill_leg.ensures;
       first-ranks =
-          asked (λ (S : System). RanksFilled c.args.n S c.args.ranks.now c.fill_first.last.1.1.1.1.1.1.0)
+          asked (λ (S : System). RanksFilled c.args.n S c.args.ranks.now c.fill_first.new.ranks)
           (ranks-without.0 (filled));
       answers =
-          asked (λ (S : System). AnswersFrom S (start_of c.args.question) c.args.plan.now c.from_start.result c.from_start.last.1.1.1.1.1.0)
-          ((answers-without (firstHere) (start_of c.args.question) c.args.plan.now c.from_start.result c.from_start.last.1.1.1.1.1.0).0
-          (subst (λ (x : ℕ). AnswersFrom (firstHere) x c.args.plan.now c.from_start.result c.from_start.last.1.1.1.1.1.0)
+          asked (λ (S : System). AnswersFrom S (start_of c.args.question) c.args.plan.now c.from_start.result c.from_start.new.plan)
+          ((answers-without (firstHere) (start_of c.args.question) c.args.plan.now c.from_start.result c.from_start.new.plan).0
+          (subst (λ (x : ℕ). AnswersFrom (firstHere) x c.args.plan.now c.from_start.result c.from_start.new.plan)
           (start-here) (c.from_start.ensures (firstHere) (told))));
     }

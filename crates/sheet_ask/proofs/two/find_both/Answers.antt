@@ -8,5 +8,4 @@ find_legs-answer-requires c = (c.requires.learnt, c.requires.learnt2)
 
 pub returns : goal.returns
 returns c =
-    let zeros : tie.After-ranks-room = c in
-    two-found _ _ _ c.requires _ _ _ _ c.find_legs-answer.ensures zeros.ranks-room.ensures c.copy.ensures
+    two-found _ _ _ c.requires _ _ _ _ c.find_legs-answer.ensures c.ranks_room.ensures c.copy.ensures

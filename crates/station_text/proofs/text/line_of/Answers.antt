@@ -18,7 +18,7 @@ returns-then-text-end c =
     let line-here : (PieceEnd c.args.text.now c.loop-index.at newline c.piece_end-end.result) =
         piece_is _ c.loop-index.at newline c.piece_end-end.result c.loop-index.invariant.0 c.piece_end-end.ensures in
     let l = c.loop-index in
-    sym (of_end (line-here) c.if-text-end.true (suc l.lines) l.false) ∙ l.invariant.2
+    sym (of_end (line-here) c.if-text-end.true (suc l.lines) l.left) ∙ l.invariant.2
 
 pub slice_bounds-records_in-count : goal.slice_bounds-records_in-count
 slice_bounds-records_in-count c =
@@ -50,7 +50,7 @@ returns-then-left-here c =
     let line-here : (PieceEnd c.args.text.now c.loop-index.at newline c.piece_end-end.result) =
         piece_is _ c.loop-index.at newline c.piece_end-end.result c.loop-index.invariant.0 c.piece_end-end.ensures in
     let l = c.loop-index in
-    rw add-one (sym (of_here (line-here) c.if-text-end.false (suc l.lines) l.false (rw c.records_in-here.ensures at c.if-left-here.true)) ∙ l.invariant.2)
+    rw add-one (sym (of_here (line-here) c.if-text-end.false (suc l.lines) l.left (rw c.records_in-here.ensures at c.if-left-here.true)) ∙ l.invariant.2)
 
 pub overflow_add-at : goal.overflow_add-at
 overflow_add-at c = omega (arith, c.if-text-end.false)
@@ -70,5 +70,5 @@ loop-index-preserved c =
       omega (arith, c.if-text-end.false),
       omega (arith, p.from, l.invariant.1),
       rw (add-one, add-one, c.records_in-here.ensures)
-          (sym (of_later p c.if-text-end.false (suc l.lines) l.false (rw c.records_in-here.ensures at c.if-left-here.false)) ∙ l.invariant.2),
+          (sym (of_later p c.if-text-end.false (suc l.lines) l.left (rw c.records_in-here.ensures at c.if-left-here.false)) ∙ l.invariant.2),
     )
