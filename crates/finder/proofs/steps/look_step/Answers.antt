@@ -96,3 +96,6 @@ returns c =
     (rank-at args.ranks.now c.look_at-no.ensures) c.if-rank-ranks.false)
     (subst (λ (x : ℕ). x < get_or args.ranks.now args.k 0)
     (rank-at args.ranks.now c.look_at-yes.ensures) c.if-rank-ranks-2.false)
+
+pub bounds-look-side : goal.bounds-look-side
+bounds-look-side c = omega (arith, c.requires.3, below-sides c.args.n c.args.k c.requires.0)

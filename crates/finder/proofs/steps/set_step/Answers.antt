@@ -59,3 +59,6 @@ returns c =
     λ S t. set_no_lower t args.k args.i c.requires.4 args.value
     (subst (λ (x : ℕ). get_or args.ranks.now args.k 0 ≤ x)
     (rank-at args.ranks.now c.set_to-next.ensures) c.if-ranks-next.false)
+
+pub bounds-set-side : goal.bounds-set-side
+bounds-set-side c = omega (arith, c.requires.3, below-sides c.args.n c.args.k c.requires.0)

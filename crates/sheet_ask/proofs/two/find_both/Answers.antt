@@ -8,4 +8,4 @@ find_legs-answer-requires c = (c.requires.learnt, c.requires.learnt2)
 
 pub returns : goal.returns
 returns c =
-    two-found _ _ _ c.requires _ _ _ _ c.find_legs-answer.ensures c.ranks_room.ensures c.copy.ensures
+    two-found _ _ _ c.requires _ _ _ _ c.find_legs-answer.ensures c.ranks_room-ranks2.ensures c.copy.ensures
