@@ -162,7 +162,7 @@ sheet-answered s old r new sheet m a =
       ],
     )
 
--- ---- the refusals of a sheet, exactly, by the grammar of well_formed sheets: "First 24; then line by line 22, 23, the formula's number; 25 directly
+-- ---- the refusals of a sheet, exactly, by the grammar of well-formed sheets: "First 24; then line by line 22, 23, the formula's number; 25 directly
 -- after line 1." The line is printed as the place.
 
 pub sheet-refused : (s : List ℕ) (w : Refusal) (L : ℕ) → (sheet_meaning s ≡ refused w L) ↔ RefusedSheet s w L

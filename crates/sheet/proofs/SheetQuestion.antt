@@ -1,4 +1,4 @@
--- The question that a well_formed sheet asks is valid: its rights may be written as a book, and refusals 10 to 12 deny nothing of it. Name by name,
+-- The question that a well-formed sheet asks is valid: its rights may be written as a book, and refusals 10 to 12 deny nothing of it. Name by name,
 -- and table by table. So its plans are short.
 use mathlib.Core.Path.{◌≡◌, sym, ap, ◌∙◌, subst}
 use mathlib.Core.Logic.{inl, inr}

@@ -1,4 +1,4 @@
--- A well_formed sheet is taken as what it is, or refused for the first fault of its lines: each line passes the test of its form and reads back,
+-- A well-formed sheet is taken as what it is, or refused for the first fault of its lines: each line passes the test of its form and reads back,
 -- and the tests that are left find exactly the faults that Faults tells.
 use mathlib.Core.Path.{◌≡◌, refl, sym, ap, ◌∙◌, subst}
 use mathlib.Core.Logic.{inl, inr}
@@ -41,7 +41,7 @@ use Rattle.sheet_reading.proofs.LineForms.{clear-append, size-read, size-clear, 
 use Rattle.sheet_reading.proofs.NameLines.{team-read, team-clear, known_read, known-clear, held-read, held-clear}
 use Rattle.sheet_reading.proofs.LineByLine.{line_clear, lines_split, first-split}
 
--- ---- what becomes of a well_formed sheet
+-- ---- what becomes of a well-formed sheet
 
 abbrev pub Judged : Sheet → Meaning → Type 0
 Judged w (refused r L) = FirstFault w L r

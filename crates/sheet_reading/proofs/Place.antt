@@ -1,4 +1,4 @@
--- The place of 22 is the grammar's: the lines before the refused one begin a well_formed sheet and the lines up to it begin none, since a sheet
+-- The place of 22 is the grammar's: the lines before the refused one begin a well-formed sheet and the lines up to it begin none, since a sheet
 -- that began with them would be refused with 22 itself.
 use mathlib.Core.Path.{◌≡◌, refl, sym, ap, ◌∙◌, subst}
 use mathlib.Core.Logic.{◌⊎◌, inl, inr}
@@ -62,7 +62,7 @@ refusal s r L e = elim (lt_or_ge 32768 (length s)) [
 
 -- ---- the place of 22
 
--- no well_formed sheet begins with the lines up to the one that is 22
+-- no well-formed sheet begins with the lines up to the one that is 22
 begins-none : (s : List ℕ) (L : ℕ) → RefusedAt s (Malformed L) L → L < length (split newline s) → BeginsSheet (first_lines L s) → ⊥
 unfolding first_lines
 begins-none s L a l b =
@@ -94,7 +94,7 @@ malformed_unique (at-line {L = K} a) (at_end f g) = absurd (f K a.here)
 malformed_unique (at_end f g) (at-line {L = L} b) = absurd (f L b.here)
 malformed_unique (at_end f g) (at_end h k) = refl
 
--- a well_formed sheet has none
+-- a well-formed sheet has none
 sheet-sound : {s : List ℕ} {L : ℕ} → MalformedAt s L → IsSheet s → ⊥
 unfolding first_lines
 sheet-sound {s} (at-line {L = L} a) w =

@@ -1,4 +1,4 @@
--- Where a sheet is refused: the lines before that line begin a well_formed sheet, and the lines up to it are refused so whatever follows them. By
+-- Where a sheet is refused: the lines before that line begin a well-formed sheet, and the lines up to it are refused so whatever follows them. By
 -- recursion over the lines.
 use mathlib.Core.Path.{◌≡◌, refl, sym, ap, ◌∙◌, subst}
 use mathlib.Core.Logic.{◌⊎◌, inl, inr, ⊎_elim}

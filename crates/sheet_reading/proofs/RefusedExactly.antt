@@ -1,4 +1,4 @@
--- A sheet is refused exactly as the grammar tells: a well_formed sheet that begins with its lines up to the refused one is refused there too, with the
+-- A sheet is refused exactly as the grammar tells: a well-formed sheet that begins with its lines up to the refused one is refused there too, with the
 -- same refusal; and a sheet that begins as such a one does has the same lines up to there.
 use mathlib.Core.Path.{◌≡◌, refl, sym, ap, ◌∙◌, subst}
 use mathlib.Core.Logic.{inl, inr, ◌↔◌}
@@ -24,7 +24,7 @@ use Rattle.sheet_reading.proofs.Taken.{stated-written}
 use Rattle.sheet_reading.proofs.RefusedAt.{Placed, sheet_placed}
 use Rattle.sheet_reading.proofs.Place.{RefusedAt, refusal, meaning-long, meaning-lines, malformed-line, malformed-refused}
 
--- ---- a well_formed sheet, but for its length
+-- ---- a well-formed sheet, but for its length
 
 module _ (w : Sheet) (h : WellFormed w) where
   -- its first fault is its refusal

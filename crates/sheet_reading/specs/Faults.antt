@@ -1,5 +1,5 @@
 -- When a sheet is refused and where, told by the grammar alone: "First 24; then line by line 22, 23, the formula's number; 25 directly after line 1."
--- Place has 22. The other numbers of a line are told of a well_formed sheet that begins with the lines up to it.
+-- Place has 22. The other numbers of a line are told of a well-formed sheet that begins with the lines up to it.
 use Rattle.std.specs.Prelude.{◌≡◌, ◌⊎◌, List, [], ◌∷◌, ◌++◌, map, ℕ, suc, ◌≤◌, ◌<◌, length}
 use Rattle.ground.specs.Text.{bytes}
 use Rattle.refusal.specs.declared.Refusal.{Refusal}
@@ -48,7 +48,7 @@ lines_of w =
     ++ (team-line w.asked.team ∷ known-line w.asked.known ∷ held_in w.asked.held
     ++ make-line w.asked.make ∷ map ask_line w.asked.asks)
 
--- ---- what may be wrong with a well_formed line, after the lines `before`
+-- ---- what may be wrong with a well-formed line, after the lines `before`
 
 -- the line states the right that r states
 abbrev pub LineStates : Rule → Line → Type 0
@@ -125,7 +125,7 @@ LineFault w L r = AtLine w L (λ before line. Fault w.size.settings L before lin
 
 -- ---- the sheet s is refused
 
--- line L of s is reached, and P holds there: the line ends in byte 10, the lines up to it begin a well_formed sheet, and no line before it is refused.
+-- line L of s is reached, and P holds there: the line ends in byte 10, the lines up to it begin a well-formed sheet, and no line before it is refused.
 -- P is told the settings of the sheet's size, what the lines before say, and what the line says.
 pub record Reaches (s : List ℕ) (L : ℕ) (P : ℕ → List Line → Line → Type 0) : Type 0 where
   pub line-ends : L < length (split newline s)
