@@ -13,7 +13,7 @@ use lib.ListN.{length, get_or, set, replicate, length-replicate}
 use lib.Pow.{pow_mono}
 use lib.Seq.{get_or-set_same, get_or-set_other}
 use Rattle.ground.specs.Digits.{digit, put, bit}
-use Rattle.ground.proofs.Bits.{bit_and}
+use Rattle.ground.proofs.Bits.{bit-bit_and}
 use Rattle.ground.proofs.Table.{zero_at}
 use Rattle.ground.proofs.Digits.{put_same, put_other, put_lt, put-sum}
 use Rattle.knowledge_acts.specs.Seven.{unknown, told}
@@ -51,7 +51,7 @@ module _ {n side i : ℕ} (below : i < n) (small : side < 3 ^ n) (at : digit 3 s
   between : {columns : List ℕ} {x y : ℕ} → FilledAt n columns (put 3 side i 1) x → FilledAt n columns (put 3 side i 2) y → FilledAt n columns side (bit_and x y)
   between {columns} {x} {y} no_side yes-side = record {
     tells = λ q g b t col.
-        bit_and x y q ∙ ap₂ ◌&&◌ (no_side.tells q g b t col) (yes-side.tells q g b t col)
+        bit-bit_and x y q ∙ ap₂ ◌&&◌ (no_side.tells q g b t col) (yes-side.tells q g b t col)
         ∙ and_both g (always b n (digit 3 (put 3 side i 1)) t) (always b n (digit 3 (put 3 side i 2)) t)
         ∙ ap (λ (z : Bool). g && z) (sym (split b t));
     small = λ m h. lt_of_le_of_lt (and_le_l x y) (no_side.small m h);

@@ -17,7 +17,7 @@ use Rattle.ground.specs.Search.{all}
 use Rattle.ground.specs.Table.{truth, Within, TableOf}
 use Rattle.ground.proofs.Bools.{beq→eq, lt_or_ge, and_true, and_false}
 use Rattle.ground.proofs.Search.{all-at}
-use Rattle.ground.proofs.Bits.{bit_and, bit_or, bit_xor, bit_shr, bit-mod, bit_of_zero, bit_off}
+use Rattle.ground.proofs.Bits.{bit-bit_and, bit-bit_or, bit-bit_xor, bit_shr, bit-mod, bit_of_zero, bit_off}
 use Rattle.formula_table.specs.Two.{has, WordsOf, words_byte, BytesOf}
 use Rattle.formula_table.specs.declared.Truths.{Truths}
 
@@ -87,10 +87,10 @@ module _ (op : ℕ → ℕ → ℕ) (g : Bool → Bool → Bool) (law : (a b i :
       ∙ picked g (ltb v 64) (bit a.low v) (bit b.low v) (bit a.high (v - 64)) (bit b.high (v - 64))
 
 pub and_holds : (a b : Truths) → WordsOf (words (bit_and a.low b.low) (bit_and a.high b.high)) (λ v. has a v && has b v)
-and_holds a b = both_words bit_and ◌&&◌ bit_and a b
+and_holds a b = both_words bit_and ◌&&◌ bit-bit_and a b
 
 pub or_holds : (a b : Truths) → WordsOf (words (bit_or a.low b.low) (bit_or a.high b.high)) (λ v. has a v || has b v)
-or_holds a b = both_words bit_or ◌||◌ bit_or a b
+or_holds a b = both_words bit_or ◌||◌ bit-bit_or a b
 
 unlike : (x y : Bool) → y ≡ true → not (beq x y) ≡ not x
 unlike true y e = rw e
@@ -99,7 +99,7 @@ unlike false y e = rw e
 pub not-holds : (a : Truths) → WordsOf (words (bit_xor a.low every) (bit_xor a.high every)) (λ v. not (has a v))
 unfolding WordsOf
 not-holds a v h =
-    both_words bit_xor (λ x y. not (beq x y)) bit_xor a (words every every) v h ∙ unlike (has a v) (has (words every every) v) (true_holds v h)
+    both_words bit_xor (λ x y. not (beq x y)) bit-bit_xor a (words every every) v h ∙ unlike (has a v) (has (words every every) v) (true_holds v h)
 
 -- ---- no bit past 2^n
 
@@ -120,7 +120,7 @@ mask_holds n h = by_test (words (get_or masks n 0) 0) (below n) (all-at 6 mask_t
 pub within_low : (a : Truths) (n : ℕ) → n < 6 → WordsOf (words (bit_and a.low (get_or masks n 0)) 0) (λ v. has a v && below n v)
 unfolding WordsOf has
 within_low a n h v l =
-    ap₂ (cond (ltb v 64)) (bit_and a.low (get_or masks n 0) v)
+    ap₂ (cond (ltb v 64)) (bit-bit_and a.low (get_or masks n 0) v)
     (bit_of_zero (v - 64) ∙ sym (and_false (bit a.high (v - 64)))
     ∙ ap (λ (x : Bool). bit a.high (v - 64) && x) (sym (bit_of_zero (v - 64))))
     ∙ picked ◌&&◌ (ltb v 64) (bit a.low v) (bit (get_or masks n 0) v) (bit a.high (v - 64)) (bit 0 (v - 64))

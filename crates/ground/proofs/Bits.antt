@@ -67,14 +67,14 @@ low_xor x y h k =
     (below_2 (λ y. eqb (bit_xor 0 y) 1 ≡ not (beq (eqb 0 1) (eqb y 1))) refl refl y k)
     (below_2 (λ y. eqb (bit_xor 1 y) 1 ≡ not (beq (eqb 1 1) (eqb y 1))) refl refl y k) x h
 
-pub bit_and : (a b i : ℕ) → bit (bit_and a b) i ≡ bit a i && bit b i
-bit_and a b i = bit_of bit_and ◌&&◌ (λ a b. and_shr a b 1) (λ a b. and_mod a b 1) low_and i a b
+pub bit-bit_and : (a b i : ℕ) → bit (bit_and a b) i ≡ bit a i && bit b i
+bit-bit_and a b i = bit_of bit_and ◌&&◌ (λ a b. and_shr a b 1) (λ a b. and_mod a b 1) low_and i a b
 
-pub bit_or : (a b i : ℕ) → bit (bit_or a b) i ≡ bit a i || bit b i
-bit_or a b i = bit_of bit_or ◌||◌ (λ a b. or_shr a b 1) (λ a b. or_mod a b 1) low_or i a b
+pub bit-bit_or : (a b i : ℕ) → bit (bit_or a b) i ≡ bit a i || bit b i
+bit-bit_or a b i = bit_of bit_or ◌||◌ (λ a b. or_shr a b 1) (λ a b. or_mod a b 1) low_or i a b
 
-pub bit_xor : (a b i : ℕ) → bit (bit_xor a b) i ≡ not (beq (bit a i) (bit b i))
-bit_xor a b i = bit_of bit_xor (λ x y. not (beq x y)) (λ a b. xor_shr a b 1) (λ a b. xor_mod a b 1) low_xor i a b
+pub bit-bit_xor : (a b i : ℕ) → bit (bit_xor a b) i ≡ not (beq (bit a i) (bit b i))
+bit-bit_xor a b i = bit_of bit_xor (λ x y. not (beq x y)) (λ a b. xor_shr a b 1) (λ a b. xor_mod a b 1) low_xor i a b
 
 low_eq : (x y : ℕ) → x < 2 → y < 2 → eqb x 1 ≡ eqb y 1 → x ≡ y
 low_eq x y h k =

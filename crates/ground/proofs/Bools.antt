@@ -11,15 +11,18 @@ true→T {a} e = subst T (sym e) tt
 
 pub T→true : (a : Bool) → T a → a ≡ true
 T→true true h = refl
+T→true false h = elim h [ ]
 
 pub T→false : (a : Bool) → T (not a) → a ≡ false
 T→false false h = refl
+T→false true h = elim h [ ]
 
 pub false→T : {a : Bool} → a ≡ false → T (not a)
 false→T {a} e = subst (λ (x : Bool). T (not x)) (sym e) tt
 
 pub and_in : (a b : Bool) → T a → T b → T (a && b)
 and_in true b h k = k
+and_in false b h k = elim h [ ]
 
 pub and_true : (a : Bool) → a && true ≡ a
 and_true true = refl
@@ -31,9 +34,11 @@ and_false false = refl
 
 pub and_left : (a b : Bool) → T (a && b) → T a
 and_left true b h = tt
+and_left false b h = elim h [ ]
 
 pub and_right : (a b : Bool) → T (a && b) → T b
 and_right true b h = h
+and_right false b h = elim h [ ]
 
 pub or_true : (a : Bool) → a || true ≡ true
 or_true true = refl
@@ -45,6 +50,7 @@ or_false false = refl
 
 pub or_left : (a b : Bool) → T a → T (a || b)
 or_left true b h = tt
+or_left false b h = elim h [ ]
 
 pub or_right : (a b : Bool) → T b → T (a || b)
 or_right true b h = tt
@@ -72,6 +78,8 @@ T_iff false false f g = refl
 pub beq→eq : (a b : Bool) → T (beq a b) → a ≡ b
 beq→eq true true h = refl
 beq→eq false false h = refl
+beq→eq false true h = elim h [ ]
+beq→eq true false h = elim h [ ]
 
 pub eq→eqb : {a b : ℕ} → a ≡ b → T (eqb a b)
 eq→eqb {a} e = subst (λ (x : ℕ). T (eqb a x)) e (eqb_refl a)

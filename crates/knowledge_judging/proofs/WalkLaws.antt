@@ -14,7 +14,7 @@ use lib.Pow.{pow_mono}
 use Rattle.ground.specs.Digits.{bit}
 use Rattle.ground.specs.Search.{all}
 use Rattle.ground.specs.Table.{truth}
-use Rattle.ground.proofs.Bits.{bit_zero, bit-suc, bit_and, bit_or, same_bits}
+use Rattle.ground.proofs.Bits.{bit_zero, bit-suc, bit-bit_and, bit-bit_or, same_bits}
 use Rattle.ground.proofs.Bools.{T→true, T→false, true→T, false→T, and_in, and_true, and_false, and_left, and_right, both, decide, eq→eqb, or_false, lt_or_ge, T_iff}
 use Rattle.ground.proofs.Search.{all-at, all_intro}
 use Rattle.knowledge_acts.specs.Seven.{unknown}
@@ -30,11 +30,11 @@ Sub t mask = (i : ℕ) → T (bit t i) → T (bit mask i)
 
 pub sub_of : (t mask : ℕ) → T (within t mask) → Sub t mask
 sub_of t mask h i b =
-    and_right (bit t i) (bit mask i) (subst T (ap (λ (x : ℕ). bit x i) (sym (eqb→eq (bit_and t mask) t h)) ∙ bit_and t mask i) b)
+    and_right (bit t i) (bit mask i) (subst T (ap (λ (x : ℕ). bit x i) (sym (eqb→eq (bit_and t mask) t h)) ∙ bit-bit_and t mask i) b)
 
 pub sub_in : (k t mask : ℕ) → t < 2 ^ k → Sub t mask → T (within t mask)
 sub_in k t mask small sub =
-    eq→eqb (same_bits k (bit_and t mask) t (omega (arith, and_le_l t mask)) small (λ i l. bit_and t mask i ∙ kept i))
+    eq→eqb (same_bits k (bit_and t mask) t (omega (arith, and_le_l t mask)) small (λ i l. bit-bit_and t mask i ∙ kept i))
   where
     kept : (i : ℕ) → bit t i && bit mask i ≡ bit t i
     kept i = elim (decide (bit t i)) [
@@ -183,7 +183,7 @@ module _ {n : ℕ} {side : ℕ → ℕ} {m : Masks} (few : n ≤ 7) (o : MasksOf
   part_of : (v : ℕ) → v < 2 ^ n → T (fits n side v) → bit_or m.values (bit_and v m.unknown) ≡ v
   part_of v l f =
       same_bits n (bit_or m.values (bit_and v m.unknown)) v (or_lt n m.values (bit_and v m.unknown) o.values-small (omega (arith, and_le_l v m.unknown))) l
-      (λ i h. bit_or m.values (bit_and v m.unknown) i ∙ ap (λ (b : Bool). bit m.values i || b) (bit_and v m.unknown i) ∙ at i h)
+      (λ i h. bit-bit_or m.values (bit_and v m.unknown) i ∙ ap (λ (b : Bool). bit m.values i || b) (bit-bit_and v m.unknown i) ∙ at i h)
     where
       at : (i : ℕ) → i < n → bit m.values i || (bit v i && bit m.unknown i) ≡ bit v i
       at i h = elim (decide (bit m.unknown i)) [
@@ -196,7 +196,7 @@ module _ {n : ℕ} {side : ℕ → ℕ} {m : Masks} (few : n ≤ 7) (o : MasksOf
   part_fits : (t : ℕ) → T (within t m.unknown) → T (fits n side (bit_or m.values t))
   part_fits t h = fits_intro n side (bit_or m.values t) (λ i l. elim (decide (bit m.unknown i)) [
     | inl b ↦ rw (o.tells i l, T→true (bit m.unknown i) b) (agrees-unknown (bit (bit_or m.values t) i))
-    | inr b ↦ rw (o.tells i l, T→false (bit m.unknown i) b, bit_or m.values t i, T→false (bit t i) (outside i b), or_false (bit m.values i)) (agrees-told (bit m.values i))
+    | inr b ↦ rw (o.tells i l, T→false (bit m.unknown i) b, bit-bit_or m.values t i, T→false (bit t i) (outside i b), or_false (bit m.values i)) (agrees-told (bit m.values i))
   ])
     where
       outside : (i : ℕ) → T (not (bit m.unknown i)) → T (not (bit t i))
@@ -211,7 +211,7 @@ module _ {n : ℕ} {side : ℕ → ℕ} {m : Masks} (few : n ≤ 7) (o : MasksOf
       (all-at 128 (λ t. implies (within t m.unknown) (is value (truth table (bit_or m.values t)))) h (bit_and v m.unknown)
       (omega (arith, and_le_r v m.unknown, masks_small)))
       (sub_in 7 (bit_and v m.unknown) m.unknown (omega (arith, and_le_r v m.unknown, masks_small))
-      (λ i b. and_right (bit v i) (bit m.unknown i) (subst T (bit_and v m.unknown i) b))))))
+      (λ i b. and_right (bit v i) (bit m.unknown i) (subst T (bit-bit_and v m.unknown i) b))))))
       (λ h. all_intro 128 (λ t. implies (within t m.unknown) (is value (truth table (bit_or m.values t))))
       (λ t l. implies_in (within t m.unknown) (is value (truth table (bit_or m.values t)))
       (λ x. always-at value n side table h (bit_or m.values t) (or_lt n m.values t o.values-small (below t x)) (part_fits t x))))

@@ -14,7 +14,7 @@ use Rattle.ground.specs.Digits.{bit}
 use Rattle.ground.specs.Table.{Within}
 use Rattle.ground.specs.Tells.{Tells}
 use Rattle.ground.proofs.Bools.{T→false, false→T, both, decide, or_left, or_right, T_iff, or_out, eq→eqb, lt_or_ge}
-use Rattle.ground.proofs.Bits.{same_bits, bit_or}
+use Rattle.ground.proofs.Bits.{same_bits, bit-bit_or}
 use Rattle.ground.proofs.HighBits.{high_bit, shift_none}
 use Rattle.ground.proofs.HighBits as High
 use Rattle.ground.proofs.Table.{truth-take}
@@ -59,10 +59,10 @@ known_tells n known values hk hv z =
     tells_eqb (bit_or known values) known
     (λ e. record {
       settings = bits-low n known (shift_none known n z);
-      valued = λ i t. subst T (sym (bit_or known values i) ∙ ap (λ (x : ℕ). bit x i) e) (or_right (bit known i) (bit values i) t);
+      valued = λ i t. subst T (sym (bit-bit_or known values i) ∙ ap (λ (x : ℕ). bit x i) e) (or_right (bit known i) (bit values i) t);
     })
     (λ f. same_bits 8 (bit_or known values) known (or_lt 8 known values hk hv) hk
-    (λ i l. bit_or known values i ∙ T_iff (bit known i || bit values i) (bit known i)
+    (λ i l. bit-bit_or known values i ∙ T_iff (bit known i || bit values i) (bit known i)
     (λ t. elim (or_out (bit known i) (bit values i) t) [ inl x ↦ x | inr x ↦ f.valued i x ])
     (λ t. or_left (bit known i) (bit values i) t)))
 

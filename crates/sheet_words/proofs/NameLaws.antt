@@ -14,7 +14,7 @@ use lib.Seq.{get_or-drop}
 use borrow.Author.Tests.{ne_eqb, eq-eqb, le-leb, lt-leb}
 use Rattle.ground.specs.Digits.{bit}
 use Rattle.ground.proofs.Bools.{and_right, lt_or_ge, or_false}
-use Rattle.ground.proofs.Bits.{bit_or, bit_of_zero}
+use Rattle.ground.proofs.Bits.{bit-bit_or, bit_of_zero}
 use Rattle.ground.proofs.HighBits.{power_bit}
 use Rattle.sheet_words.specs.Words.{member, split, space, is_false, bare, among, is_name, all_names, index_of, indexes, twice, true_indexes}
 use Rattle.sheet_words.specs.Marks.{Marking, Marked, Names, are_names}
@@ -41,7 +41,7 @@ sign_false w e = ap (λ (t : List ℕ). get_or t 0 0) (bare_false w e) ∙ get_o
 -- ---- a bit more
 
 pub with_bit : (byte i j : ℕ) → i < 8 → bit (bit_or byte ((1 * 2 ^ i) % 256)) j ≡ (bit byte j || eqb i j)
-with_bit byte i j h = bit_or byte ((1 * 2 ^ i) % 256) j ∙ ap (λ (x : Bool). bit byte j || x) (ap (λ (x : ℕ). bit x j) (shl_exact 1 i 8 (lit< tt) (omega arith) ∙ one-mul (2 ^ i)) ∙ power_bit i j)
+with_bit byte i j h = bit-bit_or byte ((1 * 2 ^ i) % 256) j ∙ ap (λ (x : Bool). bit byte j || x) (ap (λ (x : ℕ). bit x j) (shl_exact 1 i 8 (lit< tt) (omega arith) ∙ one-mul (2 ^ i)) ∙ power_bit i j)
 
 -- ---- a word as a name
 
