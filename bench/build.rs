@@ -1,4 +1,4 @@
-//! Links the proved library (`rt staticlib exports`). It is for x86-64: elsewhere the bench is built without it and
+//! Links the proved library (`command/build exports`). It is for x86-64: elsewhere the bench is built without it and
 //! times the plain finder alone. `PJ_LIB_DIR` names another folder for the archive.
 
 use std::env;
@@ -16,7 +16,7 @@ fn main() {
     let archive = folder.join("libexports.a");
     println!("cargo:rerun-if-changed={}", archive.display());
     if !archive.is_file() {
-        panic!("{} is not there: run `rt staticlib exports` first", archive.display());
+        panic!("{} is not there: run `command/build exports` first", archive.display());
     }
     println!("cargo:rustc-link-search=native={}", folder.display());
     println!("cargo:rustc-link-lib=static=exports");

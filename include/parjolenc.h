@@ -1,6 +1,6 @@
 // The C interface of Parjolenc, version 4.0, for x86-64 Linux: what a host has to know stands in this file.
 //
-// `rt staticlib exports` writes the library. A program is compiled with it by the ordinary line, in C99 or C++11:
+// `command/build exports` writes the library. A program is compiled with it by the ordinary line, in C99 or C++11:
 //
 //     cc -std=c99 -Wall -Iinclude program.c target/staticlib/libexports.a
 //

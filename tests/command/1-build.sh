@@ -1,5 +1,5 @@
-# The build: a program that is missing is linked again, though rt has its stamp; a file that is touched and not changed builds
-# nothing; without rt on the path a built program runs.
+# The build: a program that is missing is built again; a file that is touched and not changed builds nothing; without rt on the
+# path a built program runs.
 for program in parjolenc program_book program_ask program_plain program_check program_salvage program_replay program_shift program_shift_text; do
     holds "$program is there, or is built" command/build "$program" 2>/dev/null
 done

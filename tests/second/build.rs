@@ -1,4 +1,4 @@
-//! Brings the proved library (`rt staticlib exports`) to the test program, by one of two routes.
+//! Brings the proved library (`command/build exports`) to the test program, by one of two routes.
 //!
 //! * linked: the archive is linked into the test program. Archives are for x86-64, so this is the route there.
 //! * hosted: elsewhere `host/host.c` is linked with the archive into a small x86-64 program, which the kit's
@@ -26,7 +26,7 @@ fn main() {
     let archive = folder.join(ARCHIVE);
     println!("cargo:rerun-if-changed={}", archive.display());
     if !archive.is_file() {
-        panic!("{} is not there: run `rt staticlib exports` first", archive.display());
+        panic!("{} is not there: run `command/build exports` first", archive.display());
     }
 
     println!("cargo:rustc-env=PJ_FUNCTIONS={}", functions(&archive).join(" "));

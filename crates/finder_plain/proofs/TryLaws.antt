@@ -114,7 +114,7 @@ module _ {m : Act → Bool} {k i : ℕ} {entries : List ℕ} {h : ℕ} where
   pub look_far : (b : Bool) {x : ℕ} → x ≡ look_at k i b → h ≤ get_or entries x 0 → Blocked m entries k (Look i 0) h
   look_far b e l = record { outcome = λ q t. (look_at k i b, after_look i q b, inr (rw e at l)) }
 
-set-only : {k i q z : ℕ} {b : Bool} → Outcome k (Set i q b) z → z ≡ set_to k i b
+set-only : {k i q : ℕ} {b : Bool} {z : ℕ} → Outcome k (Set i q b) z → z ≡ set_to k i b
 set-only (after-set i q b) = refl
 
 look_only : {k i q z : ℕ} → Outcome k (Look i q) z → (z ≡ look_at k i false) ⊎ (z ≡ look_at k i true)

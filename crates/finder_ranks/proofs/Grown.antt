@@ -90,6 +90,7 @@ offer_taken t k h true s l m = elim (decide (eqb (get_or t k 0) 255)) [
   | inl y ↦ rw (T→true (eqb (get_or t k 0) 255) y) (λ e. absurd (omega (arith, e, get_or-set_same t k h 0 m)))
   | inr z ↦ rw (T→false (eqb (get_or t k 0) 255) z) (λ e. T_not (eqb (get_or t k 0) 255) z (eq→eqb e))
 ]
+offer_taken t k h false s l m = elim s [ ]
 
 -- the ways through an offer in code
 module _ (t : List ℕ) (k h : ℕ) {so : Bool} where

@@ -111,6 +111,7 @@ seven_fit n rest m some h l = omega (arith, sevens n some)
 
 if_goal : (b : Bool) → T b → rank_if b ≡ 0
 if_goal true h = refl
+if_goal false h = elim h [ ]
 
 goal_if : (b : Bool) → rank_if b ≡ 0 → T b
 goal_if true e = tt

@@ -160,6 +160,7 @@ no_atom s i a b e f g = record {
 
 first_of : (a b : Bool) → T (not (a || b)) → T (not a)
 first_of false b t = tt
+first_of true b t = elim t [ ]
 
 -- no unit, so no product; no product, so no sum
 pub no_unit : {s : List ℕ} {i p : ℕ} → NoPart unit s i p → NoPart product s i p

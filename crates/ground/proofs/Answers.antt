@@ -1,19 +1,18 @@
 -- What a question's answer tells, and what a search for the lowest failure has found.
 use mathlib.Core.Path.{◌≡◌, subst}
-use mathlib.Core.Bool.{Bool, true, false, not}
+use mathlib.Core.Bool.{Bool, true, false}
 use Prim.Native.Nat.{ℕ, ◌≤◌, ◌<◌}
 use native.Mathlib.Omega.{arith}
 use native.Mathlib.Nat.{le_refl, lt_irrefl}
-use borrow.Author.Tests.{not-true, not-false}
 use Rattle.ground.specs.Tells.{Tells}
 use Rattle.ground.specs.Search.{Lowest}
 
 -- in the two arms of `if !question() { .. }`
-pub untold : (A : Type 0) (r : Bool) → Tells r A → not r ≡ true → A → ⊥
-untold A r t e = subst (λ (b : Bool). Tells b A) (not-true r e) t
+pub untold : (A : Type 0) (r : Bool) → Tells r A → r ≡ false → A → ⊥
+untold A r t e = subst (λ (b : Bool). Tells b A) e t
 
-pub told : (A : Type 0) (r : Bool) → Tells r A → not r ≡ false → A
-told A r t e = subst (λ (b : Bool). Tells b A) (not-false r e) t
+pub told : (A : Type 0) (r : Bool) → Tells r A → r ≡ true → A
+told A r t e = subst (λ (b : Bool). Tells b A) e t
 
 -- an answer to one question is the answer to another that holds where the first does
 pub tells_iff : {A B : Type 0} (r : Bool) → (A → B) → (B → A) → Tells r A → Tells r B

@@ -26,6 +26,7 @@ implies_in false b f = tt
 
 pub implies_out : (a b : Bool) → T (implies a b) → T a → T b
 implies_out true b h t = h
+implies_out false b h t = elim t [ ]
 
 implies_no : (a b : Bool) → T (not (implies a b)) → T a × T (not b)
 implies_no true false h = (tt, tt)

@@ -14,7 +14,7 @@ use Rattle.plan.specs.Plans.{System, may, Outcome, after-set, after_look}
 use Rattle.plan.specs.Layers.{leads, can, one_of, some_act}
 
 -- what holds at the states after an act holds at its outcomes
-pub after_a_set : (P : ℕ → Type 0) {k i q x : ℕ} {b : Bool} → P (set_to k i b) → Outcome k (Set i q b) x → P x
+pub after_a_set : (P : ℕ → Type 0) {k i q : ℕ} {b : Bool} {x : ℕ} → P (set_to k i b) → Outcome k (Set i q b) x → P x
 after_a_set P h (after-set i q b) = h
 
 pub after_a_look : (P : ℕ → Type 0) {k i q x : ℕ} → P (look_at k i false) → P (look_at k i true) → Outcome k (Look i q) x → P x

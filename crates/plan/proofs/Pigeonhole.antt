@@ -18,9 +18,11 @@ one false = 0
 
 one_yes : (a : Bool) → T a → one a ≡ 1
 one_yes true h = refl
+one_yes false h = elim h [ ]
 
 one_no : (a : Bool) → T (not a) → one a ≡ 0
 one_no false h = refl
+one_no true h = elim h [ ]
 
 one_le : (a : Bool) → one a ≤ 1
 one_le true = omega arith

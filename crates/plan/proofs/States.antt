@@ -26,3 +26,4 @@ each_at f (x ∷ l) k h m = elim (or_out (eqb k x) (elem k l) m) [
 
 pub holds : (a b : Bool) → T a → T (implies a b) → T b
 holds true b x y = y
+holds false b x y = elim x [ ]

@@ -26,14 +26,14 @@ use Rattle.print_answer.specs.Printed.{refused_text, reach_text, fitted, Prints}
 
 module _ {plan : List ℕ} where
   shown-one : {at : ℕ} (p r : Plan) → Shows plan at p → Shows plan at r → p ≡ r
-  shown-one stop r s t = sym (parts r t (shown-first stop s).1)
-  shown-one (set_then i q b p) r s t =
+  shown-one {at} stop r s t = sym (parts r t (shown-first stop s).1)
+  shown-one {at} (set_then i q b p) r s t =
       let x = parts r t (shown-first (set_then i q b p) s).1 in
-      ap (set_then i q b) (shown-one p x.0 (set_after s) x.2) ∙ sym x.1
+      ap (set_then i q b) (shown-one {at = at + 1} p x.0 (set_after s) x.2) ∙ sym x.1
   shown-one {at} (look_then i q p u) r s t =
       let x = parts r t (shown-first (look_then i q p u) s).1 in
-      let e = shown-one p x.0 (false_after s) x.3 in
-      let d = shown-one u x.1 (true_after s) (subst (λ (y : Plan). Shows plan (at + 1 + length (encode y)) x.1) (sym e) x.4) in
+      let e = shown-one {at = at + 1} p x.0 (false_after s) x.3 in
+      let d = shown-one {at = at + 1 + length (encode p)} u x.1 (true_after s) (subst (λ (y : Plan). Shows plan (at + 1 + length (encode y)) x.1) (sym e) x.4) in
       ap₂ (look_then i q) e d ∙ sym x.2
 
 pub encode_one : (p r : Plan) → Lettered p → Lettered r → encode p ≡ encode r → p ≡ r

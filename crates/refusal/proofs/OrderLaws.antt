@@ -104,6 +104,7 @@ unique (row ∷ rows) r s (inl a) (inl b) = gives_unique a b
 unique (row ∷ rows) r s (inl a) (inr b) = gives-never a b.0
 unique (row ∷ rows) r s (inr a) (inl b) = gives-never b a.0
 unique (row ∷ rows) r s (inr a) (inr b) = unique rows r s a.1 b.1
+unique [] r s x'' _ = elim x'' [ ]
 
 -- two refusals that one order allows are equal
 pub first_unique : {rows : List Row} {r s : Refusal} → First rows r → First rows s → r ≡ s
@@ -112,6 +113,7 @@ first_unique {rows} {r} {s} a b = unique rows r s a.first b.first
 some : (rows : List Row) (r : Refusal) → FirstOf rows r → ClearOf rows → ⊥
 some (row ∷ rows) r (inl a) c = gives-never a c.0
 some (row ∷ rows) r (inr a) c = some rows r a.1 c.1
+some [] r x'' c = elim x'' [ ]
 
 -- and one is given only where some row is
 pub first-clear : {A : Type 0} {rows : List Row} {r : Refusal} → First rows r → Clear rows → A
@@ -130,6 +132,7 @@ first-right {rows = row ∷ rows} c f = first-later (clear-here c) (first-right 
 left : (rows more : List Row) (r : Refusal) → FirstOf rows r → First (rows ++ more) r
 left (row ∷ rows) more r (inl a) = first-here a
 left (row ∷ rows) more r (inr a) = first-later a.0 (left rows more r a.1)
+left [] more r x' = elim x' [ ]
 
 pub first-left : {rows : List Row} (more : List Row) {r : Refusal} → First rows r → First (rows ++ more) r
 first-left {rows} more {r} f = left rows more r f.first

@@ -121,3 +121,15 @@ legs_unique n (refused-at r line) (Refused why at) (Refused else to) a b c d (e,
     (ap₂ Refused (e ∙ sym g) (f ∙ sym i), asked-one n nothing_asked a c h l, asked-one n nothing_asked b d k p)
 legs_unique n (one v) One One a b c d (h, k) (l, p) = (refl, asked-one n v a c h l, asked-one n nothing_asked b d k p)
 legs_unique n (two v w) Two Two a b c d (h, k) (l, p) = (refl, asked-one n v a c h l, asked-one n w b d k p)
+legs_unique n (refused-at r line) One y a b c d x6 _ = elim x6 [ ]
+legs_unique n (refused-at r line) Two y a b c d x7 _ = elim x7 [ ]
+legs_unique n (refused-at r line) (Refused why at) One a b c d _ x11 = elim x11 [ ]
+legs_unique n (refused-at r line) (Refused why at) Two a b c d _ x12 = elim x12 [ ]
+legs_unique n (one v) One Two a b c d _ x10 = elim x10 [ ]
+legs_unique n (one v) One (Refused else to) a b c d _ x11 = elim x11 [ ]
+legs_unique n (one v) Two y a b c d x8 _ = elim x8 [ ]
+legs_unique n (one v) (Refused why at) y a b c d x9 _ = elim x9 [ ]
+legs_unique n (two v w) One y a b c d x8 _ = elim x8 [ ]
+legs_unique n (two v w) Two One a b c d _ x12 = elim x12 [ ]
+legs_unique n (two v w) Two (Refused else to) a b c d _ x13 = elim x13 [ ]
+legs_unique n (two v w) (Refused why at) y a b c d x10 _ = elim x10 [ ]

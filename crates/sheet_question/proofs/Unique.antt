@@ -69,9 +69,17 @@ module _ (n : ℕ) (asked : Asked) (a b : AskedDesk) (h : AskedOnDesk n asked a)
 pub turn_one : (n : ℕ) (st : AskedStep) (x y : Taken) (a b : AskedDesk) → Steps n st x a → Steps n st y b → (x ≡ y) × ((due : Due) → x ≡ Next due → a ≡ b)
 turn_one n (fault r) (No why) (No else) a b e f = (ap No (e ∙ sym f), λ due z. (let y : ◌≡◌ {A = ℕ} 0 1 = cc in absurd (omega arith)))
 turn_one n (next (due, v)) (Next d) (Next c) a b (e, h) (f, k) = (ap Next (e ∙ sym f), λ x z. asked-one n v a b h k)
+turn_one n (fault r) (Next d) y a b e f = elim e [ ]
+turn_one n (fault r) (No why) (Next c) a b e f = elim f [ ]
+turn_one n (next (due , v)) (Next d) (No else) a b e f = elim f [ ]
+turn_one n (next (due , v)) (No why) y a b e f = elim e [ ]
 
 -- ---- what is read
 
 pub question_one : (n : ℕ) (o : QuestionMeaning) (x y : QuestionTold) (a b : AskedDesk) → ReadsQuestion n o x a → ReadsQuestion n o y b → (x ≡ y) × (a ≡ b)
 question_one n (refused r line) (Refused why at) (Refused else to) a b (e, f, h) (i, j, k) = (ap₂ Refused (e ∙ sym i) (f ∙ sym j), asked-one n nothing_asked a b h k)
 question_one n (asked v) Stated Stated a b h k = (refl, asked-one n v a b h k)
+question_one n (refused r line) Stated y a b h k = elim h [ ]
+question_one n (refused r line) (Refused why at) Stated a b h k = elim k [ ]
+question_one n (asked v) Stated (Refused else to) a b h k = elim k [ ]
+question_one n (asked v) (Refused why at) y a b h k = elim h [ ]

@@ -46,6 +46,8 @@ same-right : (a b : Right) → T (same_right a b) → a ≡ b
 unfolding same_right
 same-right Look Look t = refl
 same-right Set Set t = refl
+same-right Look Set t = elim t [ ]
+same-right Set Look t = elim t [ ]
 
 -- two rights that a rule concerns are one
 concerned : (rs : List Rule) (r : Rule) (right : Right) (i q : ℕ) → T (concerns r right i q) → is_stated rs r.right r.setting r.post ≡ is_stated rs right i q

@@ -97,6 +97,10 @@ module _ (size : Size) (rules : List Rule) (a b : RulesDesk) (h : RulesOnDesk si
 pub turn_one : (st : Step Rules) (x y : Taken) (a b : RulesDesk) → Turns st x a → Turns st y b → (x ≡ y) × (x ≡ Next → a ≡ b)
 turn_one (fault r) (No why) (No else) a b e f = (ap No (e ∙ sym f), λ z. (let y : ◌≡◌ {A = ℕ} 0 1 = cc in absurd (omega arith)))
 turn_one (next v) Next Next a b h k = (refl, λ z. rules-one v.size v.rules a b h k)
+turn_one (fault r) Next y a b e f = elim e [ ]
+turn_one (fault r) (No why) Next a b e f = elim f [ ]
+turn_one (next v) Next (No else) a b h k = elim k [ ]
+turn_one (next v) (No why) y a b h k = elim h [ ]
 
 -- ---- the byte where rules end
 
@@ -113,9 +117,17 @@ upto_one s (refused r line) (Refused why at) (Refused else to) a b (e, f, h) (i,
     (ap₂ Refused (e ∙ sym i) (f ∙ sym j), rules-one (size_of 1 1) _ a b h k)
 upto_one s (up_to rules line pieces) (Upto at lines) (Upto to others) a b (e, f, g, h) (i, j, l, k) =
     (ap₂ Upto (end_one s at to e i (f ∙ sym j)) (omega (arith, g, l)), rules-one rules.size rules.rules a b h k)
+upto_one s (refused r line) (Upto at lines) y a b x6 _ = elim x6 [ ]
+upto_one s (refused r line) (Refused why at) (Upto to others) a b _ x10 = elim x10 [ ]
+upto_one s (up_to rules line pieces) (Upto at lines) (Refused else to) a b _ x10 = elim x10 [ ]
+upto_one s (up_to rules line pieces) (Refused why at) y a b x8 _ = elim x8 [ ]
 
 -- `read_rules`
 pub rules-read-one : (o : Meaning) (x y : WholeTold) (a b : RulesDesk) → ReadsRules o x a → ReadsRules o y b → (x ≡ y) × (a ≡ b)
 rules-read-one (whole-refused r line) (WholeRefused why at) (WholeRefused else to) a b (e, f, h) (i, j, k) =
     (ap₂ WholeRefused (e ∙ sym i) (f ∙ sym j), rules-one (size_of 1 1) _ a b h k)
 rules-read-one (stated rules) Stated Stated a b h k = (refl, rules-one rules.size rules.rules a b h k)
+rules-read-one (whole-refused r line) Stated y a b h k = elim h [ ]
+rules-read-one (whole-refused r line) (WholeRefused why at) Stated a b h k = elim k [ ]
+rules-read-one (stated rules) Stated (WholeRefused else to) a b h k = elim k [ ]
+rules-read-one (stated rules) (WholeRefused why at) y a b h k = elim h [ ]

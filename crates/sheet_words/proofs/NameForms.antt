@@ -13,9 +13,15 @@ use Rattle.sheet_words.specs.Words.{among, is_false, bare, is_name, index_of}
 
 pub three : (a b c : Bool) → T (a && b && c) → T a × T b × T c
 three true true c h = (tt, tt, h)
+three mathlib.Core.Bool.false b c h = elim h [ ]
+three true mathlib.Core.Bool.false c h = elim h [ ]
 
 pub five : (a b c d e : Bool) → T (a && b && c && d && e) → T a × T b × T c × T d × T e
 five true true true true e h = (tt, tt, tt, tt, h)
+five mathlib.Core.Bool.false b c d e h = elim h [ ]
+five true mathlib.Core.Bool.false c d e h = elim h [ ]
+five true true mathlib.Core.Bool.false d e h = elim h [ ]
+five true true true mathlib.Core.Bool.false e h = elim h [ ]
 
 -- ---- one sign
 

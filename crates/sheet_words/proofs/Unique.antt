@@ -34,6 +34,10 @@ module _ (first : ℕ) (words : List (List ℕ)) where
   pub names-one : (are : Bool) (x y : Naming) → Names are first words x → Names are first words y → x ≡ y
   names-one true (Of m) (Of k) p q = ap Of (marks-one m k p q)
   names-one false Stray Stray p q = refl
+  names-one false Stray (Of k) p q = elim q [ ]
+  names-one false (Of m) y p q = elim p [ ]
+  names-one true Stray y p q = elim p [ ]
+  names-one true (Of m) Stray p q = elim q [ ]
 
 pub piece_end_unique : (κs : _) (a : _) (x y : _) (s : _) → piece-end.Post κs a x s → piece-end.Post κs a y s → x ≡ y
 piece_end_unique κs a x y s p q = p ∙ sym q

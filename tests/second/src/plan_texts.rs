@@ -74,7 +74,7 @@ impl Files {
         }
         let (program, start) = (in_project("target/bin/program_check"), in_project("tests/x86/start"));
         if !program.is_file() {
-            return Err(format!("{} is not there: run `rt check` first", program.display()));
+            return Err(format!("{} is not there: run `command/build program_check` first", program.display()));
         }
         let mut command = Command::new(if cfg!(target_arch = "x86_64") { &program } else { &start });
         if !cfg!(target_arch = "x86_64") {

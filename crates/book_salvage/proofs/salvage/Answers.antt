@@ -13,24 +13,6 @@ use Rattle.book_salvage.proofs.RefusalLaws.{refuse_length, refuse_head, refuse_r
 use borrow.Author.Rules.{rules}
 use Rattle.book_salvage.proofs.salvage.Goals as goal
 
--- past the first test: 2 to 8 whole blocks
-abbrev book-1 : goal.Else-not-is_whole → List ℕ
-book-1 c =
-    let start : goal.Start = search in
-    start.args.book.now
-
-whole : (c : goal.Else-not-is_whole) → Whole (book-1 c)
-whole c = told (Whole (book-1 c)) c.before.is_whole.result c.before.is_whole.ensures c.if1.false
-
--- past the second: the head can be relied on
-abbrev book-2 : goal.Else-not-head_stands → List ℕ
-book-2 c =
-    let else1 : goal.Else-not-is_whole = search in
-    book-1 else1
-
-head : (c : goal.Else-not-head_stands) → HeadStands (book-2 c)
-head c = told (HeadStands (book-2 c)) c.before.head-stands.result c.before.head-stands.ensures c.if2.false
-
 pub returns-then-not-is_whole : goal.returns-then-not-is_whole
 returns-then-not-is_whole c =
     let b = c.args.book.now in
@@ -38,23 +20,62 @@ returns-then-not-is_whole c =
 
 pub returns-then-not-head_stands : goal.returns-then-not-head_stands
 returns-then-not-head_stands c =
+    let book-1 : List ℕ =
+        c.args.book.now in
+    let whole : Whole (book-1) =
+        told (Whole (book-1)) c.is_whole.result c.is_whole.ensures c.if-not-is_whole.false in
     let b = c.args.book.now in (
-      refuse_head b c.args.room.now (whole c)
+      refuse_head b c.args.room.now (whole)
           (untold (HeadStands b) c.head_stands.result c.head_stands.ensures c.if-not-head_stands.true),
       refl,
     )
 
 pub returns-then-room-book : goal.returns-then-room-book
-returns-then-room-book c = (refuse_room c.args.book.now c.args.room.now (whole c) (head c) c.if-room-book.true, refl)
+returns-then-room-book c =
+    let book-1 : List ℕ =
+        c.args.book.now in
+    let whole : Whole (book-1) =
+        told (Whole (book-1)) c.is_whole.result c.is_whole.ensures c.if-not-is_whole.false in
+    let book-2 : List ℕ =
+        book-1 in
+    let head : HeadStands (book-2) =
+        told (HeadStands (book-2)) c.head_stands.result c.head_stands.ensures c.if-not-head_stands.false in
+    (refuse_room c.args.book.now c.args.room.now (whole) (head) c.if-room-book.true, refl)
 
 pub marks_of-marks-requires : goal.marks_of-marks-requires
-marks_of-marks-requires c = omega (arith, c.peek-n.ensures, head-n-most (head c).says (whole c))
+marks_of-marks-requires c =
+    let book-1 : List ℕ =
+        c.args.book.now in
+    let whole : Whole (book-1) =
+        told (Whole (book-1)) c.is_whole.result c.is_whole.ensures c.if-not-is_whole.false in
+    let book-2 : List ℕ =
+        book-1 in
+    let head : HeadStands (book-2) =
+        told (HeadStands (book-2)) c.head_stands.result c.head_stands.ensures c.if-not-head_stands.false in
+    omega (arith, c.peek-n.ensures, head-n-most (head).says (whole))
 
 pub lay_book-requires : goal.lay_book-requires
-lay_book-requires c = omega (arith, c.peek-n.ensures, head-n-most (head c).says (whole c), whole_length (whole c), c.if-room-book.false)
+lay_book-requires c =
+    let book-1 : List ℕ =
+        c.args.book.now in
+    let whole : Whole (book-1) =
+        told (Whole (book-1)) c.is_whole.result c.is_whole.ensures c.if-not-is_whole.false in
+    let book-2 : List ℕ =
+        book-1 in
+    let head : HeadStands (book-2) =
+        told (HeadStands (book-2)) c.head_stands.result c.head_stands.ensures c.if-not-head_stands.false in
+    omega (arith, c.peek-n.ensures, head-n-most (head).says (whole), whole_length (whole), c.if-room-book.false)
 
 pub returns : goal.returns
 returns c =
+    let book-1 : List ℕ =
+        c.args.book.now in
+    let whole : Whole (book-1) =
+        told (Whole (book-1)) c.is_whole.result c.is_whole.ensures c.if-not-is_whole.false in
+    let book-2 : List ℕ =
+        book-1 in
+    let head : HeadStands (book-2) =
+        told (HeadStands (book-2)) c.head_stands.result c.head_stands.ensures c.if-not-head_stands.false in
     let a = c.args in
-    salvages_to a.book.now a.room.now (whole c) (head c) _ _ _ _ _ c.if-room-book.false c.peek-n.ensures
+    salvages_to a.book.now a.room.now (whole) (head) _ _ _ _ _ c.if-room-book.false c.peek-n.ensures
     c.peek.ensures c.marks_of-marks.ensures c.ones-count.ensures c.lay_book.ensures

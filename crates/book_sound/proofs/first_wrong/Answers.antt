@@ -9,21 +9,6 @@ use Rattle.book_block.specs.Check.{block, RightCheck}
 use Rattle.book_block.proofs.CheckLaws.{right-block, right-drop}
 use Rattle.book_sound.proofs.first_wrong.Goals as goal
 
--- what the test of block k tells
-abbrev Here : goal.After-is_right invariant-loop decreases-loop → Type 0
-Here c =
-    let at-loop : goal.At-loop-k invariant-loop decreases-loop = search in
-    let start : goal.Start invariant-loop decreases-loop = search in
-    RightCheck (block start.args.book.now at-loop.loop.k)
-
-tested : (c : goal.After-is_right invariant-loop decreases-loop) → Tells c.is_right.result (Here c)
-tested c =
-    let at-loop : goal.At-loop-k invariant-loop decreases-loop = search in
-    let start : goal.Start invariant-loop decreases-loop = search in
-    let b = start.args.book.now in
-    let k = at-loop.loop.k in
-    tells_iff c.is_right.result (right-block b k) (right-drop b k) c.is_right.ensures
-
 pub loop-k-init : goal.loop-k-init
 loop-k-init c = (search rules, λ k h. omega arith)
 
@@ -32,13 +17,21 @@ overflow_mul-k c = omega (arith, c.requires)
 
 pub returns-then-not-is_right : goal.returns-then-not-is_right
 returns-then-not-is_right c =
+    let tested : Tells c.is_right.result ((RightCheck (block c.args.book.now c.loop-k.k))) =
+        let b = c.args.book.now in
+    let k = c.loop-k.k in
+    tells_iff c.is_right.result (right-block b k) (right-drop b k) c.is_right.ensures in
     lowest-at c.loop-k-test.true c.loop-k.invariant.1
-    (untold (Here c) c.is_right.result (tested c) c.if-not-is_right.true)
+    (untold ((RightCheck (block c.args.book.now c.loop-k.k))) c.is_right.result (tested) c.if-not-is_right.true)
 
 pub loop-k-preserved : goal.loop-k-preserved
 loop-k-preserved c =
+    let tested : Tells c.is_right.result ((RightCheck (block c.args.book.now c.loop-k.k))) =
+        let b = c.args.book.now in
+    let k = c.loop-k.k in
+    tells_iff c.is_right.result (right-block b k) (right-drop b k) c.is_right.ensures in
     let r = c.loop-k in
-    (omega arith, below_more _ r.k r.invariant.1 (told (Here c) c.is_right.result (tested c) c.if-not-is_right.false))
+    (omega arith, below_more _ r.k r.invariant.1 (told ((RightCheck (block c.args.book.now c.loop-k.k))) c.is_right.result (tested) c.if-not-is_right.false))
 
 pub returns : goal.returns
 returns c = lowest-none c.loop-k-test.false c.loop-k.invariant.1

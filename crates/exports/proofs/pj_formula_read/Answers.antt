@@ -21,7 +21,7 @@ pub returns-in-Refused : goal.returns-in-Refused
 returns-in-Refused c =
     let told = c.in-Refused.is in
     record {
-      c = c.read-reading.result.answer;
+      answer = c.read-reading.result.answer;
       found = c.read-reading.result.table;
       reads = c.read-reading.ensures;
       result_is = c.packed.ensures ∙ sym (ap formula_returned told);

@@ -7,23 +7,20 @@ use native.Mathlib.Omega.{arith}
 use Rattle.finder_ranks.specs.Fills.{RanksFit}
 use Rattle.finder_ranks.proofs.has_room.Goals as goal
 
-abbrev start-of-after-numbers : goal.After-numbers → goal.Start
-start-of-after-numbers c = search
-
--- up to seven settings count as they are
-size_is : (c : goal.After-numbers) → c.numbers.result ≡ 7 ^ (start-of-after-numbers c).args.n
-size_is c =
-    let second : goal.Else-n-gt-SETTINGS_MOST = search in
-    c.numbers.ensures ∙ ap (λ k. 7 ^ k) (min-eq_left second.if2.left)
-
 pub returns-then-n-eq0 : goal.returns-then-n-eq0
-returns-then-n-eq0 c = omega (arith, r.some, c.if-n-eq0.true)
+returns-then-n-eq0 c r = omega (arith, r.some, c.if-n-eq0.true)
 
 pub returns-then-n-gt-SETTINGS_MOST : goal.returns-then-n-gt-SETTINGS_MOST
-returns-then-n-gt-SETTINGS_MOST c = omega (arith, r.few, c.if-n-gt-SETTINGS_MOST.true)
+returns-then-n-gt-SETTINGS_MOST c r = omega (arith, r.few, c.if-n-gt-SETTINGS_MOST.true)
 
 pub returns-then-ranks-numbers : goal.returns-then-ranks-numbers
-returns-then-ranks-numbers c = omega (arith, r.room, size_is c, c.if-ranks-numbers.true)
+returns-then-ranks-numbers c r =
+    let size_is : c.numbers.result ≡ 7 ^ c.args.n =
+        c.numbers.ensures ∙ ap (λ k. 7 ^ k) (min-eq_left c.if-n-gt-SETTINGS_MOST.false) in
+    omega (arith, r.room, size_is, c.if-ranks-numbers.true)
 
 pub returns : goal.returns
-returns c = record { some = omega (arith, c.if-n-eq0.false); few = c.if-n-gt-SETTINGS_MOST.false; room = omega (arith, size_is c, c.if-ranks-numbers.false) }
+returns c =
+    let size_is : c.numbers.result ≡ 7 ^ c.args.n =
+        c.numbers.ensures ∙ ap (λ k. 7 ^ k) (min-eq_left c.if-n-gt-SETTINGS_MOST.false) in
+    record { some = omega (arith, c.if-n-eq0.false); few = c.if-n-gt-SETTINGS_MOST.false; room = omega (arith, size_is, c.if-ranks-numbers.false) }

@@ -41,7 +41,7 @@ returns-then-not-is_reach c =
     let end = c.piece_end-end in
     let p = piece_is s 0 newline end.result (omega arith) end.ensures in
     tells-refused (plan_text_meaning s) a.room.now (Malformed 1)
-    (first-line s (omega (arith, c.if-text-gt-PLAN_TEXT_MOST.false)) end.result p c.if-text-end.false (sym c.is_reach.ensures ∙ not-true _ c.if-not-is_reach.true))
+    (first-line s (omega (arith, c.if-text-gt-PLAN_TEXT_MOST.false)) end.result p c.if-text-end.false (sym c.is_reach.ensures ∙ c.if-not-is_reach.true))
 
 pub returns-then-stray-ne0 : goal.returns-then-stray-ne0
 returns-then-stray-ne0 c =
@@ -52,7 +52,7 @@ returns-then-stray-ne0 c =
     let rest = drop (suc end.result) s in
     let p = piece_is s 0 newline end.result (omega arith) end.ensures in
     tells-refused (plan_text_meaning s) a.room.now (Malformed stray.result)
-    (first-line s (omega (arith, c.if-text-gt-PLAN_TEXT_MOST.false)) end.result p c.if-text-end.false (sym c.is_reach.ensures ∙ not-false _ c.if-not-is_reach.false)
+    (first-line s (omega (arith, c.if-text-gt-PLAN_TEXT_MOST.false)) end.result p c.if-text-end.false (sym c.is_reach.ensures ∙ c.if-not-is_reach.false)
     ∙ ap (λ (L : ℕ). unless_stray L (line_bytes (split newline rest)))
     (ap (λ (n : ℕ). stray_line 2 (split newline (drop n s))) (sym (add-one end.result)) ∙ sym stray.ensures)
     ∙ stray_refused stray.result (line_bytes (split newline rest)) c.if-stray-ne0.true)
@@ -66,7 +66,7 @@ returns c =
     let rest = drop (suc end.result) s in
     let p = piece_is s 0 newline end.result (omega arith) end.ensures in
     tells-read (plan_text_meaning s) a.room.now (line_bytes (split newline rest)) _ _
-    (first-line s (omega (arith, c.if-text-gt-PLAN_TEXT_MOST.false)) end.result p c.if-text-end.false (sym c.is_reach.ensures ∙ not-false _ c.if-not-is_reach.false)
+    (first-line s (omega (arith, c.if-text-gt-PLAN_TEXT_MOST.false)) end.result p c.if-text-end.false (sym c.is_reach.ensures ∙ c.if-not-is_reach.false)
     ∙ ap (λ (L : ℕ). unless_stray L (line_bytes (split newline rest)))
     (ap (λ (n : ℕ). stray_line 2 (split newline (drop n s))) (sym (add-one end.result)) ∙ sym stray.ensures ∙ c.if-stray-ne0.false))
     (rw add-one at c.write.ensures)

@@ -38,13 +38,25 @@ slice_bounds-is_plan_line-count c =
     let end = c.piece_end-end in
     (piece_is c.args.text.now l.at newline end.result l.invariant.0 end.ensures).from
 
+pub slice_bounds-is_plan_line-start : goal.slice_bounds-is_plan_line-start
+slice_bounds-is_plan_line-start c =
+    (let l = c.loop-from in
+    let end = c.piece_end-end in
+    (piece_is c.args.text.now l.at newline end.result l.invariant.0 end.ensures).from)
+
+pub slice_bounds-is_plan_line-end : goal.slice_bounds-is_plan_line-end
+slice_bounds-is_plan_line-end c =
+    let l = c.loop-from in
+    let end = c.piece_end-end in
+    (piece_is c.args.text.now l.at newline end.result l.invariant.0 end.ensures).within
+
 pub returns-then-not-is_plan_line : goal.returns-then-not-is_plan_line
 returns-then-not-is_plan_line c =
     let s = c.args.text.now in
     let l = c.loop-from in
     let end = c.piece_end-end in
     let p = piece_is s l.at newline end.result l.invariant.0 end.ensures in
-    sym (stray_turn s l.at end.result p c.if-text-end.false l.number (sym c.is_plan_line.ensures ∙ not-true _ c.if-not-is_plan_line.true)) ∙ l.invariant.3
+    sym (stray_turn s l.at end.result p c.if-text-end.false l.number (sym c.is_plan_line.ensures ∙ c.if-not-is_plan_line.true)) ∙ l.invariant.3
 
 pub overflow_add-at : goal.overflow_add-at
 overflow_add-at c = omega (arith, c.if-text-end.false)
@@ -71,5 +83,5 @@ loop-from-preserved c =
       omega (arith, p.from, l.invariant.1),
       l.invariant.2,
       rw (add-one, add-one)
-          (sym (stray_turn s l.at end.result p more l.number (sym c.is_plan_line.ensures ∙ not-false _ c.if-not-is_plan_line.false)) ∙ l.invariant.3),
+          (sym (stray_turn s l.at end.result p more l.number (sym c.is_plan_line.ensures ∙ c.if-not-is_plan_line.false)) ∙ l.invariant.3),
     )

@@ -38,6 +38,18 @@ slice_bounds-line_byte-count c =
     let end = c.piece_end-end in
     (piece_is c.args.text.now l.at newline end.result l.invariant.0 end.ensures).from
 
+pub slice_bounds-line_byte-start : goal.slice_bounds-line_byte-start
+slice_bounds-line_byte-start c =
+    (let l = c.loop-from in
+    let end = c.piece_end-end in
+    (piece_is c.args.text.now l.at newline end.result l.invariant.0 end.ensures).from)
+
+pub slice_bounds-line_byte-end : goal.slice_bounds-line_byte-end
+slice_bounds-line_byte-end c =
+    let l = c.loop-from in
+    let end = c.piece_end-end in
+    (piece_is c.args.text.now l.at newline end.result l.invariant.0 end.ensures).within
+
 pub put-to-requires : goal.put-to-requires
 put-to-requires c =
     let l = c.loop-from in

@@ -13,4 +13,4 @@ lines-end-requires c =
     (omega (arith, c.reach_line-to.ensures.next_place, height-text-length c.args.height (omega arith)))
 
 pub returns : goal.returns
-returns c = prints (wrote_then c.reach_line-to.ensures (c.lines-end.ensures p (whole-shown p whole lettered)).wrote)
+returns c p whole lettered = prints (wrote_then c.reach_line-to.ensures (c.lines-end.ensures p (whole-shown p whole lettered)).wrote)

@@ -8,23 +8,25 @@ use Rattle.print_room.proofs.Decimals.{decimal-length}
 use Rattle.print_room.proofs.Writing.{wrote_then}
 use Rattle.print_answer.proofs.refused_at.Goals as goal
 
--- whichever of the two is printed where
-digits : (c : goal.Start) → (length (decimal c.args.number) ≤ 20) × (length (decimal c.args.place) ≤ 20)
-digits c = (decimal-length 19 c.args.number (omega arith), decimal-length 19 c.args.place (omega arith))
-
 pub number-to-requires : goal.number-to-requires
 number-to-requires c =
-    let d = digits c in
+    let digits : (length (decimal c.args.number) ≤ 20) × (length (decimal c.args.place) ≤ 20) =
+        (decimal-length 19 c.args.number (omega arith), decimal-length 19 c.args.place (omega arith)) in
+    let d = digits in
     record { below = omega (arith, c.word-to.ensures.next_place, d.0, d.1) }
 
 pub put-to-requires : goal.put-to-requires
 put-to-requires c =
-    let d = digits c in
+    let digits : (length (decimal c.args.number) ≤ 20) × (length (decimal c.args.place) ≤ 20) =
+        (decimal-length 19 c.args.number (omega arith), decimal-length 19 c.args.place (omega arith)) in
+    let d = digits in
     record { below = omega (arith, c.word-to.ensures.next_place, c.number-to.ensures.next_place, d.0, d.1) }
 
 pub number-requires : goal.number-requires
 number-requires c =
-    let d = digits c in
+    let digits : (length (decimal c.args.number) ≤ 20) × (length (decimal c.args.place) ≤ 20) =
+        (decimal-length 19 c.args.number (omega arith), decimal-length 19 c.args.place (omega arith)) in
+    let d = digits in
     record {
       below = omega (arith, c.word-to.ensures.next_place, c.number-to.ensures.next_place, c.put-to.ensures.next_place, d.0, d.1);
     }

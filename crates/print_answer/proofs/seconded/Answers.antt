@@ -15,25 +15,28 @@ use Rattle.print_answer.proofs.seconded.Goals as goal
 one_less : (x : ℕ) → (x ≡ 0 → ⊥) → x ≡ suc (x - 1)
 one_less x ne = omega arith
 
-lengths : (c : goal.Start) → (length (refused_at c.args.number c.args.place) ≤ 49) × (length (decimal (c.args.above - 1)) ≤ 20)
-lengths c = (refused-at-length c.args.number c.args.place (omega arith) (omega arith), decimal-length 19 (c.args.above - 1) (omega arith))
-
 pub returns-then-above-eq0 : goal.returns-then-above-eq0
 returns-then-above-eq0 c = rw c.if-above-eq0.true c.refused.ensures
 
 pub put-to-requires : goal.put-to-requires
 put-to-requires c =
-    let d = lengths c in
+    let lengths : (length (refused_at c.args.number c.args.place) ≤ 49) × (length (decimal (c.args.above - 1)) ≤ 20) =
+        (refused-at-length c.args.number c.args.place (omega arith) (omega arith), decimal-length 19 (c.args.above - 1) (omega arith)) in
+    let d = lengths in
     record { below = omega (arith, c.refused_at-to.ensures.next_place, d.0, d.1) }
 
 pub number-to-requires : goal.number-to-requires
 number-to-requires c =
-    let d = lengths c in
+    let lengths : (length (refused_at c.args.number c.args.place) ≤ 49) × (length (decimal (c.args.above - 1)) ≤ 20) =
+        (refused-at-length c.args.number c.args.place (omega arith) (omega arith), decimal-length 19 (c.args.above - 1) (omega arith)) in
+    let d = lengths in
     record { below = omega (arith, c.refused_at-to.ensures.next_place, c.put-to.ensures.next_place, d.0, d.1) }
 
 pub put-requires : goal.put-requires
 put-requires c =
-    let d = lengths c in
+    let lengths : (length (refused_at c.args.number c.args.place) ≤ 49) × (length (decimal (c.args.above - 1)) ≤ 20) =
+        (refused-at-length c.args.number c.args.place (omega arith) (omega arith), decimal-length 19 (c.args.above - 1) (omega arith)) in
+    let d = lengths in
     record {
       below
           = omega (arith, c.refused_at-to.ensures.next_place, c.put-to.ensures.next_place, c.number-to.ensures.next_place, d.0, d.1);

@@ -7,22 +7,16 @@ use Rattle.question.specs.Rows.{LearnWithin, GoalFits}
 use borrow.Author.Rules.{rules}
 use Rattle.question.proofs.goal_fits.Goals as goal
 
--- what the test of the make table tells
-abbrev Make : goal.After-within → Type 0
-Make c =
-    let start : goal.Start = search in
-    let a = start.args in Within a.n a.make.now
-
 pub returns-then-learn-gt-LEARN_MOST : goal.returns-then-learn-gt-LEARN_MOST
 returns-then-learn-gt-LEARN_MOST c = λ f. omega (arith, f.learn-most)
 
 pub returns-then-not-within : goal.returns-then-not-within
-returns-then-not-within c = λ f. untold (Make c) c.within.result c.within.ensures c.if-not-within.true f.make-within
+returns-then-not-within c = λ f. untold ((let a = c.args in Within a.n a.make.now)) c.within.result c.within.ensures c.if-not-within.true f.make-within
 
 pub returns : goal.returns
 returns c =
     let a = c.args in
-    let make : Make c = told (Make c) c.within.result c.within.ensures c.if-not-within.false in
+    let make : (let a = c.args in Within a.n a.make.now) = told ((let a = c.args in Within a.n a.make.now)) c.within.result c.within.ensures c.if-not-within.false in
     tells_iff {A = LearnWithin a.n a.learn.now} {B = GoalFits a.n (goal_of a.make.now a.learn.now)} c.learn_within.result
     (λ w. record { make-bytes = omega arith; learn-bytes = omega arith; learn-most = omega arith; make-within = make; learn-within = w })
     (λ f. f.learn-within) c.learn_within.ensures

@@ -8,14 +8,6 @@ use Rattle.ground.proofs.Answers.{told, untold}
 use Rattle.question.proofs.QuestionLaws.{LearnTo, learn-more, learn_bad, learn-all}
 use Rattle.question.proofs.learn_within.Goals as goal
 
--- what the test of the table with index j tells
-abbrev Here : goal.After-within invariant-loop decreases-loop → Type 0
-Here c =
-    let at-loop : goal.At-loop-j invariant-loop decreases-loop = search in
-    let start : goal.Start invariant-loop decreases-loop = search in
-    let a = start.args in
-    Within a.n (drop (16 * at-loop.loop.j) a.learn.now)
-
 pub loop-j-init : goal.loop-j-init
 loop-j-init c = (omega arith, λ i l. absurd (omega arith))
 
@@ -23,13 +15,15 @@ pub returns-then-not-within : goal.returns-then-not-within
 returns-then-not-within c =
     let a = c.args in
     learn_bad a.n a.learn.now c.loop-j.j c.loop-j-test.true
-    (untold (Here c) c.within.result c.within.ensures c.if-not-within.true)
+    (untold ((let a = c.args in
+    Within a.n (drop (16 * c.loop-j.j) a.learn.now))) c.within.result c.within.ensures c.if-not-within.true)
 
 pub loop-j-preserved : goal.loop-j-preserved
 loop-j-preserved c =
     let r = c.loop-j in
     let a = c.args in
-    (omega arith, learn-more a.n a.learn.now r.j r.invariant.1 (told (Here c) c.within.result c.within.ensures c.if-not-within.false))
+    (omega arith, learn-more a.n a.learn.now r.j r.invariant.1 (told ((let a = c.args in
+    Within a.n (drop (16 * c.loop-j.j) a.learn.now))) c.within.result c.within.ensures c.if-not-within.false))
 
 pub returns : goal.returns
 returns c =

@@ -48,6 +48,15 @@ slice_bounds-two_legs-count c =
     let here : CutsAt s (At at number) = subst (CutsAt s) c.in-At.is c.then_line.ensures in
     omega (arith, here.0)
 
+pub slice_bounds-two_legs-start : goal.slice_bounds-two_legs-start
+slice_bounds-two_legs-start c =
+    (let x = c.args in
+    let s = x.text.now in
+    let at = c.in-At.at in
+    let number = c.in-At.number in
+    let here : CutsAt s (At at number) = subst (CutsAt s) c.in-At.is c.then_line.ensures in
+    omega (arith, here.0))
+
 pub overflow_cast-number : goal.overflow_cast-number
 overflow_cast-number c =
     let x = c.args in

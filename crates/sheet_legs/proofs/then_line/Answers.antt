@@ -32,6 +32,22 @@ slice_bounds-is_then-count c =
     let p = piece_is s l.at newline end l.invariant.0 c.piece_end-end.ensures in
     p.from
 
+pub slice_bounds-is_then-start : goal.slice_bounds-is_then-start
+slice_bounds-is_then-start c =
+    (let l = c.loop-at in
+    let s = c.args.text.now in
+    let end = c.piece_end-end.result in
+    let p = piece_is s l.at newline end l.invariant.0 c.piece_end-end.ensures in
+    p.from)
+
+pub slice_bounds-is_then-end : goal.slice_bounds-is_then-end
+slice_bounds-is_then-end c =
+    let l = c.loop-at in
+    let s = c.args.text.now in
+    let end = c.piece_end-end.result in
+    let p = piece_is s l.at newline end l.invariant.0 c.piece_end-end.ensures in
+    p.within
+
 pub returns-then-is_then : goal.returns-then-is_then
 returns-then-is_then c =
     let l = c.loop-at in

@@ -23,6 +23,16 @@ slice_bounds-ending-count c =
     let l = c.loop-due in
     (piece_is c.args.text.now l.at newline c.piece_end-end.result l.invariant.0 c.piece_end-end.ensures).from
 
+pub slice_bounds-ending-start : goal.slice_bounds-ending-start
+slice_bounds-ending-start c =
+    (let l = c.loop-due in
+    (piece_is c.args.text.now l.at newline c.piece_end-end.result l.invariant.0 c.piece_end-end.ensures).from)
+
+pub slice_bounds-ending-end : goal.slice_bounds-ending-end
+slice_bounds-ending-end c =
+    let l = c.loop-due in
+    (piece_is c.args.text.now l.at newline c.piece_end-end.result l.invariant.0 c.piece_end-end.ensures).within
+
 pub returns-then-text-end : goal.returns-then-text-end
 returns-then-text-end c =
     let x = c.args in
@@ -42,14 +52,21 @@ slice_bounds-any_line-count c =
     let l = c.loop-due in
     (piece_is c.args.text.now l.at newline c.piece_end-end.result l.invariant.0 c.piece_end-end.ensures).from
 
+pub slice_bounds-any_line-start : goal.slice_bounds-any_line-start
+slice_bounds-any_line-start c =
+    (let l = c.loop-due in
+    (piece_is c.args.text.now l.at newline c.piece_end-end.result l.invariant.0 c.piece_end-end.ensures).from)
+
+pub slice_bounds-any_line-end : goal.slice_bounds-any_line-end
+slice_bounds-any_line-end c =
+    let l = c.loop-due in
+    (piece_is c.args.text.now l.at newline c.piece_end-end.result l.invariant.0 c.piece_end-end.ensures).within
+
 pub any_line-turn-requires : goal.any_line-turn-requires
 any_line-turn-requires c =
     let h = c.requires in
     let z = c.loop-due.invariant.2 h.5.0 h.5.1 in
     (h.1, h.2, (z.0, z.1))
-
-pub enum_known-taken : goal.enum_known-taken
-enum_known-taken c = c.in-No.keys1
 
 pub returns-in-No : goal.returns-in-No
 returns-in-No c =
@@ -67,9 +84,6 @@ returns-in-No c =
     refused-is n c.refused.result.desk c.in-No.why l.number h.0 h.1
     (sym z.2 ∙ rest-faults x.passes n x.posts s l.at end.result l.number l.due z.0 p c.if-text-end.false w)
     c.refused.ensures
-
-pub enum_known-taken-in-Next-1 : goal.enum_known-taken-in-Next-1
-enum_known-taken-in-Next-1 c = c.in-No.keys2
 
 pub overflow_add-at : goal.overflow_add-at
 overflow_add-at c = omega (arith, c.if-text-end.false)

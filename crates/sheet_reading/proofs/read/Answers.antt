@@ -17,6 +17,12 @@ slice_bounds-question_of-count c =
     let first = c.rules_of-first in
     (upto_by s (rules_of false 5 s) first.result.desk c.in-Upto.is first.ensures).fits
 
+pub slice_bounds-question_of-start : goal.slice_bounds-question_of-start
+slice_bounds-question_of-start c =
+    (let s = c.args.sheet.now in
+    let first = c.rules_of-first in
+    (upto_by s (rules_of false 5 s) first.result.desk c.in-Upto.is first.ensures).fits)
+
 pub overflow_cast-lines : goal.overflow_cast-lines
 overflow_cast-lines c =
     let s = c.args.sheet.now in

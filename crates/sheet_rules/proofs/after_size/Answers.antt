@@ -46,6 +46,24 @@ slice_bounds-line-count c =
     let p = piece_is s l.at newline end.result l.invariant.0 end.ensures in
     p.from
 
+pub slice_bounds-line-start : goal.slice_bounds-line-start
+slice_bounds-line-start c =
+    (let a = c.args in
+    let s = a.text.now in
+    let l = c.loop-desk in
+    let end = c.piece_end-end in
+    let p = piece_is s l.at newline end.result l.invariant.0 end.ensures in
+    p.from)
+
+pub slice_bounds-line-end : goal.slice_bounds-line-end
+slice_bounds-line-end c =
+    let a = c.args in
+    let s = a.text.now in
+    let l = c.loop-desk in
+    let end = c.piece_end-end in
+    let p = piece_is s l.at newline end.result l.invariant.0 end.ensures in
+    p.within
+
 pub upto-requires-then-not-is_of_rules : goal.upto-requires-then-not-is_of_rules
 upto-requires-then-not-is_of_rules c = c.loop-desk.invariant.1
 
@@ -61,7 +79,7 @@ returns-then-not-is_of_rules c =
     let z = l.invariant.4 rules h in
     upto_is s l.desk c.upto-then-not-is_of_rules.result.desk z.0 l.at (l.number - 1) l.number
     (sym z.2 ∙ rest-stops s l.at end.result l.number a.passes p z.0 c.if-text-end.false
-    (of_rules a.passes z.0 l.desk z.1 (part s l.at end.result) l.number (sym is ∙ not-true _ c.if-not-is_of_rules.true)))
+    (of_rules a.passes z.0 l.desk z.1 (part s l.at end.result) l.number (sym is ∙ c.if-not-is_of_rules.true)))
     c.upto-then-not-is_of_rules.ensures l.invariant.0 (omega (arith, l.invariant.1)) z.1
 
 pub rules_line-turn-requires : goal.rules_line-turn-requires
@@ -69,38 +87,25 @@ rules_line-turn-requires c =
     let is = c.is_of_rules.ensures in
     let h = c.requires.0 in
     let z = c.loop-desk.invariant.4 h.0 h.1 in
-    ((z.0, z.1), true→T (sym is ∙ not-false _ c.if-not-is_of_rules.false))
-
-pub enum_known-taken : goal.enum_known-taken
-enum_known-taken c = c.in-No.keys1
+    ((z.0, z.1), true→T (sym is ∙ c.if-not-is_of_rules.false))
 
 pub returns-in-No : goal.returns-in-No
 returns-in-No c =
-    let line-point : tie.After-rules-line invariant-loop decreases-loop = search c in
-    let no2 : tie.Else2 invariant-loop decreases-loop = search line-point in
-    let of-rules-point : tie.After-is-of-rules invariant-loop decreases-loop = search no2 in
-    let no1 : tie.Else1 invariant-loop decreases-loop = search of-rules-point in
-    let piece-end-point : tie.After-piece-end invariant-loop decreases-loop = search no1 in
-    let at-loop : tie.At-loop invariant-loop decreases-loop = search piece-end-point in
-    let start : tie.Start invariant-loop decreases-loop = search at-loop in
-    let a = start.args in
+    let a = c.args in
     let s = a.text.now in
-    let l = at-loop.loop in
-    let end = piece-end-point.piece-end in
-    let p = piece_is s l.at newline end.result l.inv.0 end.ensures in
-    let is = of-rules-point.is-of-rules.ensures in
-    let turn = line-point.rules-line in
+    let l = c.loop-desk in
+    let end = c.piece_end-end in
+    let p = piece_is s l.at newline end.result l.invariant.0 end.ensures in
+    let is = c.is_of_rules.ensures in
+    let turn = c.rules_line-turn in
     λ rules h.
-    let z = l.inv.4 rules h in
+    let z = l.invariant.4 rules h in
     let line = part s l.at end.result in
     let w = faulted_by (line_step a.passes l.number z.0 line) turn.result.desk c.in-No.is (turn.ensures z.0 z.1) in
     refused-is s c.refused.result.desk c.in-No.why l.number
-    (sym z.2 ∙ rest_goes_on s l.at end.result l.number a.passes p z.0 no1.if1.left
-    (of_rules a.passes z.0 l.desk z.1 line l.number (sym is ∙ not-false _ no2.if2.left)) w)
+    (sym z.2 ∙ rest_goes_on s l.at end.result l.number a.passes p z.0 c.if-text-end.false
+    (of_rules a.passes z.0 l.desk z.1 line l.number (sym is ∙ c.if-not-is_of_rules.false)) w)
     c.refused.ensures
-
-pub enum_told-1 : goal.enum_told-1
-enum_told-1 c = c.in-No.keys2
 
 pub overflow_add-at : goal.overflow_add-at
 overflow_add-at c = omega (arith, c.if-text-end.false)
@@ -121,29 +126,22 @@ loop-desk-smaller c =
 
 pub loop-desk-preserved : goal.loop-desk-preserved
 loop-desk-preserved c =
-    let line-point : tie.After-rules-line invariant-loop decreases-loop = search c in
-    let no2 : tie.Else2 invariant-loop decreases-loop = search line-point in
-    let of-rules-point : tie.After-is-of-rules invariant-loop decreases-loop = search no2 in
-    let no1 : tie.Else1 invariant-loop decreases-loop = search of-rules-point in
-    let piece-end-point : tie.After-piece-end invariant-loop decreases-loop = search no1 in
-    let at-loop : tie.At-loop invariant-loop decreases-loop = search piece-end-point in
-    let start : tie.Start invariant-loop decreases-loop = search at-loop in
-    let a = start.args in
+    let a = c.args in
     let s = a.text.now in
-    let l = at-loop.loop in
-    let end = piece-end-point.piece-end in
-    let p = piece_is s l.at newline end.result l.inv.0 end.ensures in
-    let is = of-rules-point.is-of-rules.ensures in
-    let turn = line-point.rules-line in
-    let more = no1.if1.left in (
+    let l = c.loop-desk in
+    let end = c.piece_end-end in
+    let p = piece_is s l.at newline end.result l.invariant.0 end.ensures in
+    let is = c.is_of_rules.ensures in
+    let turn = c.rules_line-turn in
+    let more = c.if-text-end.false in (
       omega (arith, more),
       omega arith,
-      omega (arith, p.from, l.inv.2),
-      l.inv.3,
+      omega (arith, p.from, l.invariant.2),
+      l.invariant.3,
       λ rules h.
-          let z = l.inv.4 rules h in
+          let z = l.invariant.4 rules h in
           let line = part s l.at end.result in
           let w = went_on_by (line_step a.passes l.number z.0 line) turn.result.desk c.in-Next.is (turn.ensures z.0 z.1) in
-          let yes = of_rules a.passes z.0 l.desk z.1 line l.number (sym is ∙ not-false _ no2.if2.left) in
+          let yes = of_rules a.passes z.0 l.desk z.1 line l.number (sym is ∙ c.if-not-is_of_rules.false) in
           (w.0, w.2, rest-next s l.at end.result l.number a.passes p z.0 (l.number + 1) (end.result + 1) (omega arith) (omega arith) more yes w.1 z.2),
     )

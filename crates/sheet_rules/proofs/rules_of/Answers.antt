@@ -41,6 +41,24 @@ slice_bounds-is_passed-count c =
     let p = piece_is s l.at newline end.result l.invariant.0 end.ensures in
     p.from
 
+pub slice_bounds-is_passed-start : goal.slice_bounds-is_passed-start
+slice_bounds-is_passed-start c =
+    (let a = c.args in
+    let s = a.text.now in
+    let l = c.loop-passes in
+    let end = c.piece_end-end in
+    let p = piece_is s l.at newline end.result l.invariant.0 end.ensures in
+    p.from)
+
+pub slice_bounds-is_passed-end : goal.slice_bounds-is_passed-end
+slice_bounds-is_passed-end c =
+    let a = c.args in
+    let s = a.text.now in
+    let l = c.loop-passes in
+    let end = c.piece_end-end in
+    let p = piece_is s l.at newline end.result l.invariant.0 end.ensures in
+    p.within
+
 pub from_size-requires : goal.from_size-requires
 from_size-requires c =
     let a = c.args in
@@ -58,7 +76,7 @@ returns-then-not-is_passed c =
     let end = c.piece_end-end in
     let p = piece_is s l.at newline end.result l.invariant.0 end.ensures in
     subst (λ (o : Reading). ReadsUpto s o c.from_size.result.told c.from_size.result.desk)
-    (sym (size-here s l.at end.result l.line a.passes p a.most c.if-text-end.false (sym c.is_passed.ensures ∙ not-true _ c.if-not-is_passed.true)) ∙ l.invariant.4)
+    (sym (size-here s l.at end.result l.line a.passes p a.most c.if-text-end.false (sym c.is_passed.ensures ∙ c.if-not-is_passed.true)) ∙ l.invariant.4)
     c.from_size.ensures
 
 pub overflow_add-at : goal.overflow_add-at
@@ -91,5 +109,5 @@ loop-passes-preserved c =
       omega (arith, p.from, l.invariant.2),
       l.invariant.3,
       size_passed s l.at end.result l.line a.passes p a.most (l.line + 1) (end.result + 1) (omega arith) (omega arith) more
-          (sym c.is_passed.ensures ∙ not-false _ c.if-not-is_passed.false) l.invariant.4,
+          (sym c.is_passed.ensures ∙ c.if-not-is_passed.false) l.invariant.4,
     )

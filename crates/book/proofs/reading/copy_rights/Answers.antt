@@ -38,7 +38,7 @@ loop-i-preserved c =
     let r = c.loop-i in
     let a = c.args in (
       omega (arith, test),
-      copied.kept.1.1.1.0 ∙ r.invariant.1,
+      copied.auto.room ∙ r.invariant.1,
       rights_step a.book.now a.room.now r.room _ r.i (omega (arith, c.requires, test)) r.invariant.2 copied.ensures,
     )
 

@@ -8,26 +8,19 @@ use Rattle.book.proofs.RoomLaws.{read-room}
 use borrow.Author.Rules.{rules}
 use Rattle.book.proofs.reading.read.Goals as goal
 
--- in the arm of a book, the book is sound
-abbrev Read : goal.In-Book → Type 0
-Read c =
-    let start : goal.Start = search in
-    let told = c.before.answer2.given in
-    Sound start.args.book.now told.0.0 told.0.1.0
-
-book : (c : goal.In-Book) → Read c
-book c =
-    let after-sound : goal.After-sound-answer = search in
-    let start : goal.Start = search in
-    let told = c.before.answer2.given in
-    let judged = after-sound.sound in
-    judged_book start.args.book.now judged.result told.0.0 told.0.1.0 judged.ensures told.1
-
 pub returns-then-room-n : goal.returns-then-room-n
-returns-then-room-n c = (no_room c.args.room.now (book c) c.if-room-n.true, refl)
+returns-then-room-n c =
+    let book : (Sound c.args.book.now c.in-Book.settings c.in-Book.posts) =
+        let judged = c.sound-answer in
+    judged_book c.args.book.now judged.result c.in-Book.settings c.in-Book.posts judged.ensures c.in-Book.is in
+    (no_room c.args.room.now (book) c.if-room-n.true, refl)
 
 pub copy_rights-requires : goal.copy_rights-requires
-copy_rights-requires c = let s = book c in omega (arith, s.settings.most, s.size, c.if-room-n)
+copy_rights-requires c =
+    let book : (Sound c.args.book.now c.in-Book.settings c.in-Book.posts) =
+        let judged = c.sound-answer in
+    judged_book c.args.book.now judged.result c.in-Book.settings c.in-Book.posts judged.ensures c.in-Book.is in
+    let s = book in omega (arith, s.settings.most, s.size, c.if-room-n)
 
 pub returns-in-Refused : goal.returns-in-Refused
 returns-in-Refused c =
@@ -37,7 +30,10 @@ returns-in-Refused c =
 
 pub returns-else-room-n : goal.returns-else-room-n
 returns-else-room-n c =
-    let s = book c in
+    let book : (Sound c.args.book.now c.in-Book.settings c.in-Book.posts) =
+        let judged = c.sound-answer in
+    judged_book c.args.book.now judged.result c.in-Book.settings c.in-Book.posts judged.ensures c.in-Book.is in
+    let s = book in
     let fits = c.if-room-n.false in
     let a = c.args in
     (s, fits, read-room a.room.now _ s fits c.copy_rights.ensures)

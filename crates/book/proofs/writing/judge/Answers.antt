@@ -9,30 +9,6 @@ use Rattle.book.proofs.RefusalLaws.{refuse_settings, refuse_posts, refuse_size, 
 use borrow.Author.Rules.{rules}
 use Rattle.book.proofs.writing.judge.Goals as goal
 
-abbrev start-of-else2 : goal.Else-n-gt-SETTINGS_MOST → goal.Start
-start-of-else2 c = search
-
--- past the first two tests: 1 to 7 settings
-settings : (c : goal.Else-n-gt-SETTINGS_MOST) → SettingsFit (start-of-else2 c).args.n
-settings c = record { least = c.before.if1.false; most = c.if2.false }
-
-abbrev start-of-else4 : goal.Else-m-gt-POSTS_MOST → goal.Start
-start-of-else4 c = search
-
--- past the next two: 1 to 8 posts
-posts : (c : goal.Else-m-gt-POSTS_MOST) → PostsFit (start-of-else4 c).args.m
-posts c = record { least = c.before.if3.false; most = c.if4.false }
-
--- what the search for a stray bit has found
-abbrev Strays : goal.After-first_stray-stray → Type 0
-Strays c =
-    let start : goal.Start = search in
-    let a = start.args in
-    Lowest a.n (λ i. Tables a.n a.m (tables_of a.rights.now i)) c.first-stray.result
-
-strays : (c : goal.After-first_stray-stray) → Strays c
-strays c = c.first-stray.ensures
-
 pub returns-then-n-lt1 : goal.returns-then-n-lt1
 returns-then-n-lt1 c = let a = c.args in refuse_settings a.n a.m a.rights.now a.room.now (λ s. omega (arith, s.least))
 
@@ -43,39 +19,68 @@ returns-then-n-gt-SETTINGS_MOST c =
 
 pub returns-then-m-lt1 : goal.returns-then-m-lt1
 returns-then-m-lt1 c =
+    let settings : SettingsFit c.args.n =
+        record { least = c.if-n-lt1.false; most = c.if-n-gt-SETTINGS_MOST.false } in
     let a = c.args in
-    refuse_posts a.n a.m a.rights.now a.room.now (settings c) (λ p. omega (arith, p.least))
+    refuse_posts a.n a.m a.rights.now a.room.now (settings) (λ p. omega (arith, p.least))
 
 pub returns-then-m-gt-POSTS_MOST : goal.returns-then-m-gt-POSTS_MOST
 returns-then-m-gt-POSTS_MOST c =
+    let settings : SettingsFit c.args.n =
+        record { least = c.if-n-lt1.false; most = c.if-n-gt-SETTINGS_MOST.false } in
     let a = c.args in
-    refuse_posts a.n a.m a.rights.now a.room.now (settings c) (λ p. omega (arith, p.most))
+    refuse_posts a.n a.m a.rights.now a.room.now (settings) (λ p. omega (arith, p.most))
 
 pub returns-then-rights-n : goal.returns-then-rights-n
 returns-then-rights-n c =
+    let settings : SettingsFit c.args.n =
+        record { least = c.if-n-lt1.false; most = c.if-n-gt-SETTINGS_MOST.false } in
+    let posts : PostsFit c.args.m =
+        record { least = c.if-m-lt1.false; most = c.if-m-gt-POSTS_MOST.false } in
     let a = c.args in
-    refuse_size a.n a.m a.rights.now a.room.now (settings c) (posts c) c.if-rights-n.true
+    refuse_size a.n a.m a.rights.now a.room.now (settings) (posts) c.if-rights-n.true
 
 pub returns-then-stray-n : goal.returns-then-stray-n
 returns-then-stray-n c =
+    let settings : SettingsFit c.args.n =
+        record { least = c.if-n-lt1.false; most = c.if-n-gt-SETTINGS_MOST.false } in
+    let posts : PostsFit c.args.m =
+        record { least = c.if-m-lt1.false; most = c.if-m-gt-POSTS_MOST.false } in
+    let strays : (let a = c.args in
+    Lowest a.n (λ i. Tables a.n a.m (tables_of a.rights.now i)) c.first_stray-stray.result) =
+        c.first_stray-stray.ensures in
     let a = c.args in
-    refuse_tables a.n a.m a.rights.now a.room.now (settings c) (posts c) c.if-rights-n.false
-    (strays c) c.if-stray-n.true
+    refuse_tables a.n a.m a.rights.now a.room.now (settings) (posts) c.if-rights-n.false
+    (strays) c.if-stray-n.true
 
 pub returns-then-room-n : goal.returns-then-room-n
 returns-then-room-n c =
+    let settings : SettingsFit c.args.n =
+        record { least = c.if-n-lt1.false; most = c.if-n-gt-SETTINGS_MOST.false } in
+    let posts : PostsFit c.args.m =
+        record { least = c.if-m-lt1.false; most = c.if-m-gt-POSTS_MOST.false } in
+    let strays : (let a = c.args in
+    Lowest a.n (λ i. Tables a.n a.m (tables_of a.rights.now i)) c.first_stray-stray.result) =
+        c.first_stray-stray.ensures in
     let a = c.args in
-    refuse_room a.n a.m a.rights.now a.room.now (settings c) (posts c) c.if-rights-n.false
-    (lowest-all (strays c) c.if-stray-n.false) (omega (arith, c.if-room-n))
+    refuse_room a.n a.m a.rights.now a.room.now (settings) (posts) c.if-rights-n.false
+    (lowest-all (strays) c.if-stray-n.false) (omega (arith, c.if-room-n))
 
 pub returns : goal.returns
 returns c =
+    let settings : SettingsFit c.args.n =
+        record { least = c.if-n-lt1.false; most = c.if-n-gt-SETTINGS_MOST.false } in
+    let posts : PostsFit c.args.m =
+        record { least = c.if-m-lt1.false; most = c.if-m-gt-POSTS_MOST.false } in
+    let strays : (let a = c.args in
+    Lowest a.n (λ i. Tables a.n a.m (tables_of a.rights.now i)) c.first_stray-stray.result) =
+        c.first_stray-stray.ensures in
     (
       record {
-        settings = settings c;
-        posts = posts c;
+        settings = settings;
+        posts = posts;
         size = c.if-rights-n.false;
-        tables = lowest-all (strays c) c.if-stray-n.false;
+        tables = lowest-all (strays) c.if-stray-n.false;
       },
       omega (arith, c.if-room-n),
     )

@@ -8,34 +8,38 @@ use Rattle.book.proofs.RoomLaws.{may_write, may-not_write, write_room}
 use borrow.Author.Rules.{rules}
 use Rattle.book.proofs.writing.write.Goals as goal
 
--- in the arm of no refusal, the rights may be written and the room is long enough
-abbrev May : goal.In-Written → Type 0
-May c =
-    let start : goal.Start = search in
-    let a = start.args in
-    Writable a.n a.m a.rights.now × (512 * (1 + a.n) ≤ length a.room.now)
-
-may : (c : goal.In-Written) → May c
-may c =
-    let after-judge : goal.After-judge-answer = search in
-    let start : goal.Start = search in
-    let judged = after-judge in
-    let a = start.args in
-    may_write a.n a.m a.rights.now a.room.now judged.judge.result judged.judge.ensures c.enum_told.given.1
-
 pub overflow_cast-n : goal.overflow_cast-n
-overflow_cast-n c = let w = may c in omega (arith, w.0.settings.most)
+overflow_cast-n c =
+    let may : (let a = c.args in
+    Writable a.n a.m a.rights.now × (512 * (1 + a.n) ≤ length a.room.now)) =
+        let a = c.args in
+    may_write a.n a.m a.rights.now a.room.now c.judge-answer.result c.judge-answer.ensures c.in-Written.is in
+    let w = may in omega (arith, w.0.settings.most)
 
 pub overflow_cast-m : goal.overflow_cast-m
-overflow_cast-m c = let w = may c in omega (arith, w.0.posts.most)
+overflow_cast-m c =
+    let may : (let a = c.args in
+    Writable a.n a.m a.rights.now × (512 * (1 + a.n) ≤ length a.room.now)) =
+        let a = c.args in
+    may_write a.n a.m a.rights.now a.room.now c.judge-answer.result c.judge-answer.ensures c.in-Written.is in
+    let w = may in omega (arith, w.0.posts.most)
 
 pub write_head-requires : goal.write_head-requires
-write_head-requires c = let w = may c in omega (arith, w.1)
+write_head-requires c =
+    let may : (let a = c.args in
+    Writable a.n a.m a.rights.now × (512 * (1 + a.n) ≤ length a.room.now)) =
+        let a = c.args in
+    may_write a.n a.m a.rights.now a.room.now c.judge-answer.result c.judge-answer.ensures c.in-Written.is in
+    let w = may in omega (arith, w.1)
 
 pub write_settings-requires : goal.write_settings-requires
 write_settings-requires c =
-    let w = may c in
-    omega (arith, w.0.settings.most, w.0.size, w.1, c.write_head.kept.1.1.0)
+    let may : (let a = c.args in
+    Writable a.n a.m a.rights.now × (512 * (1 + a.n) ≤ length a.room.now)) =
+        let a = c.args in
+    may_write a.n a.m a.rights.now a.room.now c.judge-answer.result c.judge-answer.ensures c.in-Written.is in
+    let w = may in
+    omega (arith, w.0.settings.most, w.0.size, w.1, c.write_head.auto.room)
 
 pub returns-in-Refused : goal.returns-in-Refused
 returns-in-Refused c =
@@ -44,8 +48,12 @@ returns-in-Refused c =
 
 pub returns-in-Written : goal.returns-in-Written
 returns-in-Written c =
+    let may : (let a = c.args in
+    Writable a.n a.m a.rights.now × (512 * (1 + a.n) ≤ length a.room.now)) =
+        let a = c.args in
+    may_write a.n a.m a.rights.now a.room.now c.judge-answer.result c.judge-answer.ensures c.in-Written.is in
     let a = c.args in
-    let w = may c in (
+    let w = may in (
       w.0,
       w.1,
       write_room a.n a.m a.rights.now a.room.now _ _ w.0 w.1 c.write_head.ensures c.write_settings.ensures,

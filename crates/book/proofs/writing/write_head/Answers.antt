@@ -13,7 +13,7 @@ pub bounds-room-1 : goal.bounds-room-1
 bounds-room-1 c = simp length-set (omega arith)
 
 pub shape_of-room : goal.shape_of-room
-shape_of-room c = c.seal.kept.0 ∙ c.zeros.kept.1.0 ∙ simp length-set
+shape_of-room c = c.seal.auto.room ∙ c.zeros.auto.room ∙ simp length-set
 
 pub returns : goal.returns
 unfolding head_block

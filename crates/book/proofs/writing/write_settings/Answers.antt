@@ -30,7 +30,7 @@ loop-i-preserved c =
     let r = c.loop-i in
     let a = c.args in (
       omega (arith, test),
-      written.kept.1.1.0 ∙ r.invariant.1,
+      written.auto.room ∙ r.invariant.1,
       settings-step a.rights.now a.room.now r.room _ r.i (omega (arith, c.requires, test)) r.invariant.2 written.ensures,
     )
 

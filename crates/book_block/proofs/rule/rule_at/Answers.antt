@@ -7,7 +7,7 @@ use Rattle.book_block.proofs.rule.rule_at.Goals as goal
 pub overflow_add-result-2 : goal.overflow_add-result-2
 overflow_add-result-2 c =
     let a = c.args in
-    omega (arith, c.table_at.ensures, place-small a.post a.right (omega (arith, c.fits.post)))
+    omega (arith, c.table_at.ensures, place-small a.post a.right (omega (arith, c.ranges.post.fits)))
 
 pub returns : goal.returns
 unfolding rule_place

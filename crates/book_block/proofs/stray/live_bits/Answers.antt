@@ -3,13 +3,6 @@ use Rattle.std.proofs.Common.{◌≡◌, ◌*◌, ◌%◌, ◌^◌, ◌<◌, sym
 use Rattle.book_block.proofs.StrayLaws.{live-none, live-some, live_full, one_shifted}
 use Rattle.book_block.proofs.stray.live_bits.Goals as goal
 
-abbrev start-of-else2 : goal.Else-n-ge-SETTINGS_MOST → goal.Start
-start-of-else2 c = search
-
--- below seven settings the shift gives their valuations
-shifted : (c : goal.Else-n-ge-SETTINGS_MOST) → 1 * 2 ^ (start-of-else2 c).args.n % 2 ^ 64 ≡ 2 ^ (start-of-else2 c).args.n
-shifted c = one_shifted _ c.if2.false
-
 pub returns-then-m-j : goal.returns-then-m-j
 returns-then-m-j c = sym (live-none _ _ _ c.if-m-j.true)
 
@@ -17,10 +10,19 @@ pub returns-then-n-ge-SETTINGS_MOST : goal.returns-then-n-ge-SETTINGS_MOST
 returns-then-n-ge-SETTINGS_MOST c = sym (live_full _ _ _ c.if-m-j.false c.if-n-ge-SETTINGS_MOST.true)
 
 pub returns-then-all-first : goal.returns-then-all-first
-returns-then-all-first c = rw (live-some _ _ _ c.if-m-j.false) (omega (arith, shifted c))
+returns-then-all-first c =
+    let shifted : 1 * 2 ^ c.args.n % 2 ^ 64 ≡ 2 ^ c.args.n =
+        one_shifted _ c.if-n-ge-SETTINGS_MOST.false in
+    rw (live-some _ _ _ c.if-m-j.false) (omega (arith, shifted))
 
 pub returns-then-all-first-ge-BYTE : goal.returns-then-all-first-ge-BYTE
-returns-then-all-first-ge-BYTE c = rw (live-some _ _ _ c.if-m-j.false) (omega (arith, shifted c))
+returns-then-all-first-ge-BYTE c =
+    let shifted : 1 * 2 ^ c.args.n % 2 ^ 64 ≡ 2 ^ c.args.n =
+        one_shifted _ c.if-n-ge-SETTINGS_MOST.false in
+    rw (live-some _ _ _ c.if-m-j.false) (omega (arith, shifted))
 
 pub returns : goal.returns
-returns c = rw (live-some _ _ _ c.if-m-j.false) (omega (arith, shifted c))
+returns c =
+    let shifted : 1 * 2 ^ c.args.n % 2 ^ 64 ≡ 2 ^ c.args.n =
+        one_shifted _ c.if-n-ge-SETTINGS_MOST.false in
+    rw (live-some _ _ _ c.if-m-j.false) (omega (arith, shifted))

@@ -6,7 +6,7 @@ use borrow.Author.Rules.{rules}
 use Rattle.book_salvage.proofs.closing.lay_book.Goals as goal
 
 pub lay_settings-requires : goal.lay_settings-requires
-lay_settings-requires c = omega (arith, c.requires, c.copy.kept.1.1.1.0)
+lay_settings-requires c = omega (arith, c.requires, c.copy.auto.room)
 
 pub returns : goal.returns
 unfolding block

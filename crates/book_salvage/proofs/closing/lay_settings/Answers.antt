@@ -30,7 +30,7 @@ loop-i-preserved c =
     let r = c.loop-i in
     let a = c.args in (
       omega (arith, c.loop-i-test),
-      laid.kept.1.1.1.0 ∙ r.invariant.1,
+      laid.auto.room ∙ r.invariant.1,
       lay_on (setting_after a.book.now a.marks) 512 a.room.now r.room _ 512 (512 * (1 + r.i)) r.i
           (λ k h. length-after a.book.now a.marks k (omega (arith, c.requires, c.loop-i-test))) (omega arith) r.invariant.2 laid.ensures,
     )

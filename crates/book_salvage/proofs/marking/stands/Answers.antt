@@ -8,25 +8,20 @@ use Rattle.book_block.proofs.BlockLaws.{setting-block, setting-drop}
 use borrow.Author.Rules.{rules}
 use Rattle.book_salvage.proofs.marking.stands.Goals as goal
 
--- what the first test tells
-abbrev Right : goal.After-is_right → Type 0
-Right c =
-    let start : goal.Start = search in
-    RightCheck (block start.args.book.now (1 + start.args.i))
-
-right : (c : goal.After-is_right) → Tells c.is_right.result (Right c)
-right c =
-    let start : goal.Start = search in
-    let a = start.args in
-    tells_iff c.is_right.result (right-block a.book.now (1 + a.i)) (right-drop a.book.now (1 + a.i)) c.is_right.ensures
-
 pub returns-then-not-is_right : goal.returns-then-not-is_right
-returns-then-not-is_right c = λ s. untold (Right c) c.is_right.result (right c) c.if-not-is_right.true s.check
+returns-then-not-is_right c =
+    let right : Tells c.is_right.result ((RightCheck (block c.args.book.now (1 + c.args.i)))) =
+        let a = c.args in
+    tells_iff c.is_right.result (right-block a.book.now (1 + a.i)) (right-drop a.book.now (1 + a.i)) c.is_right.ensures in
+    λ s. untold ((RightCheck (block c.args.book.now (1 + c.args.i)))) c.is_right.result (right) c.if-not-is_right.true s.check
 
 pub returns : goal.returns
 returns c =
+    let right : Tells c.is_right.result ((RightCheck (block c.args.book.now (1 + c.args.i)))) =
+        let a = c.args in
+    tells_iff c.is_right.result (right-block a.book.now (1 + a.i)) (right-drop a.book.now (1 + a.i)) c.is_right.ensures in
     let a = c.args in
-    let checked = told (Right c) c.is_right.result (right c) c.if-not-is_right.false in
+    let checked = told ((RightCheck (block c.args.book.now (1 + c.args.i)))) c.is_right.result (right) c.if-not-is_right.false in
     tells_iff c.is_setting.result
     (λ clean. record { check = checked; clean = setting-block a.book.now (1 + a.i) clean })
     (λ s. setting-drop a.book.now (1 + a.i) s.clean)

@@ -17,65 +17,42 @@ use Rattle.finder.proofs.Tables.{tables_tell, ranks-filled}
 use Rattle.finder.proofs.Without.{ranks-without, answers-without}
 use Rattle.finder.proofs.finding.search.Goals as goal
 
--- the system of the question's rules
-abbrev systemHere : goal.Start → System
-systemHere s = ruled_system s.args.n s.args.book.now s.args.question (goal_of s.args.make.now s.args.learn.now)
-
--- what holds of it without the sets that change nothing holds of the question's system
-abbrev asked : (s : goal.Start) (P : System → Type 0)
-    → P (without (systemHere s)) → P (system_of s.args.n s.args.book.now s.args.question (goal_of s.args.make.now s.args.learn.now))
-asked s P h = from_ruled s.args.n s.args.book.now s.args.question (goal_of s.args.make.now s.args.learn.now) P h
-
--- the places before the ranks are filled
-abbrev started : goal.After-fill_ranks → goal.Start
-started c =
-    let start : goal.Start = search in
-    start
-
-abbrev looked : goal.After-fill_ranks → goal.After-posts_allowed-look
-looked c =
-    let after-posts-allowed2 : goal.After-posts_allowed-look = search in
-    after-posts-allowed2
-
--- once the ranks are filled, the tables tell that system
-told : (c : goal.After-fill_ranks)
-    → TablesTell (started c).args.n (looked c).before.posts-allowed.result (looked c).posts-allowed2.result
-    c.fill-ranks.new.1.1.1.1.1.0 (systemHere (started c))
-told c =
-    let halves = c.before.before.before.before.before.before in
-    tables_tell (started c).requires.0.1 (looked c).before.posts-allowed.ensures (looked c).posts-allowed2.ensures
-    halves.before.made.ensures halves.learnt.ensures c.fill-ranks.ensures (started c).requires.1
-
-filled : (c : goal.After-fill_ranks)
-    → RanksFilled (started c).args.n (systemHere (started c)) (started c).args.ranks.now c.fill-ranks.new.1.1.1.1.1.0
-filled c =
-    let halves = c.before.before.before.before.before.before in
-    ranks-filled (started c).requires.0.1 (looked c).before.posts-allowed.ensures (looked c).posts-allowed2.ensures
-    halves.before.made.ensures halves.learnt.ensures c.fill-ranks.ensures (started c).requires.1
-
-abbrev after-fill-ranks-of-after-number : goal.After-number-start → goal.After-fill_ranks
-after-fill-ranks-of-after-number c = search
-
--- the number of the start
-start-here : (c : goal.After-number-start) → c.number.result ≡ start_of (started (after-fill-ranks-of-after-number c)).args.question
-start-here c =
-    let after-fill-ranks : goal.After-fill_ranks = search in
-    start_is (started after-fill-ranks).args.question c.before.at-start.ensures c.number.ensures
-
 pub from_start-requires : goal.from_start-requires
 from_start-requires c =
-    let start = started c in (
-      subst (λ (x : ℕ). x < 7 ^ start.args.n) (sym (start-here c)) (valid_start start.pre.0.1),
-      omega (arith, start.pre.1, (filled c).size),
-      (systemHere start, told c),
+    let systemHere : System =
+        ruled_system c.args.n c.args.book.now c.args.question (goal_of c.args.make.now c.args.learn.now) in
+    let told : TablesTell c.args.n c.posts_allowed-set.result c.posts_allowed-look.result c.fill_ranks.new.ranks (systemHere) =
+        tables_tell c.requires.0.1 c.posts_allowed-set.ensures c.posts_allowed-look.ensures
+    c.made-done.ensures c.learnt-known.ensures c.fill_ranks.ensures c.requires.1 in
+    let filled : RanksFilled c.args.n (systemHere) c.args.ranks.now c.fill_ranks.new.ranks =
+        ranks-filled c.requires.0.1 c.posts_allowed-set.ensures c.posts_allowed-look.ensures
+    c.made-done.ensures c.learnt-known.ensures c.fill_ranks.ensures c.requires.1 in
+    let start-here : c.number-start.result ≡ start_of c.args.question =
+        start_is c.args.question c.at_start.ensures c.number-start.ensures in
+    (
+      subst (λ (x : ℕ). x < 7 ^ c.args.n) (sym (start-here)) (valid_start c.requires.0.1),
+      omega (arith, c.requires.1, (filled).size),
+      (systemHere, told),
     )
 
 pub returns : goal.returns
 returns c =
-    let start = started c in (
-      asked start (λ (S : System). RanksFilled start.args.n S start.args.ranks.now c.fill_ranks.last.1.1.1.1.1.0) (ranks-without.0 (filled c)),
-      asked start (λ (S : System). AnswersFrom S (start_of start.args.question) start.args.plan.now c.from_start.result c.from_start.last.1.1.1.1.1.0)
-          ((answers-without (systemHere start) (start_of start.args.question) start.args.plan.now c.from_start.result c.from_start.last.1.1.1.1.1.0).0
-          (subst (λ (x : ℕ). AnswersFrom (systemHere start) x start.args.plan.now c.from_start.result c.from_start.last.1.1.1.1.1.0)
-          (start-here c) (c.from_start.ensures (systemHere start) (told c)))),
+    let systemHere : System =
+        ruled_system c.args.n c.args.book.now c.args.question (goal_of c.args.make.now c.args.learn.now) in
+    let asked : (P : System → Type 0) → P (without (systemHere)) → P (system_of c.args.n c.args.book.now c.args.question (goal_of c.args.make.now c.args.learn.now)) =
+        λ P. λ h. from_ruled c.args.n c.args.book.now c.args.question (goal_of c.args.make.now c.args.learn.now) P h in
+    let told : TablesTell c.args.n c.posts_allowed-set.result c.posts_allowed-look.result c.fill_ranks.new.ranks (systemHere) =
+        tables_tell c.requires.0.1 c.posts_allowed-set.ensures c.posts_allowed-look.ensures
+    c.made-done.ensures c.learnt-known.ensures c.fill_ranks.ensures c.requires.1 in
+    let filled : RanksFilled c.args.n (systemHere) c.args.ranks.now c.fill_ranks.new.ranks =
+        ranks-filled c.requires.0.1 c.posts_allowed-set.ensures c.posts_allowed-look.ensures
+    c.made-done.ensures c.learnt-known.ensures c.fill_ranks.ensures c.requires.1 in
+    let start-here : c.number-start.result ≡ start_of c.args.question =
+        start_is c.args.question c.at_start.ensures c.number-start.ensures in
+    (
+      asked (λ (S : System). RanksFilled c.args.n S c.args.ranks.now c.fill_ranks.last.1.1.1.1.1.0) (ranks-without.0 (filled)),
+      asked (λ (S : System). AnswersFrom S (start_of c.args.question) c.args.plan.now c.from_start.result c.from_start.last.1.1.1.1.1.0)
+          ((answers-without (systemHere) (start_of c.args.question) c.args.plan.now c.from_start.result c.from_start.last.1.1.1.1.1.0).0
+          (subst (λ (x : ℕ). AnswersFrom (systemHere) x c.args.plan.now c.from_start.result c.from_start.last.1.1.1.1.1.0)
+          (start-here) (c.from_start.ensures (systemHere) (told)))),
     )

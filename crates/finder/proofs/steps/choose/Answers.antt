@@ -23,20 +23,14 @@ step_of-requires c =
       c.loop-pair-test.true,
     )
 
-pub enum_known-act : goal.enum_known-act
-enum_known-act c = c.in-Do.keys1
-
 pub returns-in-Do : goal.returns-in-Do
 returns-in-Do c =
     let loop = c.loop-pair in
     let ranks = c.args.ranks.now in
     let k = c.args.k in
     λ S t. (
-    let x = subst (Tries S ranks k (family loop.pair)) c.in-Do.is (c.step_of_lem.ensures S t) in
+    let x = subst (Tries S ranks k (family loop.pair)) c.in-Do.is (c.step_of.ensures S t) in
     smallest t k c.requires.1 loop.pair x.0 c.in-Do.act c.loop-pair-test.true (loop.invariant.1 S t) x.1 x.2 x.3)
-
-pub enum_told-1 : goal.enum_told-1
-enum_told-1 c = c.in-Do.keys2
 
 pub loop-pair-preserved : goal.loop-pair-preserved
 loop-pair-preserved c =
@@ -46,7 +40,7 @@ loop-pair-preserved c =
       omega arith,
       λ S t.
           none_more t k c.requires.1 loop.pair (loop.invariant.1 S t)
-          (subst (Tries S ranks k (family loop.pair)) c.in-Stop.is (c.step_of_lem.ensures S t)),
+          (subst (Tries S ranks k (family loop.pair)) c.in-Stop.is (c.step_of.ensures S t)),
     )
 
 pub returns : goal.returns

@@ -23,7 +23,7 @@ loop-q-preserved c =
 pub returns : goal.returns
 returns c =
     (
-      lowest_last c.args.posts c.loop-q.q (omega (arith, c.fits.posts)) c.requires
+      lowest_last c.args.posts c.loop-q.q (omega (arith, c.ranges.posts.fits)) c.requires
           c.loop-q-test.false c.loop-q.invariant.0 c.loop-q.invariant.1,
       omega arith,
     )

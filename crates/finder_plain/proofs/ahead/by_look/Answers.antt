@@ -40,7 +40,7 @@ pub returns-then-not-someone_may : goal.returns-then-not-someone_may
 returns-then-not-someone_may c =
     let a = c.args in
     nobody (untold (Someone (may_do a.n a.book.now a.team a.held a.k) (Look a.i 0)) c.someone_may.result c.someone_may.ensures c.if-not-someone_may.true)
-    (λ q t. post-few a.n a.book.now a.team a.held a.k (Look a.i 0) q (omega (arith, c.fits.team)) t)
+    (λ q t. post-few a.n a.book.now a.team a.held a.k (Look a.i 0) q (omega (arith, c.ranges.team.fits)) t)
 
 pub returns : goal.returns
 returns c =

@@ -8,23 +8,30 @@ use lib.Dec.{lit<}
 use lib.Pow.{pow_pos}
 use Rattle.finder_plain.proofs.finding.heights.Goals as goal
 
-abbrev start_of : goal.After-valuations → goal.Start
-start_of c = c.before
-
-count : (c : goal.After-valuations) → c.valuations.result ≡ 2 ^ (start_of c).args.n
-count c = c.valuations.ensures ∙ ap (λ k. 2 ^ k) (min-eq_left (start_of c).requires)
-
-most : (c : goal.After-valuations) → c.valuations.result ≤ 128
-most c = omega (arith, count c, pow-le-pow_right {n = 2} (lit< tt) {i = (start_of c).args.n} {j = 7} (start_of c).requires)
-
 pub overflow_sub-result : goal.overflow_sub-result
-overflow_sub-result c = omega (arith, count c, pow_pos (start_of c).args.n)
+overflow_sub-result c =
+    let count : c.valuations.result ≡ 2 ^ c.args.n =
+        c.valuations.ensures ∙ ap (λ k. 2 ^ k) (min-eq_left c.requires) in
+    omega (arith, count, pow_pos c.args.n)
 
 pub overflow_mul-result : goal.overflow_mul-result
-overflow_mul-result c = omega (arith, most c)
+overflow_mul-result c =
+    let count : c.valuations.result ≡ 2 ^ c.args.n =
+        c.valuations.ensures ∙ ap (λ k. 2 ^ k) (min-eq_left c.requires) in
+    let most : c.valuations.result ≤ 128 =
+        omega (arith, count, pow-le-pow_right {n = 2} (lit< tt) {i = c.args.n} {j = 7} c.requires) in
+    omega (arith, most)
 
 pub overflow_add-result : goal.overflow_add-result
-overflow_add-result c = omega (arith, most c)
+overflow_add-result c =
+    let count : c.valuations.result ≡ 2 ^ c.args.n =
+        c.valuations.ensures ∙ ap (λ k. 2 ^ k) (min-eq_left c.requires) in
+    let most : c.valuations.result ≤ 128 =
+        omega (arith, count, pow-le-pow_right {n = 2} (lit< tt) {i = c.args.n} {j = 7} c.requires) in
+    omega (arith, most)
 
 pub returns : goal.returns
-returns c = rw (pow-succ' 2 (start_of c).args.n) (omega (arith, count c, pow_pos (start_of c).args.n))
+returns c =
+    let count : c.valuations.result ≡ 2 ^ c.args.n =
+        c.valuations.ensures ∙ ap (λ k. 2 ^ k) (min-eq_left c.requires) in
+    rw (pow-succ' 2 c.args.n) (omega (arith, count, pow_pos c.args.n))

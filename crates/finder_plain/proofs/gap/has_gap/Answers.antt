@@ -15,10 +15,10 @@ seen-found-requires c =
     (c.requires.0, omega (arith, c.numbers.ensures, pow-le-pow_right {n = 7} (lit< tt) {i = n} {j = 7} c.requires.1))
 
 pub bounds-found-value : goal.bounds-found-value
-bounds-found-value c = omega (arith, c.fits.top)
+bounds-found-value c = omega (arith, c.ranges.top.fits)
 
 pub returns-then-found-value-ne1 : goal.returns-then-found-value-ne1
-returns-then-found-value-ne1 c = gap_here c.seen-found.ensures c.numbers.ensures c.loop-value-test.true c.if-found-value-ne1.true
+returns-then-found-value-ne1 c e = gap_here c.seen-found.ensures c.numbers.ensures c.loop-value-test.true c.if-found-value-ne1.true
 
 pub returns : goal.returns
 returns c = no_gap

@@ -9,23 +9,26 @@ use Rattle.question.proofs.PermitLaws.{rule-judged}
 use Rattle.finder_plain.proofs.MayLaws.{rule-known}
 use Rattle.finder_plain.proofs.may.holds.Goals as goal
 
-abbrev start_of : goal.After-judge → goal.Start
-start_of c = search
-
-judged : (c : goal.After-judge) →
-    let a = (start_of c).args in
-    c.judge.result ≡ judgement a.n (now_side (digit_in a.state.digits)) (rule a.book.now a.setting a.post a.right)
-judged c =
-    let start : goal.Start = search in
-    let a = start.args in
-    rule-judged a.n a.book.now (digit_in a.state.digits) a.setting a.post a.right start.pre c.before.rule-at.ensures
-    c.judge.ensures
-
 pub returns-in-TrueAtAll : goal.returns-in-TrueAtAll
-returns-in-TrueAtAll c = rule-known _ _ _ (judged c) c.in-TrueAtAll.is
+returns-in-TrueAtAll c =
+    let judged : let a = c.args in c.judge.result ≡ judgement a.n (now_side (digit_in a.state.digits)) (rule a.book.now a.setting a.post a.right) =
+        let a = c.args in
+    rule-judged a.n a.book.now (digit_in a.state.digits) a.setting a.post a.right c.requires c.rule_at.ensures
+    c.judge.ensures in
+    rule-known _ _ _ (judged) c.in-TrueAtAll.is
 
 pub returns-in-FalseAtAll : goal.returns-in-FalseAtAll
-returns-in-FalseAtAll c = rule-known _ _ _ (judged c) c.in-FalseAtAll.is
+returns-in-FalseAtAll c =
+    let judged : let a = c.args in c.judge.result ≡ judgement a.n (now_side (digit_in a.state.digits)) (rule a.book.now a.setting a.post a.right) =
+        let a = c.args in
+    rule-judged a.n a.book.now (digit_in a.state.digits) a.setting a.post a.right c.requires c.rule_at.ensures
+    c.judge.ensures in
+    rule-known _ _ _ (judged) c.in-FalseAtAll.is
 
 pub returns-in-Neither : goal.returns-in-Neither
-returns-in-Neither c = rule-known _ _ _ (judged c) c.in-Neither.is
+returns-in-Neither c =
+    let judged : let a = c.args in c.judge.result ≡ judgement a.n (now_side (digit_in a.state.digits)) (rule a.book.now a.setting a.post a.right) =
+        let a = c.args in
+    rule-judged a.n a.book.now (digit_in a.state.digits) a.setting a.post a.right c.requires c.rule_at.ensures
+    c.judge.ensures in
+    rule-known _ _ _ (judged) c.in-Neither.is

@@ -5,7 +5,7 @@ use mathlib.Core.Path.{sym, ◌∙◌}
 use Rattle.finder_plain.proofs.may.may_do.Goals as goal
 
 pub returns-then-not-offered : goal.returns-then-not-offered
-returns-then-not-offered c = rw (sym c.offered.ensures ∙ not-true _ c.if-not-offered.true)
+returns-then-not-offered c = rw (sym c.offered.ensures ∙ c.if-not-offered.true)
 
 pub returns : goal.returns
-returns c = rw (sym c.offered.ensures ∙ not-false _ c.if-not-offered.false) c.is_permitted.ensures
+returns c = rw (sym c.offered.ensures ∙ c.if-not-offered.false) c.is_permitted.ensures

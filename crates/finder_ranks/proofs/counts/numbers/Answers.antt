@@ -12,15 +12,21 @@ use Rattle.finder_ranks.proofs.counts.numbers.Goals as goal
 abbrev sevens : List ℕ
 sevens = 1 ∷ 7 ∷ 49 ∷ 343 ∷ 2401 ∷ 16807 ∷ 117649 ∷ 823543 ∷ []
 
-few : (c : goal.After-up_to_seven) → c.up-to-seven.result ≤ 7
-few c = rw c.up-to-seven.ensures (min-le_right _ 7)
-
 pub overflow_cast-result : goal.overflow_cast-result
-overflow_cast-result c = omega (arith, few c)
+overflow_cast-result c =
+    let few : c.up_to_seven.result ≤ 7 =
+        rw c.up_to_seven.ensures (min-le_right _ 7) in
+    omega (arith, few)
 
 pub offset_bounds-up_to_seven : goal.offset_bounds-up_to_seven
-offset_bounds-up_to_seven c = omega (arith, few c)
+offset_bounds-up_to_seven c =
+    let few : c.up_to_seven.result ≤ 7 =
+        rw c.up_to_seven.ensures (min-le_right _ 7) in
+    omega (arith, few)
 
 pub returns : goal.returns
 unfolding all
-returns c = power_of 7 sevens tt c.up_to_seven.result (few c) ∙ ap (λ k. 7 ^ k) c.up_to_seven.ensures
+returns c =
+    let few : c.up_to_seven.result ≤ 7 =
+        rw c.up_to_seven.ensures (min-le_right _ 7) in
+    power_of 7 sevens tt c.up_to_seven.result (few) ∙ ap (λ k. 7 ^ k) c.up_to_seven.ensures

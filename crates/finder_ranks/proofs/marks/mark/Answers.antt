@@ -8,25 +8,18 @@ use Rattle.finder_ranks.specs.Marks.{Stored, mark_at}
 use Rattle.finder_ranks.proofs.MarkLaws.{stored_none, stored_both, marks-all, sevens}
 use Rattle.finder_ranks.proofs.marks.mark.Goals as goal
 
-abbrev start-of-after-numbers : goal.After-numbers-rests invariant-loop decreases-loop → goal.Start invariant-loop decreases-loop
-start-of-after-numbers c = search
-
--- as many sevens of states as one setting fewer has states
-rests-are : (c : goal.After-numbers-rests invariant-loop decreases-loop) → c.numbers.result ≡ 7 ^ ((start-of-after-numbers c).args.n - 1)
-rests-are c =
-    let start : goal.Start invariant-loop decreases-loop = search in
-    let pre = start.pre in
-    c.numbers.ensures ∙ ap (λ k. 7 ^ k) (min-eq_left (omega (arith, pre.0, pre.1)))
-
 pub loop-rest-init : goal.loop-rest-init
 loop-rest-init c = (omega arith, rw zero-mul (stored_none 0 c.args.ranks.now))
 
 pub mark_seven-requires : goal.mark_seven-requires
 mark_seven-requires c =
+    let rests-are : c.numbers-rests.result ≡ 7 ^ (c.args.n - 1) =
+        let pre = c.requires in
+    c.numbers-rests.ensures ∙ ap (λ k. 7 ^ k) (min-eq_left (omega (arith, pre.0, pre.1))) in
     (
       c.requires.0,
       c.requires.1,
-      omega (arith, rests-are c, c.loop-rest-test.true),
+      omega (arith, rests-are, c.loop-rest-test.true),
       omega (arith, c.requires.2, c.loop-rest.invariant.1.long),
     )
 
@@ -37,4 +30,8 @@ pub shape_of-ranks : goal.shape_of-ranks
 shape_of-ranks c = c.loop-rest.invariant.1.long
 
 pub returns : goal.returns
-returns c = marks-all c.args.made.now c.args.learnt.now c.loop-rest.invariant.1 (omega (arith, sevens c.args.n c.requires.0, rests-are c))
+returns c =
+    let rests-are : c.numbers-rests.result ≡ 7 ^ (c.args.n - 1) =
+        let pre = c.requires in
+    c.numbers-rests.ensures ∙ ap (λ k. 7 ^ k) (min-eq_left (omega (arith, pre.0, pre.1))) in
+    marks-all c.args.made.now c.args.learnt.now c.loop-rest.invariant.1 (omega (arith, sevens c.args.n c.requires.0, rests-are))

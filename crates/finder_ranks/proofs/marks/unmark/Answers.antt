@@ -9,33 +9,35 @@ use Rattle.finder_ranks.specs.Marks.{Stored, mark_then}
 use Rattle.finder_ranks.proofs.MarkLaws.{stored_none, unmarked_more}
 use Rattle.finder_ranks.proofs.marks.unmark.Goals as goal
 
-abbrev start-of-after-numbers : goal.After-numbers-count invariant-loop decreases-loop → goal.Start invariant-loop decreases-loop
-start-of-after-numbers c = search
-
--- as many as there are knowledge numbers
-count-is : (c : goal.After-numbers-count invariant-loop decreases-loop) → c.numbers.result ≡ 7 ^ (start-of-after-numbers c).args.n
-count-is c =
-    let start : goal.Start invariant-loop decreases-loop = search in
-    c.numbers.ensures ∙ ap (λ k. 7 ^ k) (min-eq_left start.pre.0)
-
 pub loop-k-init : goal.loop-k-init
 loop-k-init c = (omega arith, stored_none 0 c.args.ranks.now)
 
 pub bounds-ranks2-k : goal.bounds-ranks2-k
-bounds-ranks2-k c = omega (arith, c.loop-k-test.true, count-is c, c.requires.1)
+bounds-ranks2-k c =
+    let count-is : c.numbers-count.result ≡ 7 ^ c.args.n =
+        c.numbers-count.ensures ∙ ap (λ k. 7 ^ k) (min-eq_left c.requires.0) in
+    omega (arith, c.loop-k-test.true, count-is, c.requires.1)
 
 pub bounds-ranks-k : goal.bounds-ranks-k
-bounds-ranks-k c = omega (arith, c.loop-k-test.true, count-is c, c.requires.2, c.loop-k.invariant.1.long)
+bounds-ranks-k c =
+    let count-is : c.numbers-count.result ≡ 7 ^ c.args.n =
+        c.numbers-count.ensures ∙ ap (λ k. 7 ^ k) (min-eq_left c.requires.0) in
+    omega (arith, c.loop-k-test.true, count-is, c.requires.2, c.loop-k.invariant.1.long)
 
 pub bounds-ranks-k-in-loop-k : goal.bounds-ranks-k-in-loop-k
-bounds-ranks-k-in-loop-k c = omega (arith, c.loop-k-test.true, count-is c, c.requires.2, c.loop-k.invariant.1.long)
+bounds-ranks-k-in-loop-k c =
+    let count-is : c.numbers-count.result ≡ 7 ^ c.args.n =
+        c.numbers-count.ensures ∙ ap (λ k. 7 ^ k) (min-eq_left c.requires.0) in
+    omega (arith, c.loop-k-test.true, count-is, c.requires.2, c.loop-k.invariant.1.long)
 
 pub loop-k-preserved : goal.loop-k-preserved
 loop-k-preserved c =
+    let count-is : c.numbers-count.result ≡ 7 ^ c.args.n =
+        c.numbers-count.ensures ∙ ap (λ k. 7 ^ k) (min-eq_left c.requires.0) in
     let loop = c.loop-k in
     let below = c.loop-k-test.true in (
       omega (arith, below),
-      unmarked_more c.args.ranks2.now c.args.ranks.now loop.invariant.1 (omega (arith, below, count-is c, c.requires.2, loop.invariant.1.long)) refl c.mark_then.ensures,
+      unmarked_more c.args.ranks2.now c.args.ranks.now loop.invariant.1 (omega (arith, below, count-is, c.requires.2, loop.invariant.1.long)) refl c.mark_then.ensures,
     )
 
 pub shape_of-ranks : goal.shape_of-ranks
@@ -43,6 +45,8 @@ shape_of-ranks c = c.loop-k.invariant.1.long
 
 pub returns : goal.returns
 returns c =
-    let done : c.loop-k.k ≡ 7 ^ c.args.n = omega (arith, c.loop-k-test.false, c.loop-k.invariant.0, count-is c) in
+    let count-is : c.numbers-count.result ≡ 7 ^ c.args.n =
+        c.numbers-count.ensures ∙ ap (λ k. 7 ^ k) (min-eq_left c.requires.0) in
+    let done : c.loop-k.k ≡ 7 ^ c.args.n = omega (arith, c.loop-k-test.false, c.loop-k.invariant.0, count-is) in
     subst (λ (j : ℕ). Stored (λ i. mark_then (get_or c.args.ranks2.now i 0) (get_or c.args.ranks.now i 0)) 0 j c.args.ranks.now c.loop-k.ranks) done
     c.loop-k.invariant.1

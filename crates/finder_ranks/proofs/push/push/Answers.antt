@@ -7,7 +7,7 @@ use Rattle.finder_ranks.proofs.push.push.Goals as goal
 pub by_look-requires : goal.by_look-requires
 by_look-requires c =
     let pre = c.requires in
-    (c.spot_of_lem.ensures, pushing_on pre.0 (c.by_set.ensures.grew []), pre.5)
+    (c.spot_of-spot.ensures, pushing_on pre.0 (c.by_set.ensures.grew []), pre.5)
 
 pub returns : goal.returns
 returns c =

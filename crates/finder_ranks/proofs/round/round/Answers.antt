@@ -16,9 +16,9 @@ pub block-found-requires : goal.block-found-requires
 block-found-requires c =
     let pre = c.requires in (
       sweeping_on pre.0 c.loop-at.invariant.1.grew,
-      omega (arith, c.end_of_lem.ensures.0),
-      c.end_of_lem.ensures.1,
-      omega (arith, c.end_of_lem.ensures.2, pre.1),
+      omega (arith, c.end_of-end.ensures.0),
+      c.end_of-end.ensures.1,
+      omega (arith, c.end_of-end.ensures.2, pre.1),
     )
 
 pub overflow_add-found : goal.overflow_add-found
@@ -28,18 +28,18 @@ overflow_add-found c =
       arith,
       c.loop-at.invariant.1.few,
       c.block-found.ensures.few,
-      c.end_of_lem.ensures.2,
+      c.end_of-end.ensures.2,
       pre.1,
       states_most c.args.n pre.0.few,
     )
 
 pub loop-at-smaller : goal.loop-at-smaller
 loop-at-smaller c =
-    let end_of_lem = c.end_of_lem in
+    let end_of_lem = c.end_of-end in
     omega (arith, end_of_lem.ensures.0, end_of_lem.ensures.2, c.loop-at-test.true)
 
 pub loop-at-preserved : goal.loop-at-preserved
-loop-at-preserved c = (c.end_of_lem.ensures.2, swept_on c.requires.0.high c.loop-at.invariant.1 c.block-found.ensures)
+loop-at-preserved c = (c.end_of-end.ensures.2, swept_on c.requires.0.high c.loop-at.invariant.1 c.block-found.ensures)
 
 pub shape_of-ranks : goal.shape_of-ranks
 shape_of-ranks c = c.loop-at.invariant.1.grew.same_length

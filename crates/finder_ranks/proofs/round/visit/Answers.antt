@@ -8,12 +8,6 @@ use Rattle.finder_ranks.proofs.ApartLaws.{power_none, power_up}
 use Rattle.finder_ranks.proofs.Sweeps.{visit_none, visit_more, visit_all, visiting_on}
 use Rattle.finder_ranks.proofs.round.visit.Goals as goal
 
--- the loop's setting is one of seven
-below : (c : goal.In-loop-i invariant-loop decreases-loop) → c.before.loop.i < 7
-below c =
-    let start : goal.Start invariant-loop decreases-loop = search in
-    omega (arith, start.pre.0, c.loop-test.true)
-
 pub overflow_cast-k : goal.overflow_cast-k
 overflow_cast-k c = omega (arith, c.requires.1, states_most c.args.n c.requires.0)
 
@@ -24,7 +18,10 @@ pub loop-i-init : goal.loop-i-init
 loop-i-init c = (omega arith, power_none 7, power_none 3, visit_none)
 
 pub bounds-digits-i : goal.bounds-digits-i
-bounds-digits-i c = omega (arith, below c, c.take_apart-parts.ensures.long)
+bounds-digits-i c =
+    let below : c.loop-i.i < 7 =
+        omega (arith, c.requires.0, c.loop-i-test.true) in
+    omega (arith, below, c.take_apart-parts.ensures.long)
 
 pub push-requires : goal.push-requires
 push-requires c =
@@ -42,16 +39,23 @@ push-requires c =
 
 pub overflow_mul-seven : goal.overflow_mul-seven
 overflow_mul-seven c =
+    let below : c.loop-i.i < 7 =
+        omega (arith, c.requires.0, c.loop-i-test.true) in
     let loop = c.loop-i in
-    omega (arith, loop.invariant.1, states_most loop.i (omega (arith, below c)))
+    omega (arith, loop.invariant.1, states_most loop.i (omega (arith, below)))
 
 pub overflow_mul-three : goal.overflow_mul-three
 overflow_mul-three c =
+    let below : c.loop-i.i < 7 =
+        omega (arith, c.requires.0, c.loop-i-test.true) in
     let loop = c.loop-i in
-    omega (arith, loop.invariant.2, sides-most loop.i (omega (arith, below c)))
+    omega (arith, loop.invariant.2, sides-most loop.i (omega (arith, below)))
 
 pub overflow_add-i : goal.overflow_add-i
-overflow_add-i c = omega (arith, below c)
+overflow_add-i c =
+    let below : c.loop-i.i < 7 =
+        omega (arith, c.requires.0, c.loop-i-test.true) in
+    omega (arith, below)
 
 pub loop-i-smaller : goal.loop-i-smaller
 loop-i-smaller c = omega (arith, c.loop-i-test.true)

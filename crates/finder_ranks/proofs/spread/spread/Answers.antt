@@ -8,30 +8,25 @@ use Rattle.finder_ranks.proofs.Sweeps.{swept_all}
 use Rattle.finder_ranks.proofs.Stages.{Stage, first, next, still, last}
 use Rattle.finder_ranks.proofs.spread.spread.Goals as goal
 
-abbrev start-of-after-numbers : goal.After-numbers-size invariant-loop decreases-loop → goal.Start invariant-loop decreases-loop
-start-of-after-numbers c = search
-
--- the table has all knowledge numbers of the n settings
-size_is : (c : goal.After-numbers-size invariant-loop decreases-loop) → c.numbers.result ≡ 7 ^ (start-of-after-numbers c).args.n
-size_is c =
-    let start : goal.Start invariant-loop decreases-loop = search in
-    c.numbers.ensures ∙ ap (λ k. 7 ^ k) (min-eq_left start.pre.few)
-
 pub loop-h-init : goal.loop-h-init
 loop-h-init c = (omega arith, omega arith, first c.requires)
 
 pub round-requires : goal.round-requires
 round-requires c =
+    let size_is : c.numbers-size.result ≡ 7 ^ c.args.n =
+        c.numbers-size.ensures ∙ ap (λ k. 7 ^ k) (min-eq_left c.requires.few) in
     let inv = c.loop-h.invariant in
-    (record { few = c.requires.few; room = inv.2.room; low = inv.0; high = omega (arith, c.loop-h-test.true) }, size_is c)
+    (record { few = c.requires.few; room = inv.2.room; low = inv.0; high = omega (arith, c.loop-h-test.true) }, size_is)
 
 pub shape_of-ranks-then-round-eq0 : goal.shape_of-ranks-then-round-eq0
 shape_of-ranks-then-round-eq0 c = c.round.ensures.grew.same_length ∙ c.loop-h.invariant.2.same_length
 
 pub returns-then-round-eq0 : goal.returns-then-round-eq0
 returns-then-round-eq0 c =
+    let size_is : c.numbers-size.result ≡ 7 ^ c.args.n =
+        c.numbers-size.ensures ∙ ap (λ k. 7 ^ k) (min-eq_left c.requires.few) in
     let inv = c.loop-h.invariant in
-    still inv.0 (omega (arith, c.loop-h-test.true)) inv.2 (swept_all (size_is c) c.round.ensures) c.if-round-eq0.true
+    still inv.0 (omega (arith, c.loop-h-test.true)) inv.2 (swept_all (size_is) c.round.ensures) c.if-round-eq0.true
 
 pub overflow_add-h : goal.overflow_add-h
 overflow_add-h c = omega (arith, c.loop-h-test.true)
@@ -41,9 +36,11 @@ loop-h-smaller c = omega (arith, c.loop-h-test.true)
 
 pub loop-h-preserved : goal.loop-h-preserved
 loop-h-preserved c =
+    let size_is : c.numbers-size.result ≡ 7 ^ c.args.n =
+        c.numbers-size.ensures ∙ ap (λ k. 7 ^ k) (min-eq_left c.requires.few) in
     let inv = c.loop-h.invariant in
     let high = c.loop-h-test.true in
-    (omega arith, omega (arith, high), next inv.0 (omega (arith, high)) inv.2 (swept_all (size_is c) c.round.ensures))
+    (omega arith, omega (arith, high), next inv.0 (omega (arith, high)) inv.2 (swept_all (size_is) c.round.ensures))
 
 pub shape_of-ranks : goal.shape_of-ranks
 shape_of-ranks c = c.loop-h.invariant.2.same_length

@@ -8,15 +8,17 @@ use native.Mathlib.Nat.{min-le_right}
 use Rattle.finder_sides.proofs.GoalLaws.{LearntTo, learnt-none, learnt-more, learnt-all}
 use Rattle.finder_sides.proofs.goal.learnt.Goals as goal
 
--- at most seven settings count
-few : (c : goal.After-up_to_seven-settings invariant-loop decreases-loop) → c.up-to-seven.result ≤ 7
-few c = rw c.up-to-seven.ensures (min-le_right _ 7)
-
 pub fill-table-requires : goal.fill-table-requires
-fill-table-requires c = few c
+fill-table-requires c =
+    let few : c.up_to_seven-settings.result ≤ 7 =
+        rw c.up_to_seven-settings.ensures (min-le_right _ 7) in
+    few
 
 pub loop-j-init : goal.loop-j-init
-loop-j-init c = (c.up_to_seven-settings.ensures, few c, omega arith, learnt-none c.args.learn.now (few c) c.fill-table.ensures)
+loop-j-init c =
+    let few : c.up_to_seven-settings.result ≤ 7 =
+        rw c.up_to_seven-settings.ensures (min-le_right _ 7) in
+    (c.up_to_seven-settings.ensures, few, omega arith, learnt-none c.args.learn.now (few) c.fill-table.ensures)
 
 pub settled-one-requires : goal.settled-one-requires
 settled-one-requires c = c.loop-j.invariant.1

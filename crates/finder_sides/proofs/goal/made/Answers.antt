@@ -7,15 +7,17 @@ use Rattle.finder_sides.proofs.GoalLaws.{made_table}
 use Rattle.finder_sides.specs.Tables.{Made}
 use Rattle.finder_sides.proofs.goal.made.Goals as goal
 
--- at most seven settings count
-few : (c : goal.After-up_to_seven-settings) → c.up-to-seven.result ≤ 7
-few c = rw c.up-to-seven.ensures (min-le_right _ 7)
-
 pub columns_of-requires : goal.columns_of-requires
-columns_of-requires c = few c
+columns_of-requires c =
+    let few : c.up_to_seven-settings.result ≤ 7 =
+        rw c.up_to_seven-settings.ensures (min-le_right _ 7) in
+    few
 
 pub fill-requires : goal.fill-requires
-fill-requires c = few c
+fill-requires c =
+    let few : c.up_to_seven-settings.result ≤ 7 =
+        rw c.up_to_seven-settings.ensures (min-le_right _ 7) in
+    few
 
 pub returns : goal.returns
 returns c =

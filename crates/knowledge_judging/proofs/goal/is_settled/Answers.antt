@@ -11,10 +11,10 @@ pub returns-then-not-holds : goal.returns-then-not-holds
 returns-then-not-holds c =
     let a = c.args in
     goal-not a.n a.k c.if-n-gt-MOST.false c.from_number-state.ensures a.make.now a.learn.now c.judge.ensures
-    c.holds.ensures (not-true _ c.if-not-holds.true)
+    c.holds.ensures (c.if-not-holds.true)
 
 pub returns : goal.returns
 returns c =
     let a = c.args in
     goal-learnt a.n a.k c.if-n-gt-MOST.false c.from_number-state.ensures a.make.now a.learn.now
-    c.judge.ensures c.holds.ensures (not-false _ c.if-not-holds.false) c.learnt.ensures
+    c.judge.ensures c.holds.ensures (c.if-not-holds.false) c.learnt.ensures

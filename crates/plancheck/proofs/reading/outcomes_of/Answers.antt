@@ -12,10 +12,9 @@ use Rattle.plancheck.proofs.reading.outcomes_of.Goals as goal
 pub returns-in-Set : goal.returns-in-Set
 returns-in-Set c =
     let k = c.args.k in
-    let (is_set, is) = c.act-1.given in
-    let small = subst (λ (a : Act). setting_of a < 7) is c.requires.1 in
-    set_goes k is
-    (set-number k is_set.0 is_set.1.1.0 c.requires.0 small c.from_number-state.ensures c.after_set.ensures c.number.ensures)
+    let small = subst (λ (a : Act). setting_of a < 7) c.in-Set.is c.requires.1 in
+    set_goes k c.in-Set.is
+    (set-number k c.in-Set.setting c.in-Set.value c.requires.0 small c.from_number-state.ensures c.after_set.ensures c.number.ensures)
 
 pub returns-in-Look : goal.returns-in-Look
 returns-in-Look c =

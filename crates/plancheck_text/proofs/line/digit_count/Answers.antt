@@ -16,13 +16,13 @@ pub returns-then-not-among : goal.returns-then-not-among
 returns-then-not-among c =
     let s = c.args.text.now in
     let l = c.loop-i in
-    omega (arith, l.invariant.1, digits_step s l.i c.loop-i-test.true (sym c.among.ensures ∙ not-true _ c.if-not-among.true))
+    omega (arith, l.invariant.1, digits_step s l.i c.loop-i-test.true (sym c.among.ensures ∙ c.if-not-among.true))
 
 pub loop-i-preserved : goal.loop-i-preserved
 loop-i-preserved c =
     let s = c.args.text.now in
     let l = c.loop-i in
-    (omega arith, rw (add-one) (omega (arith, l.invariant.1, digits_step s l.i c.loop-i-test.true (sym c.among.ensures ∙ not-false _ c.if-not-among.false))))
+    (omega arith, rw (add-one) (omega (arith, l.invariant.1, digits_step s l.i c.loop-i-test.true (sym c.among.ensures ∙ c.if-not-among.false))))
 
 pub returns : goal.returns
 returns c =

@@ -23,7 +23,7 @@ returns-then-not-stands_for c =
     let l = c.loop-i in
     sym (sym l.invariant.1
     ∙ form_step a.form.now a.text.now l.i c.loop-i-test.true (omega (arith, c.loop-i-test.true, l.invariant.0))
-    (sym c.stands_for.ensures ∙ not-true _ c.if-not-stands_for.true))
+    (sym c.stands_for.ensures ∙ c.if-not-stands_for.true))
 
 pub loop-i-preserved : goal.loop-i-preserved
 loop-i-preserved c =
@@ -32,7 +32,7 @@ loop-i-preserved c =
       l.invariant.0,
       rw add-one
           (sym (form_step a.form.now a.text.now l.i c.loop-i-test.true (omega (arith, c.loop-i-test.true, l.invariant.0))
-          (sym c.stands_for.ensures ∙ not-false _ c.if-not-stands_for.false))
+          (sym c.stands_for.ensures ∙ c.if-not-stands_for.false))
           ∙ l.invariant.1),
     )
 

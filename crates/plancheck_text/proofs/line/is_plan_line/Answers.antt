@@ -18,6 +18,9 @@ returns-then-end-eq0 c =
 pub slice_bounds-are_words-count : goal.slice_bounds-are_words-count
 slice_bounds-are_words-count c = omega (arith, c.digit_count-end.ensures, digits-most c.args.line.now)
 
+pub slice_bounds-are_words-start : goal.slice_bounds-are_words-start
+slice_bounds-are_words-start c = (omega (arith, c.digit_count-end.ensures, digits-most c.args.line.now))
+
 pub returns : goal.returns
 returns c =
     let s = c.args.line.now in

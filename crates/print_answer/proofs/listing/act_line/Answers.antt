@@ -3,9 +3,6 @@ use borrow.Author.Rules.{rules}
 use native.Mathlib.Omega.{arith}
 use Rattle.print_answer.proofs.listing.act_line.Goals as goal
 
-pub enum_known-act : goal.enum_known-act
-enum_known-act c = c.in-Set.keys1
-
 pub overflow_add-text : goal.overflow_add-text
 overflow_add-text c = omega (arith, rw c.in-Set.is at c.requires.0)
 
@@ -14,9 +11,6 @@ overflow_add-text-in-Set c = omega (arith, rw c.in-Set.is at c.requires.1)
 
 pub line-requires : goal.line-requires
 line-requires c = rw c.value_digit.ensures (rw c.in-Set.is at c.requires.2)
-
-pub enum_known-act-in-Look-1 : goal.enum_known-act-in-Look-1
-enum_known-act-in-Look-1 c = c.in-Set.keys2
 
 pub overflow_add-text-in-Look : goal.overflow_add-text-in-Look
 overflow_add-text-in-Look c = omega (arith, rw c.in-Look.is at c.requires.0)

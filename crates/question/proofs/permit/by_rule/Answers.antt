@@ -8,23 +8,26 @@ use Rattle.knowledge.specs.Judgement.{judgement}
 use Rattle.question.proofs.PermitLaws.{rule-judged}
 use Rattle.question.proofs.permit.by_rule.Goals as goal
 
-abbrev start_of : goal.After-judge → goal.Start
-start_of c = search
-
-judged : (c : goal.After-judge) →
-    let a = (start_of c).args in
-    c.judge.result ≡ judgement a.n (now_side (digit_in a.state.digits)) (rule a.book.now a.setting a.post a.right)
-judged c =
-    let start : goal.Start = search in
-    let a = start.args in
-    rule-judged a.n a.book.now (digit_in a.state.digits) a.setting a.post a.right start.pre c.before.rule-at.ensures
-    c.judge.ensures
-
 pub returns-in-TrueAtAll : goal.returns-in-TrueAtAll
-returns-in-TrueAtAll c = rw (sym (judged c) ∙ c.in-TrueAtAll.is)
+returns-in-TrueAtAll c =
+    let judged : let a = c.args in c.judge.result ≡ judgement a.n (now_side (digit_in a.state.digits)) (rule a.book.now a.setting a.post a.right) =
+        let a = c.args in
+    rule-judged a.n a.book.now (digit_in a.state.digits) a.setting a.post a.right c.requires c.rule_at.ensures
+    c.judge.ensures in
+    rw (sym (judged) ∙ c.in-TrueAtAll.is)
 
 pub returns-in-FalseAtAll : goal.returns-in-FalseAtAll
-returns-in-FalseAtAll c = rw (sym (judged c) ∙ c.in-FalseAtAll.is)
+returns-in-FalseAtAll c =
+    let judged : let a = c.args in c.judge.result ≡ judgement a.n (now_side (digit_in a.state.digits)) (rule a.book.now a.setting a.post a.right) =
+        let a = c.args in
+    rule-judged a.n a.book.now (digit_in a.state.digits) a.setting a.post a.right c.requires c.rule_at.ensures
+    c.judge.ensures in
+    rw (sym (judged) ∙ c.in-FalseAtAll.is)
 
 pub returns-in-Neither : goal.returns-in-Neither
-returns-in-Neither c = rw (sym (judged c) ∙ c.in-Neither.is)
+returns-in-Neither c =
+    let judged : let a = c.args in c.judge.result ≡ judgement a.n (now_side (digit_in a.state.digits)) (rule a.book.now a.setting a.post a.right) =
+        let a = c.args in
+    rule-judged a.n a.book.now (digit_in a.state.digits) a.setting a.post a.right c.requires c.rule_at.ensures
+    c.judge.ensures in
+    rw (sym (judged) ∙ c.in-Neither.is)

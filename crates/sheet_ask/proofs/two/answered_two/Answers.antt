@@ -11,12 +11,12 @@ use Rattle.sheet_ask.proofs.two.answered_two.Goals as goal
 pub returns-then-ranks-count : goal.returns-then-ranks-count
 returns-then-ranks-count c =
     let size : c.numbers-count.result ≡ 7 ^ c.args.settings = c.numbers-count.ensures ∙ ap (λ (k : ℕ). 7 ^ k) (min-eq_left (few c.requires.2.1.first)) in
-    inl (omega (arith, size, c.if-ranks-count.true), record { ranks-kept = refl; c = c.refuse.ensures })
+    inl (omega (arith, size, c.if-ranks-count.true), record { ranks-kept = refl; printed = c.refuse.ensures })
 
 pub returns-then-ranks-count-2 : goal.returns-then-ranks-count-2
 returns-then-ranks-count-2 c =
     let size : c.numbers-count.result ≡ 7 ^ c.args.settings = c.numbers-count.ensures ∙ ap (λ (k : ℕ). 7 ^ k) (min-eq_left (few c.requires.2.1.first)) in
-    inr (inl (omega (arith, size, c.if-ranks-count.false), omega (arith, size, c.if-ranks-count.false, c.if-ranks-count-2.true), record { ranks-kept = refl; c = c.refuse-then-ranks-count-2.ensures }))
+    inr (inl (omega (arith, size, c.if-ranks-count.false), omega (arith, size, c.if-ranks-count.false, c.if-ranks-count-2.true), record { ranks-kept = refl; printed = c.refuse-then-ranks-count-2.ensures }))
 
 pub answered_legs-requires : goal.answered_legs-requires
 answered_legs-requires c =
@@ -26,7 +26,7 @@ answered_legs-requires c =
       learnt2 = c.requires.1;
       posts = c.requires.2.0;
       valid = c.requires.2.1;
-      c = size;
+      counted = size;
       room = omega (arith, size, c.if-ranks-count.false, c.if-ranks-count-2.false);
     }
 

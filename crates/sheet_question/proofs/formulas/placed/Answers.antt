@@ -14,9 +14,9 @@ learning-requires c =
 pub returns-in-Make : goal.returns-in-Make
 returns-in-Make c =
     let a = c.args in
-    c.made.ensures ∙ ap (λ (p : Place). placed_desk p a.desk a.t3) (sym c.in-Make.is)
+    c.made.ensures ∙ ap (λ (p : Place). placed_desk p a.desk a.table) (sym c.in-Make.is)
 
 pub returns-in-Ask : goal.returns-in-Ask
 returns-in-Ask c =
     let a = c.args in
-    c.learning.ensures ∙ ap (λ (p : Place). placed_desk p a.desk a.t3) (sym c.in-Ask.is)
+    c.learning.ensures ∙ ap (λ (p : Place). placed_desk p a.desk a.table) (sym c.in-Ask.is)

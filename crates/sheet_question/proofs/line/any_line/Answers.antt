@@ -12,4 +12,4 @@ pub returns : goal.returns
 returns c =
     let x = c.args in
     λ a h. read-on x.settings x.posts x.number x.due a x.passes x.line.now c.is_passed.ensures
-    c.due_line.result.true c.due_line.result.desk c.if-is_passed.false (c.due_line.ensures a h)
+    c.due_line.result.taken c.due_line.result.desk c.if-is_passed.false (c.due_line.ensures a h)

@@ -14,19 +14,24 @@ returns-then-not-begins c =
     let a = c.args in
     λ b h. faulty a.settings (Malformed a.number) c.at_fault.result.desk
     (ask_other a.settings a.number b a.desk h a.line.now
-    (sym c.begins.ensures ∙ not-true _ c.if-not-begins.true)) c.at_fault.ensures
+    (sym c.begins.ensures ∙ c.if-not-begins.true)) c.at_fault.ensures
 
 pub returns-then-desk-ge-ASKS_MOST : goal.returns-then-desk-ge-ASKS_MOST
 returns-then-desk-ge-ASKS_MOST c =
     let a = c.args in
     λ b h. faulty a.settings (Malformed a.number) c.at_fault-then-desk-ge-ASKS_MOST.result.desk
     (ask_fifth a.settings a.number b a.desk h a.line.now
-    (sym c.begins.ensures ∙ not-false _ c.if-not-begins.false) c.if-desk-ge-ASKS_MOST.true) c.at_fault-then-desk-ge-ASKS_MOST.ensures
+    (sym c.begins.ensures ∙ c.if-not-begins.false) c.if-desk-ge-ASKS_MOST.true) c.at_fault-then-desk-ge-ASKS_MOST.ensures
 
 pub slice_bounds-formula_line-count : goal.slice_bounds-formula_line-count
 slice_bounds-formula_line-count c =
     let a = c.args in
-    begins-length (bytes "ask ") a.line.now (sym c.begins.ensures ∙ not-false _ c.if-not-begins.false)
+    begins-length (bytes "ask ") a.line.now (sym c.begins.ensures ∙ c.if-not-begins.false)
+
+pub slice_bounds-formula_line-start : goal.slice_bounds-formula_line-start
+slice_bounds-formula_line-start c =
+    (let a = c.args in
+    begins-length (bytes "ask ") a.line.now (sym c.begins.ensures ∙ c.if-not-begins.false))
 
 pub formula_line-requires : goal.formula_line-requires
 formula_line-requires c = (c.if-desk-ge-ASKS_MOST.false, c.requires.1.learn-size)
@@ -34,6 +39,6 @@ formula_line-requires c = (c.if-desk-ge-ASKS_MOST.false, c.requires.1.learn-size
 pub returns : goal.returns
 returns c =
     let a = c.args in
-    λ b h. ask_read a.settings a.number b a.desk h a.line.now c.formula_line.result.true
-    c.formula_line.result.desk (sym c.begins.ensures ∙ not-false _ c.if-not-begins.false)
+    λ b h. ask_read a.settings a.number b a.desk h a.line.now c.formula_line.result.taken
+    c.formula_line.result.desk (sym c.begins.ensures ∙ c.if-not-begins.false)
     c.if-desk-ge-ASKS_MOST.false c.formula_line.ensures

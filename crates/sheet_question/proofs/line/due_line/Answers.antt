@@ -22,28 +22,28 @@ pub returns-in-Team : goal.returns-in-Team
 returns-in-Team c =
     let x = c.args in
     λ a h. subst (λ (d : Due). Steps x.settings (due_step x.settings x.posts x.number d a x.line.now)
-    c.team_line.result.true c.team_line.result.desk) (sym c.in-Team.is) (c.team_line.ensures x.settings a h)
+    c.team_line.result.taken c.team_line.result.desk) (sym c.in-Team.is) (c.team_line.ensures x.settings a h)
 
 pub returns-in-Known : goal.returns-in-Known
 returns-in-Known c =
     let x = c.args in
     λ a h. subst (λ (d : Due). Steps x.settings (due_step x.settings x.posts x.number d a x.line.now)
-    c.known_line.result.true c.known_line.result.desk) (sym c.in-Known.is) (c.known_line.ensures x.settings a h)
+    c.known_line.result.taken c.known_line.result.desk) (sym c.in-Known.is) (c.known_line.ensures x.settings a h)
 
 pub returns-in-Held : goal.returns-in-Held
 returns-in-Held c =
     let x = c.args in
     λ a h. subst (λ (d : Due). Steps x.settings (due_step x.settings x.posts x.number d a x.line.now)
-    c.held_or_make.result.true c.held_or_make.result.desk) (sym c.in-Held.is) (c.held_or_make.ensures a h)
+    c.held_or_make.result.taken c.held_or_make.result.desk) (sym c.in-Held.is) (c.held_or_make.ensures a h)
 
 pub returns-in-Make : goal.returns-in-Make
 returns-in-Make c =
     let x = c.args in
     λ a h. subst (λ (d : Due). Steps x.settings (due_step x.settings x.posts x.number d a x.line.now)
-    c.make_line.result.true c.make_line.result.desk) (sym c.in-Make.is) (c.make_line.ensures a h)
+    c.make_line.result.taken c.make_line.result.desk) (sym c.in-Make.is) (c.make_line.ensures a h)
 
 pub returns-in-Asks : goal.returns-in-Asks
 returns-in-Asks c =
     let x = c.args in
     λ a h. subst (λ (d : Due). Steps x.settings (due_step x.settings x.posts x.number d a x.line.now)
-    c.ask_line.result.true c.ask_line.result.desk) (sym c.in-Asks.is) (c.ask_line.ensures a h)
+    c.ask_line.result.taken c.ask_line.result.desk) (sym c.in-Asks.is) (c.ask_line.ensures a h)

@@ -5,7 +5,7 @@ use borrow.Author.Rules.{rules}
 use Rattle.sheet_question.proofs.line.is_passed.Goals as goal
 
 pub returns-then-not-passes : goal.returns-then-not-passes
-returns-then-not-passes c = none_passed c.args.passes _ (not-true _ c.if-not-passes.true)
+returns-then-not-passes c = none_passed c.args.passes _ (c.if-not-passes.true)
 
 pub returns : goal.returns
-returns c = some_passed c.args.passes (not-false _ c.if-not-passes.false) c.passed_over.ensures
+returns c = some_passed c.args.passes (c.if-not-passes.false) c.passed_over.ensures

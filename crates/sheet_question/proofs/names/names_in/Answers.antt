@@ -12,7 +12,7 @@ returns-then-not-begins c =
     let a = c.args in
     let w = a.word.now in
     let line = a.line.now in
-    names-other w a.alone a.signed a.first a.count line (sym c.begins.ensures ∙ not-true _ c.if-not-begins.true)
+    names-other w a.alone a.signed a.first a.count line (sym c.begins.ensures ∙ c.if-not-begins.true)
 
 pub returns-then-alone : goal.returns-then-alone
 returns-then-alone c =
@@ -20,7 +20,7 @@ returns-then-alone c =
     let w = a.word.now in
     let line = a.line.now in
     names_alone w a.alone a.signed a.first a.count line
-    (sym c.begins.ensures ∙ not-false _ c.if-not-begins.false) c.if-line-at.true c.if-alone.true
+    (sym c.begins.ensures ∙ c.if-not-begins.false) c.if-line-at.true c.if-alone.true
 
 pub returns-then-line-at : goal.returns-then-line-at
 returns-then-line-at c =
@@ -28,7 +28,7 @@ returns-then-line-at c =
     let w = a.word.now in
     let line = a.line.now in
     names_unaccompanied w a.alone a.signed a.first a.count line
-    (sym c.begins.ensures ∙ not-false _ c.if-not-begins.false) c.if-line-at.true c.if-alone.false
+    (sym c.begins.ensures ∙ c.if-not-begins.false) c.if-line-at.true c.if-alone.false
 
 pub returns-then-peek-ne32 : goal.returns-then-peek-ne32
 returns-then-peek-ne32 c =
@@ -36,7 +36,7 @@ returns-then-peek-ne32 c =
     let w = a.word.now in
     let line = a.line.now in
     names_spaceless w a.alone a.signed a.first a.count line
-    (sym c.begins.ensures ∙ not-false _ c.if-not-begins.false) c.if-line-at.false
+    (sym c.begins.ensures ∙ c.if-not-begins.false) c.if-line-at.false
     (λ e. c.if-peek-ne32.true (c.peek.ensures ∙ e))
 
 pub overflow_add-from : goal.overflow_add-from
@@ -55,11 +55,19 @@ slice_bounds-marks_of-count c =
     let there = inside line (length w) (sym c.peek.ensures ∙ c.if-peek-ne32.false) in
     omega (arith, there)
 
+pub slice_bounds-marks_of-start : goal.slice_bounds-marks_of-start
+slice_bounds-marks_of-start c =
+    (let a = c.args in
+    let w = a.word.now in
+    let line = a.line.now in
+    let there = inside line (length w) (sym c.peek.ensures ∙ c.if-peek-ne32.false) in
+    omega (arith, there))
+
 pub returns : goal.returns
 returns c =
     let a = c.args in
     let w = a.word.now in
     let line = a.line.now in
     names-some w a.alone a.signed a.first a.count line
-    (sym c.begins.ensures ∙ not-false _ c.if-not-begins.false) c.if-line-at.false
+    (sym c.begins.ensures ∙ c.if-not-begins.false) c.if-line-at.false
     (sym c.peek.ensures ∙ c.if-peek-ne32.false) c.requires c.marks_of.result c.marks_of.ensures

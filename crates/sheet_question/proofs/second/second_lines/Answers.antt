@@ -37,6 +37,18 @@ slice_bounds-passed_over-count c =
     let p = piece_is c.args.text.now l.at newline c.piece_end-end.result l.invariant.0 c.piece_end-end.ensures in
     p.from
 
+pub slice_bounds-passed_over-start : goal.slice_bounds-passed_over-start
+slice_bounds-passed_over-start c =
+    (let l = c.loop-before in
+    let p = piece_is c.args.text.now l.at newline c.piece_end-end.result l.invariant.0 c.piece_end-end.ensures in
+    p.from)
+
+pub slice_bounds-passed_over-end : goal.slice_bounds-passed_over-end
+slice_bounds-passed_over-end c =
+    let l = c.loop-before in
+    let p = piece_is c.args.text.now l.at newline c.piece_end-end.result l.invariant.0 c.piece_end-end.ensures in
+    p.within
+
 pub overflow_add-next : goal.overflow_add-next
 overflow_add-next c = omega (arith, c.if-text-end.false)
 
@@ -45,6 +57,18 @@ slice_bounds-from_team-count c =
     let l = c.loop-before in
     let p = piece_is c.args.text.now l.at newline c.piece_end-end.result l.invariant.0 c.piece_end-end.ensures in
     p.from
+
+pub slice_bounds-from_team-start : goal.slice_bounds-from_team-start
+slice_bounds-from_team-start c =
+    (let l = c.loop-before in
+    let p = piece_is c.args.text.now l.at newline c.piece_end-end.result l.invariant.0 c.piece_end-end.ensures in
+    p.from)
+
+pub slice_bounds-from_team-end : goal.slice_bounds-from_team-end
+slice_bounds-from_team-end c =
+    let l = c.loop-before in
+    let p = piece_is c.args.text.now l.at newline c.piece_end-end.result l.invariant.0 c.piece_end-end.ensures in
+    p.within
 
 pub slice_bounds-from_team-count-then-not-passed_over : goal.slice_bounds-from_team-count-then-not-passed_over
 slice_bounds-from_team-count-then-not-passed_over c = omega (arith, c.if-text-end.false)
@@ -71,7 +95,7 @@ returns-then-not-passed_over c =
     (ap (λ (t : _). from_team x.settings x.posts l.number (split newline t) team) (tail s (end + 1))
     ∙ ap (λ (k : ℕ). from_team x.settings x.posts l.number (split newline (drop k s)) team) (add-one end)
     ∙ sym (second-begins x.settings x.posts s l.at end l.number p c.if-text-end.false
-    (sym c.passed_over.ensures ∙ not-true _ c.if-not-passed_over.true)) ∙ l.invariant.2)
+    (sym c.passed_over.ensures ∙ c.if-not-passed_over.true)) ∙ l.invariant.2)
     c.from_team.ensures
 
 pub overflow_add-at : goal.overflow_add-at
@@ -100,5 +124,5 @@ loop-before-preserved c =
       omega (arith, p.from, l.invariant.1),
       ap (λ (k : ℕ). second_from x.settings x.posts k (split newline (drop (end + 1) s))) (add-one l.number)
           ∙ ap (λ (k : ℕ). second_from x.settings x.posts (suc l.number) (split newline (drop k s))) (add-one end)
-          ∙ sym (second_passes x.settings x.posts s l.at end l.number p more (sym c.passed_over.ensures ∙ not-false _ c.if-not-passed_over.false)) ∙ l.invariant.2,
+          ∙ sym (second_passes x.settings x.posts s l.at end l.number p more (sym c.passed_over.ensures ∙ c.if-not-passed_over.false)) ∙ l.invariant.2,
     )

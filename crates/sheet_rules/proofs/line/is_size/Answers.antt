@@ -8,59 +8,32 @@ use borrow.Author.Rules.{rules}
 use Rattle.sheet_rules.proofs.line.is_size.Goals as goal
 
 pub returns-then-not-begins : goal.returns-then-not-begins
-returns-then-not-begins c = sym (size_by c.args.line.now false _ _ _ _ (sym c.begins.ensures ∙ not-true _ c.if-not-begins.true) refl refl refl refl)
+returns-then-not-begins c = sym (size_by c.args.line.now false _ _ _ _ (sym c.begins.ensures ∙ c.if-not-begins.true) refl refl refl refl)
 
 pub returns-then-line-ne8 : goal.returns-then-line-ne8
 returns-then-line-ne8 c =
     sym (size_by c.args.line.now true false _ _ _
-    (sym c.begins.ensures ∙ not-false _ c.if-not-begins.false) (ne_eqb _ 8 c.if-line-ne8.true) refl
+    (sym c.begins.ensures ∙ c.if-not-begins.false) (ne_eqb _ 8 c.if-line-ne8.true) refl
     refl refl)
 
 pub returns-then-not-among : goal.returns-then-not-among
 returns-then-not-among c =
     sym (size_by c.args.line.now true true false _ _
-    (sym c.begins.ensures ∙ not-false _ c.if-not-begins.false) (eq-eqb _ 8 c.if-line-ne8.false)
+    (sym c.begins.ensures ∙ c.if-not-begins.false) (eq-eqb _ 8 c.if-line-ne8.false)
     (ap (among 49 7) (sym c.peek.ensures) ∙ sym c.among.ensures
-    ∙ not-true _ c.if-not-among.true) refl refl)
+    ∙ c.if-not-among.true) refl refl)
 
 pub returns-then-peek-ne32 : goal.returns-then-peek-ne32
 returns-then-peek-ne32 c =
     sym (size_by c.args.line.now true true true false _
-    (sym c.begins.ensures ∙ not-false _ c.if-not-begins.false) (eq-eqb _ 8 c.if-line-ne8.false)
+    (sym c.begins.ensures ∙ c.if-not-begins.false) (eq-eqb _ 8 c.if-line-ne8.false)
     (ap (among 49 7) (sym c.peek.ensures) ∙ sym c.among.ensures
-    ∙ not-false _ c.if-not-among.false) (ne_eqb _ 32 (λ e. c.if-peek-ne32.true (c.peek-2.ensures ∙ e))) refl)
+    ∙ c.if-not-among.false) (ne_eqb _ 32 (λ e. c.if-peek-ne32.true (c.peek-2.ensures ∙ e))) refl)
 
 pub returns : goal.returns
 returns c =
-    sym (size_by start.args.line.now true true true true _
-    (sym after-begins.begins.ensures ∙ not-false _ else1.if1.left) (eq-eqb _ 8 else2.if2.left)
-    (ap (among 49 7) (sym after-peek.peek.ensures) ∙ sym after-among.among.ensures
-    ∙ not-false _ else3.if3.left) (eq-eqb _ 32 (sym after-peek2.peek2.ensures ∙ else4.if4.left))
+    sym (size_by c.args.line.now true true true true _
+    (sym c.begins.ensures ∙ c.if-not-begins.false) (eq-eqb _ 8 c.if-line-ne8.false)
+    (ap (among 49 7) (sym c.peek.ensures) ∙ sym c.among.ensures
+    ∙ c.if-not-among.false) (eq-eqb _ 32 (sym c.peek-2.ensures ∙ c.if-peek-ne32.false))
     (ap (among 49 8) (sym c.peek-3.ensures) ∙ sym c.among-2.ensures))
-  where
-    else4 : tie.Else4
-    else4 = search
-
-    after-peek2 : tie.After-peek2
-    after-peek2 = search
-
-    else3 : tie.Else3
-    else3 = search
-
-    after-among : tie.After-among
-    after-among = search
-
-    after-peek : tie.After-peek
-    after-peek = search
-
-    else2 : tie.Else2
-    else2 = search
-
-    else1 : tie.Else1
-    else1 = search
-
-    after-begins : tie.After-begins
-    after-begins = search
-
-    start : tie.Start
-    start = search

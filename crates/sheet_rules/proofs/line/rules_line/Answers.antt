@@ -22,7 +22,7 @@ rule_line-requires c = (c.requires.0, lit< tt, true→T (sym c.is_rule.ensures �
 pub returns-then-is_rule : goal.returns-then-is_rule
 returns-then-is_rule c =
     let a = c.args in
-    λ rules h. subst (λ (s : Step Rules). Turns s c.rule_line.result.true c.rule_line.result.desk)
+    λ rules h. subst (λ (s : Step Rules). Turns s c.rule_line.result.taken c.rule_line.result.desk)
     (sym (line_of a.passes rules a.desk h a.line.now a.number false true
     (sym c.is_passed.ensures ∙ c.if-is_passed.false) (sym c.is_rule.ensures ∙ c.if-is_rule.true))) (c.rule_line.ensures rules h)
 
@@ -38,6 +38,6 @@ rule_line-requires-2 c =
 pub returns : goal.returns
 returns c =
     let a = c.args in
-    λ rules h. subst (λ (s : Step Rules). Turns s c.rule_line-2.result.true c.rule_line-2.result.desk)
+    λ rules h. subst (λ (s : Step Rules). Turns s c.rule_line-2.result.taken c.rule_line-2.result.desk)
     (sym (line_of a.passes rules a.desk h a.line.now a.number false false
     (sym c.is_passed.ensures ∙ c.if-is_passed.false) (sym c.is_rule.ensures ∙ c.if-is_rule.false))) (c.rule_line-2.ensures rules h)

@@ -59,6 +59,14 @@ slice_bounds-formula_line-count c =
     let b = rule_bounds w a.desk.settings a.desk.posts line c.requires.2 in
     b.size
 
+pub slice_bounds-formula_line-start : goal.slice_bounds-formula_line-start
+slice_bounds-formula_line-start c =
+    (let a = c.args in
+    let w = a.word.now in
+    let line = a.line.now in
+    let b = rule_bounds w a.desk.settings a.desk.posts line c.requires.2 in
+    b.size)
+
 pub formula_line-requires : goal.formula_line-requires
 formula_line-requires c =
     let a = c.args in
@@ -86,5 +94,5 @@ returns c =
     let slot = c.slot_of-slot in
     λ rules h. line_read rules a.desk h a.right w line b (p.result - 97) (q.result - 49)
     (ap (λ (x : ℕ). x - 97) p.ensures) (ap (λ (x : ℕ). x - 49) q.ensures) slot.result slot.ensures
-    a.number c.if-stated-slot-ne0.false c.formula_line.result.true c.formula_line.result.desk
+    a.number c.if-stated-slot-ne0.false c.formula_line.result.taken c.formula_line.result.desk
     c.formula_line.ensures

@@ -10,7 +10,7 @@ use Rattle.sheet_rules.proofs.rights.slot_of.Goals as goal
 pub overflow_add-result : goal.overflow_add-result
 overflow_add-result c =
     let a = c.args in
-    omega (arith, c.table_at.ensures, place-small a.post a.right (omega (arith, c.fits.post)))
+    omega (arith, c.table_at.ensures, place-small a.post a.right (omega (arith, c.ranges.post.fits)))
 
 pub returns : goal.returns
 unfolding slot_of

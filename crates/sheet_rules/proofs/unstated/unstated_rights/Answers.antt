@@ -8,8 +8,8 @@ lay-requires c = (c.unstated_table.ensures.table.sixteen, c.unstated_table-2.ens
 pub returns : goal.returns
 returns c =
     record {
-      c = c.unstated_table.result;
-      c = c.unstated_table-2.result;
+      looks = c.unstated_table.result;
+      sets = c.unstated_table-2.result;
       look_table = c.unstated_table.ensures;
       set-table = c.unstated_table-2.ensures;
       laid = c.lay.ensures;

@@ -12,14 +12,14 @@ returns-then-not-either c =
     let a = c.args in
     sym (name_unsigned a.signed a.first a.count a.word.now
     (ap (λ (x : Bool). a.signed || not x) (sym c.is_false.ensures)
-    ∙ sym c.either.ensures ∙ not-true _ c.if-not-either.true))
+    ∙ sym c.either.ensures ∙ c.if-not-either.true))
 
 pub returns-then-bare_length-ne1 : goal.returns-then-bare_length-ne1
 returns-then-bare_length-ne1 c =
     let a = c.args in
     sym (name_long a.signed a.first a.count a.word.now
     (ap (λ (x : Bool). a.signed || not x) (sym c.is_false.ensures)
-    ∙ sym c.either.ensures ∙ not-false _ c.if-not-either.false)
+    ∙ sym c.either.ensures ∙ c.if-not-either.false)
     (λ e. c.if-bare_length-ne1.true (c.bare_length.ensures ∙ e)))
 
 pub returns : goal.returns
@@ -28,5 +28,5 @@ returns c =
     c.among.ensures ∙ ap (among a.first a.count) c.sign_of.ensures
     ∙ sym (name_sign a.signed a.first a.count a.word.now
     (ap (λ (x : Bool). a.signed || not x) (sym c.is_false.ensures)
-    ∙ sym c.either.ensures ∙ not-false _ c.if-not-either.false)
+    ∙ sym c.either.ensures ∙ c.if-not-either.false)
     (sym c.bare_length.ensures ∙ c.if-bare_length-ne1.false))

@@ -29,6 +29,12 @@ loop-word-init c =
 pub slice_bounds-word-count : goal.slice_bounds-word-count
 slice_bounds-word-count c = (piece_is c.args.words.now c.loop-word.at 32 c.piece_end-end.result c.loop-word.invariant.0 c.piece_end-end.ensures).from
 
+pub slice_bounds-word-start : goal.slice_bounds-word-start
+slice_bounds-word-start c = ((piece_is c.args.words.now c.loop-word.at 32 c.piece_end-end.result c.loop-word.invariant.0 c.piece_end-end.ensures).from)
+
+pub slice_bounds-word-end : goal.slice_bounds-word-end
+slice_bounds-word-end c = (piece_is c.args.words.now c.loop-word.at 32 c.piece_end-end.result c.loop-word.invariant.0 c.piece_end-end.ensures).within
+
 pub returns-then-not-is_name : goal.returns-then-not-is_name
 returns-then-not-is_name c =
     let a = c.args in let l = c.loop-word in let e = c.piece_end-end in
@@ -36,14 +42,14 @@ returns-then-not-is_name c =
     names_stray (are_names a.signed a.first a.count (split space a.words.now)) a.first (split space a.words.now)
     (few_enough a.signed a.first a.count (split space a.words.now) l.invariant.1 ∙ sym l.invariant.2
     ∙ names_fail a.signed a.first a.count a.words.now l.at e.result p
-    (sym c.is_name.ensures ∙ not-true _ c.if-not-is_name.true))
+    (sym c.is_name.ensures ∙ c.if-not-is_name.true))
 
 pub overflow_sub-sign_of : goal.overflow_sub-sign_of
 overflow_sub-sign_of c =
     let a = c.args in let l = c.loop-word in let e = c.piece_end-end in
     subst (λ (x : ℕ). a.first ≤ x) (sym c.sign_of.ensures)
     (name_least a.signed a.first a.count (part a.words.now l.at e.result)
-    (true→T (sym c.is_name.ensures ∙ not-false _ c.if-not-is_name.false)))
+    (true→T (sym c.is_name.ensures ∙ c.if-not-is_name.false)))
 
 pub mark-marks-requires : goal.mark-marks-requires
 mark-marks-requires c =
@@ -53,7 +59,7 @@ mark-marks-requires c =
       c.sign_of.ensures,
       l.invariant.1,
       name_most a.signed a.first a.count (part a.words.now l.at e.result)
-          (true→T (sym c.is_name.ensures ∙ not-false _ c.if-not-is_name.false)),
+          (true→T (sym c.is_name.ensures ∙ c.if-not-is_name.false)),
     )
 
 pub returns-then-words-end : goal.returns-then-words-end
@@ -65,7 +71,7 @@ returns-then-words-end c =
     names_of (are_names a.signed a.first a.count (split space a.words.now)) a.first (split space a.words.now) m.result
     (few_enough a.signed a.first a.count (split space a.words.now) l.invariant.1 ∙ sym l.invariant.2
     ∙ names_end a.signed a.first a.count a.words.now l.at e.result p
-    (sym c.is_name.ensures ∙ not-false _ c.if-not-is_name.false) c.if-words-end.true)
+    (sym c.is_name.ensures ∙ c.if-not-is_name.false) c.if-words-end.true)
     (marks-all a.first (split space a.words.now) m.result
     (marks-more a.first (split space a.words.now) (part a.words.now l.at e.result) [] l.marks
     m.result
@@ -90,7 +96,7 @@ loop-word-preserved c =
       l.invariant.1,
       rw add-one
           (sym (names-on a.signed a.first a.count a.words.now l.at e.result p
-          (sym c.is_name.ensures ∙ not-false _ c.if-not-is_name.false) c.if-words-end.false) ∙ l.invariant.2),
+          (sym c.is_name.ensures ∙ c.if-not-is_name.false) c.if-words-end.false) ∙ l.invariant.2),
       rw add-one
           (marks-more a.first (split space a.words.now) (part a.words.now l.at e.result)
           (split space (drop (suc e.result) a.words.now)) l.marks m.result

@@ -35,5 +35,5 @@ returns-else-valuations-start c =
     let a = c.args in
     let s = judged_book a.book.now c.sound.result _ _ c.sound.ensures c.in-Book.is in
     let size = valuations_of s c.valuations.ensures in
-    replays a.book.now a.start a.shift.now s (record { c = c.if-shift-ne0.false; c = omega (arith, size, c.if-valuations-start.false) })
+    replays a.book.now a.start a.shift.now s (record { even = c.if-shift-ne0.false; below = omega (arith, size, c.if-valuations-start.false) })
     c.play.result c.play.ensures

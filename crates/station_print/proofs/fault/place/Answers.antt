@@ -20,26 +20,26 @@ number-to-requires c = ends-left (decimal c.args.index) _ (ends-right c.word-to.
 pub returns-then-not-is_text : goal.returns-then-not-is_text
 returns-then-not-is_text c =
     let a = c.args in
-    wrote_as (place-bytes a.shift.now a.index (sym c.is_text.ensures ∙ not-true _ c.if-not-is_text.true))
+    wrote_as (place-bytes a.shift.now a.index (sym c.is_text.ensures ∙ c.if-not-is_text.true))
     (wrote_then c.word-to.ensures c.number-to.ensures)
 
 pub word-to-requires-2 : goal.word-to-requires-2
 word-to-requires-2 c =
     let a = c.args in
-    let e = place-line a.shift.now a.index (sym c.is_text.ensures ∙ not-false _ c.if-not-is_text.false) in
+    let e = place-line a.shift.now a.index (sym c.is_text.ensures ∙ c.if-not-is_text.false) in
     ends-left (bytes ", line ") _ (ends-right c.number-to.ensures (ends-right c.word-to.ensures (ends_as e c.requires)))
 
 pub number-requires : goal.number-requires
 number-requires c =
     let a = c.args in
-    let e = place-line a.shift.now a.index (sym c.is_text.ensures ∙ not-false _ c.if-not-is_text.false) in
+    let e = place-line a.shift.now a.index (sym c.is_text.ensures ∙ c.if-not-is_text.false) in
     ends_as (ap decimal (sym c.line_of.ensures))
     (ends-right c.word-to-2.ensures (ends-right c.number-to.ensures (ends-right c.word-to.ensures (ends_as e c.requires))))
 
 pub returns : goal.returns
 returns c =
     let a = c.args in
-    let e = place-line a.shift.now a.index (sym c.is_text.ensures ∙ not-false _ c.if-not-is_text.false) in
+    let e = place-line a.shift.now a.index (sym c.is_text.ensures ∙ c.if-not-is_text.false) in
     wrote_as (sym e)
     (wrote_then c.word-to.ensures
     (wrote_then c.number-to.ensures (wrote_then c.word-to-2.ensures (wrote_as (ap decimal c.line_of.ensures) c.number.ensures))))

@@ -16,12 +16,12 @@ loop-i-init c = (omega arith, refl)
 pub returns-then-not-bit_of : goal.returns-then-not-bit_of
 returns-then-not-bit_of c =
     let a = c.args in
-    sym (all-fails (bit a.named) a.n c.loop-i.i c.loop-i-test.true (sym c.bit_of.ensures ∙ not-true _ c.if-not-bit_of.true))
+    sym (all-fails (bit a.named) a.n c.loop-i.i c.loop-i-test.true (sym c.bit_of.ensures ∙ c.if-not-bit_of.true))
 
 pub loop-i-preserved : goal.loop-i-preserved
 loop-i-preserved c =
     let l = c.loop-i in
-    (omega arith, all_more (bit c.args.named) l.i (sym c.bit_of.ensures ∙ not-false _ c.if-not-bit_of.false) l.invariant.1)
+    (omega arith, all_more (bit c.args.named) l.i (sym c.bit_of.ensures ∙ c.if-not-bit_of.false) l.invariant.1)
 
 pub returns : goal.returns
 returns c =

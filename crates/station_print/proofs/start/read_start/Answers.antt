@@ -12,7 +12,7 @@ returns-then-marks c = twice_nothing c.args.n (start_words c.args.start.now) _ c
 pub returns-then-not-all_named : goal.returns-then-not-all_named
 returns-then-not-all_named c =
     some_nothing c.args.n (start_words c.args.start.now) _ c.marks_of.ensures _ c.in-Of.is c.if-marks.false
-    (sym c.all_named.ensures ∙ not-true _ c.if-not-all_named.true)
+    (sym c.all_named.ensures ∙ c.if-not-all_named.true)
 
 pub returns-in-Stray : goal.returns-in-Stray
 returns-in-Stray c = stray_nothing c.args.n (start_words c.args.start.now) _ c.marks_of.ensures c.in-Stray.is
@@ -20,4 +20,4 @@ returns-in-Stray c = stray_nothing c.args.n (start_words c.args.start.now) _ c.m
 pub returns-else-not-all_named : goal.returns-else-not-all_named
 returns-else-not-all_named c =
     all-settings c.args.n (start_words c.args.start.now) _ c.marks_of.ensures _ c.in-Of.is c.if-marks.false
-    (sym c.all_named.ensures ∙ not-false _ c.if-not-all_named.false)
+    (sym c.all_named.ensures ∙ c.if-not-all_named.false)

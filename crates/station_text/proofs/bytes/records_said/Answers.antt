@@ -15,13 +15,13 @@ pub returns-then-not-is_record : goal.returns-then-not-is_record
 returns-then-not-is_record c =
     let s = c.args.shift.now in
     let l = c.loop-count in
-    omega (arith, l.invariant.2, said_turn s (2 * l.count) c.loop-count-test.true (sym c.is_record.ensures ∙ not-true _ c.if-not-is_record.true))
+    omega (arith, l.invariant.2, said_turn s (2 * l.count) c.loop-count-test.true (sym c.is_record.ensures ∙ c.if-not-is_record.true))
 
 pub loop-count-preserved : goal.loop-count-preserved
 loop-count-preserved c =
     let s = c.args.shift.now in
     let l = c.loop-count in
-    let turn = said_turn s (2 * l.count) c.loop-count-test.true (sym c.is_record.ensures ∙ not-false _ c.if-not-is_record.false) in
+    let turn = said_turn s (2 * l.count) c.loop-count-test.true (sym c.is_record.ensures ∙ c.if-not-is_record.false) in
     let next = ap (λ (i : ℕ). records_said (drop i s)) {x = 2 * (l.count + 1)} {y = 2 * l.count + 2} (omega arith) in
     (omega (arith, c.loop-count-test.true), l.invariant.1, omega (arith, turn, next, l.invariant.2))
 

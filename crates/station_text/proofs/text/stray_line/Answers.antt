@@ -11,31 +11,47 @@ use Rattle.station_text.specs.Meaning.{stray_line}
 use Rattle.station_text.proofs.TextLaws.{stray_unended, stray_ended, stray_turn}
 use Rattle.station_text.proofs.text.stray_line.Goals as goal
 
--- the line that begins at `at`
-line-here : (c : goal.After-piece_end-end invariant-loop decreases-loop)
-    → (let start : goal.Start invariant-loop decreases-loop = search in PieceEnd start.args.text.now c.before.loop.at newline c.piece-end.result)
-line-here c = piece_is _ c.before.loop.at newline c.piece-end.result c.before.loop.invariant.0 c.piece-end.ensures
-
 pub loop-at-init : goal.loop-at-init
 loop-at-init c = (omega arith, omega arith, c.requires, refl)
 
 pub returns-then-at-text : goal.returns-then-at-text
 returns-then-at-text c =
+    let line-here : (PieceEnd c.args.text.now c.loop-at.at newline c.piece_end-end.result) =
+        piece_is _ c.loop-at.at newline c.piece_end-end.result c.loop-at.invariant.0 c.piece_end-end.ensures in
     let l = c.loop-at in
-    sym (stray_unended (line-here c) c.if-text-end.true l.number (omega (arith, c.if-at-text.true, l.invariant.0))) ∙ l.invariant.3
+    sym (stray_unended (line-here) c.if-text-end.true l.number (omega (arith, c.if-at-text.true, l.invariant.0))) ∙ l.invariant.3
 
 pub returns-then-text-end : goal.returns-then-text-end
 returns-then-text-end c =
+    let line-here : (PieceEnd c.args.text.now c.loop-at.at newline c.piece_end-end.result) =
+        piece_is _ c.loop-at.at newline c.piece_end-end.result c.loop-at.invariant.0 c.piece_end-end.ensures in
     let l = c.loop-at in
-    sym (stray_ended (line-here c) c.if-text-end.true l.number (omega (arith, c.if-at-text.false))) ∙ l.invariant.3
+    sym (stray_ended (line-here) c.if-text-end.true l.number (omega (arith, c.if-at-text.false))) ∙ l.invariant.3
 
 pub slice_bounds-is_line-count : goal.slice_bounds-is_line-count
-slice_bounds-is_line-count c = (line-here c).from
+slice_bounds-is_line-count c =
+    let line-here : (PieceEnd c.args.text.now c.loop-at.at newline c.piece_end-end.result) =
+        piece_is _ c.loop-at.at newline c.piece_end-end.result c.loop-at.invariant.0 c.piece_end-end.ensures in
+    (line-here).from
+
+pub slice_bounds-is_line-start : goal.slice_bounds-is_line-start
+slice_bounds-is_line-start c =
+    let line-here : (PieceEnd c.args.text.now c.loop-at.at newline c.piece_end-end.result) =
+        piece_is _ c.loop-at.at newline c.piece_end-end.result c.loop-at.invariant.0 c.piece_end-end.ensures in
+    (line-here).from
+
+pub slice_bounds-is_line-end : goal.slice_bounds-is_line-end
+slice_bounds-is_line-end c =
+    let line-here : (PieceEnd c.args.text.now c.loop-at.at newline c.piece_end-end.result) =
+        piece_is _ c.loop-at.at newline c.piece_end-end.result c.loop-at.invariant.0 c.piece_end-end.ensures in
+    (line-here).within
 
 pub returns-then-not-is_line : goal.returns-then-not-is_line
 returns-then-not-is_line c =
+    let line-here : (PieceEnd c.args.text.now c.loop-at.at newline c.piece_end-end.result) =
+        piece_is _ c.loop-at.at newline c.piece_end-end.result c.loop-at.invariant.0 c.piece_end-end.ensures in
     let l = c.loop-at in
-    sym (stray_turn (line-here c) c.if-text-end.false l.number (sym c.is_line.ensures ∙ not-true _ c.if-not-is_line.true)) ∙ l.invariant.3
+    sym (stray_turn (line-here) c.if-text-end.false l.number (sym c.is_line.ensures ∙ c.if-not-is_line.true)) ∙ l.invariant.3
 
 pub overflow_add-at : goal.overflow_add-at
 overflow_add-at c = omega (arith, c.if-text-end.false)
@@ -46,14 +62,19 @@ overflow_add-number c =
     omega (arith, l.invariant.0, l.invariant.1, l.invariant.2)
 
 pub loop-at-smaller : goal.loop-at-smaller
-loop-at-smaller c = omega (arith, (line-here c).from, c.if-text-end.false)
+loop-at-smaller c =
+    let line-here : (PieceEnd c.args.text.now c.loop-at.at newline c.piece_end-end.result) =
+        piece_is _ c.loop-at.at newline c.piece_end-end.result c.loop-at.invariant.0 c.piece_end-end.ensures in
+    omega (arith, (line-here).from, c.if-text-end.false)
 
 pub loop-at-preserved : goal.loop-at-preserved
 loop-at-preserved c =
+    let line-here : (PieceEnd c.args.text.now c.loop-at.at newline c.piece_end-end.result) =
+        piece_is _ c.loop-at.at newline c.piece_end-end.result c.loop-at.invariant.0 c.piece_end-end.ensures in
     let l = c.loop-at in
-    let p = line-here c in (
+    let p = line-here in (
       omega (arith, c.if-text-end.false),
       omega (arith, p.from, l.invariant.1),
       l.invariant.2,
-      rw (add-one, add-one) (sym (stray_turn p c.if-text-end.false l.number (sym c.is_line.ensures ∙ not-false _ c.if-not-is_line.false)) ∙ l.invariant.3),
+      rw (add-one, add-one) (sym (stray_turn p c.if-text-end.false l.number (sym c.is_line.ensures ∙ c.if-not-is_line.false)) ∙ l.invariant.3),
     )

@@ -16,11 +16,6 @@ use Rattle.station_text.proofs.TextLaws.{bytes_end, bytes_turn}
 use Rattle.station_text.proofs.ToldLaws.{wrote_as}
 use Rattle.station_text.proofs.text.write.Goals as goal
 
--- the line that begins at `at`
-line-here : (c : goal.After-piece_end-end invariant-loop decreases-loop)
-    → (let start : goal.Start invariant-loop decreases-loop = search in PieceEnd start.args.text.now c.before.loop.at newline c.piece-end.result)
-line-here c = piece_is _ c.before.loop.at newline c.piece-end.result c.before.loop.invariant.0 c.piece-end.ensures
-
 pub loop-at-init : goal.loop-at-init
 loop-at-init c = (omega arith, omega arith, c.requires, ([], record { room = refl; next_place = refl }, refl))
 
@@ -29,12 +24,29 @@ shape_of-room-then-text-end c = wrote-length c.loop-at.invariant.3.1
 
 pub returns-then-text-end : goal.returns-then-text-end
 returns-then-text-end c =
+    let line-here : (PieceEnd c.args.text.now c.loop-at.at newline c.piece_end-end.result) =
+        piece_is _ c.loop-at.at newline c.piece_end-end.result c.loop-at.invariant.0 c.piece_end-end.ensures in
     let l = c.loop-at in
     let z = l.invariant.3 in
-    wrote_as (sym (append-nil z.0) ∙ ap (λ (t : List ℕ). z.0 ++ t) (sym (bytes_end (line-here c) c.if-text-end.true)) ∙ z.2) z.1
+    wrote_as (sym (append-nil z.0) ∙ ap (λ (t : List ℕ). z.0 ++ t) (sym (bytes_end (line-here) c.if-text-end.true)) ∙ z.2) z.1
 
 pub slice_bounds-write_record-count : goal.slice_bounds-write_record-count
-slice_bounds-write_record-count c = (line-here c).from
+slice_bounds-write_record-count c =
+    let line-here : (PieceEnd c.args.text.now c.loop-at.at newline c.piece_end-end.result) =
+        piece_is _ c.loop-at.at newline c.piece_end-end.result c.loop-at.invariant.0 c.piece_end-end.ensures in
+    (line-here).from
+
+pub slice_bounds-write_record-start : goal.slice_bounds-write_record-start
+slice_bounds-write_record-start c =
+    let line-here : (PieceEnd c.args.text.now c.loop-at.at newline c.piece_end-end.result) =
+        piece_is _ c.loop-at.at newline c.piece_end-end.result c.loop-at.invariant.0 c.piece_end-end.ensures in
+    (line-here).from
+
+pub slice_bounds-write_record-end : goal.slice_bounds-write_record-end
+slice_bounds-write_record-end c =
+    let line-here : (PieceEnd c.args.text.now c.loop-at.at newline c.piece_end-end.result) =
+        piece_is _ c.loop-at.at newline c.piece_end-end.result c.loop-at.invariant.0 c.piece_end-end.ensures in
+    (line-here).within
 
 pub write_record-to-requires : goal.write_record-to-requires
 write_record-to-requires c =
@@ -46,12 +58,17 @@ pub overflow_add-at : goal.overflow_add-at
 overflow_add-at c = omega (arith, c.if-text-end.false)
 
 pub loop-at-smaller : goal.loop-at-smaller
-loop-at-smaller c = omega (arith, (line-here c).from, c.if-text-end.false)
+loop-at-smaller c =
+    let line-here : (PieceEnd c.args.text.now c.loop-at.at newline c.piece_end-end.result) =
+        piece_is _ c.loop-at.at newline c.piece_end-end.result c.loop-at.invariant.0 c.piece_end-end.ensures in
+    omega (arith, (line-here).from, c.if-text-end.false)
 
 pub loop-at-preserved : goal.loop-at-preserved
 loop-at-preserved c =
+    let line-here : (PieceEnd c.args.text.now c.loop-at.at newline c.piece_end-end.result) =
+        piece_is _ c.loop-at.at newline c.piece_end-end.result c.loop-at.invariant.0 c.piece_end-end.ensures in
     let l = c.loop-at in
-    let p = line-here c in
+    let p = line-here in
     let s = c.args.text.now in
     let z = l.invariant.3 in
     let this = part s l.at c.piece_end-end.result in

@@ -7,5 +7,5 @@ use Rattle.knowledge.proofs.state.Knowledge.digit.Goals as goal
 
 pub returns-then-i-ge-MOST : goal.returns-then-i-ge-MOST
 returns-then-i-ge-MOST c =
-    let seven : length c.args.t1.digits ≡ 7 = search rules in
-    sym (get_or-eq_default c.args.t1.digits 0 (omega (arith, seven)))
+    let seven : length c.args.self.digits ≡ 7 = search rules in
+    sym (get_or-eq_default c.args.self.digits 0 (omega (arith, seven)))

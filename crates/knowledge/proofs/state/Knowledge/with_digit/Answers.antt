@@ -8,5 +8,5 @@ use Rattle.knowledge.proofs.state.Knowledge.with_digit.Goals as goal
 
 pub returns-else-i-lt-MOST : goal.returns-else-i-lt-MOST
 returns-else-i-lt-MOST c =
-    let seven : length c.args.t1.digits ≡ 7 = search rules in
-    sym (set_out c.args.t1.digits c.args.setting c.args.digit (omega (arith, seven)))
+    let seven : length c.args.self.digits ≡ 7 = search rules in
+    sym (set_out c.args.self.digits c.args.setting c.args.digit (omega (arith, seven)))
