@@ -49,18 +49,27 @@ kept() {
     side=$(mktemp -d 2>/dev/null) || trouble "no temporary folder can be made${TMPDIR:+ in $TMPDIR, which TMPDIR names}"
 }
 
+# named NAME: a name that is UTF-8. The programs open a file under no other.
+utf8=$'^([\1-\177]|[\302-\337][\200-\277]|\340[\240-\277][\200-\277]|[\341-\354\356\357][\200-\277]{2}|\355[\200-\237][\200-\277]|\360[\220-\277][\200-\277]{2}|[\361-\363][\200-\277]{3}|\364[\200-\217][\200-\277]{2})*$'
+named() {
+    [[ $1 =~ $utf8 ]]
+}
+
 # taken FILE MOST: a file that can be read twice, in `file`: FILE itself, or where that is no regular file (a pipe, a
-# device, `-` for standard input), as much of it as MOST bytes and one more, copied.
+# device, `-` for standard input), as much of it as MOST bytes and one more, copied. Where its name is not UTF-8 it is opened here.
 taken() {
+    local opened
     file=$1
-    [ "$1" = - ] || [ ! -f "$1" ] || return 0
-    kept
-    file=$(mktemp "$side/XXXXXX") || trouble "no room in the temporary folder $side"
-    if [ "$1" = - ]; then
-        head -c "$(($2 + 1))" >"$file" || trouble 'standard input cannot be read'
-    else
-        head -c "$(($2 + 1))" <"$1" >"$file" || trouble "$1: it cannot be read"
+    if [ "$1" = - ] || [ ! -f "$1" ]; then
+        kept
+        file=$(mktemp "$side/XXXXXX") || trouble "no room in the temporary folder $side"
+        if [ "$1" = - ]; then
+            head -c "$(($2 + 1))" >"$file" || trouble 'standard input cannot be read'
+        else
+            head -c "$(($2 + 1))" <"$1" >"$file" || trouble "$1: it cannot be read"
+        fi
     fi
+    named "$file" || { exec {opened}<"$file" && file=/dev/fd/$opened; } || trouble "$1: it cannot be read"
 }
 
 # start PROGRAM WORDS..: a program that the kit has built. They are for x86-64: another processor needs the kit's
@@ -87,6 +96,27 @@ run() {
     *) trouble "the program $1 ended without saying what came of it" ;;
     esac
 }
+
+# made NEW PROGRAM WORDS..: runs a program whose last word is the file NEW that it makes. Where that name is not UTF-8 the
+# program makes a file in the side folder, and NEW is a copy of it.
+made() {
+    local new=$1
+    shift
+    if named "$new"; then
+        run "$@" "$new"
+        return
+    fi
+    kept
+    run "$@" "$side/made"
+    [ "$status" -ne 0 ] || copied "$side/made" "$new" || status=3
+}
+
+# copied FILE NEW: makes the file NEW with the bytes of FILE. One that is there is not overwritten, and a failed write leaves none.
+copied() (
+    set -o noclobber
+    exec 5>"$2" || exit 1
+    cat <"$1" >&5 || { rm -f -- "$2"; exit 1; }
+)
 
 # hint KIND FILE NAME [WORDS..]: after a fault in a text, a line on standard error that says in words what is wrong and where, as
 # far as the text shows it. WORDS are settings of hints.awk.

@@ -6,7 +6,7 @@ taken "$1" 4096
 trap '' XFSZ # a file that grows past a limit is a failed write, and not the program's end
 kept
 : 2>/dev/null >"$side/line" || trouble "no room in the temporary folder $side"
-run program_salvage "$file" "$2" >"$side/line"
+made "$2" program_salvage "$file" >"$side/line"
 [ "$status" -ne 2 ] || book_hint "$file" "$1"
 cat "$side/line" 2>/dev/null || { say 'standard output cannot be written'; status=3; }
 case $status-$(head -c 6 "$side/line") in

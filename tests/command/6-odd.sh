@@ -8,6 +8,14 @@ input=/dev/null
 expect 'a sheet without an end' 2 'refused 24 0' 'no text' answer /dev/zero
 mkdir "$room/n=3" && cp books/night/both.question "$room/n=3/-q=1 x"
 expect 'a name with signs and a space' 0 "$(cat books/night/both.expected)" '' ask "$room/night.book" "$room/n=3/-q=1 x"
+odd=$room/$'\377 odd'
+if : 2>/dev/null >"$odd"; then
+    cp books/night/both.question "$odd"
+    expect 'a name that is not UTF-8' 0 "$(cat books/night/both.expected)" '' ask "$room/night.book" "$odd"
+    expect 'a file made under such a name' 0 '' '' book books/night.rules "$odd.book"
+    holds 'it has the same bytes' cmp -s "$room/night.book" "$odd.book"
+    expect 'it is not overwritten either' 3 '' 'is there already' book books/night.rules "$odd.book"
+fi
 expect 'a book for a question' 2 'refused 22 1' 'this is a book' ask "$room/night.book" "$room/night.book"
 expect 'a question for a book' 2 'refused 6 0' 'this is a question' ask books/night/both.question "$room/night.book"
 expect 'a plan for a question' 2 'refused 22 1' 'the order is BOOK QUESTION PLAN' check "$room/night.book" books/night/both.expected books/night/both.question

@@ -1,37 +1,35 @@
 // The formula reader's examples: P1 to P5, and texts of 255 and 256 bytes.
-use crate::say::{say, say_number, say_refused};
+use crate::say::say_refused;
 use formula::Answer;
+use std::io;
 
 // One line: the example's name, then byte 0 of the table or the refusal.
-fn show(name: &[u8], n: usize, text: &[u8]) {
-    say(name);
+fn show(rt: &HostRuntime, name: &str, n: usize, text: &[u8]) -> io::Result<()> {
+    rt.print(name)?;
     let reading = formula::read(n, text);
     let answer = reading.answer;
     let table = reading.table;
     match answer {
-        Answer::Accepted => {
-            say(b" byte 0 is ");
-            say_number(table[0] as u64);
-        }
-        Answer::Refused(why) => say_refused(why),
+        Answer::Accepted => print!(rt; " byte 0 is {}", table[0])?,
+        Answer::Refused(why) => say_refused(rt, why)?,
     }
-    say(b"\n");
+    rt.println("")
 }
 
-pub(crate) fn marked() {
-    show(b"P1", 3, b"a|b&~c");
-    show(b"P2", 2, b"~a&b");
-    show(b"P3", 1, b"a&");
-    show(b"P4", 1, b"a)");
-    show(b"P5", 2, b"c");
+pub(crate) fn marked(rt: &HostRuntime) -> io::Result<()> {
+    show(rt, "P1", 3, b"a|b&~c")?;
+    show(rt, "P2", 2, b"~a&b")?;
+    show(rt, "P3", 1, b"a&")?;
+    show(rt, "P4", 1, b"a)")?;
+    show(rt, "P5", 2, b"c")
 }
 
 // A row of `~` and a letter, of 255 bytes and of 256.
-pub(crate) fn lengths() {
+pub(crate) fn lengths(rt: &HostRuntime) -> io::Result<()> {
     let mut longest = [b'~'; 255];
     longest[254] = b'a';
-    show(b"255 bytes", 1, &longest);
+    show(rt, "255 bytes", 1, &longest)?;
     let mut longer = [b'~'; 256];
     longer[255] = b'a';
-    show(b"256 bytes", 1, &longer);
+    show(rt, "256 bytes", 1, &longer)
 }

@@ -8,11 +8,13 @@ mod formulas;
 mod questions;
 mod say;
 
-fn main() {
-    formulas::marked();
-    formulas::lengths();
-    books::marked();
-    books::single_bytes();
-    questions::plan_rooms();
-    questions::rank_rooms();
+use std::io;
+
+fn main(rt: HostRuntime) -> io::Result<()> {
+    formulas::marked(&rt)?;
+    formulas::lengths(&rt)?;
+    books::marked(&rt)?;
+    books::single_bytes(&rt)?;
+    questions::plan_rooms(&rt)?;
+    questions::rank_rooms(&rt)
 }

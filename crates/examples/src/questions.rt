@@ -1,8 +1,9 @@
 // The finder's examples: P6 with rooms that do and do not hold its plan, and a rank room of 48 and of 49
 // bytes at n = 2.
-use crate::say::{say, say_number, say_refused};
+use crate::say::say_refused;
 use finder::Answer;
 use question::Question;
+use std::io;
 
 // Where a rule's table stands in the rights: 256 bytes a setting, 32 a post, to look and then to set.
 const READ_A_1: usize = 0;
@@ -40,57 +41,42 @@ fn byte_at(plan: &[u8], i: usize) -> u8 {
     0
 }
 
-// Byte i of a plan of this length, with a blank before it.
-fn say_byte(plan: &[u8], length: usize, i: usize) {
-    if i < length {
-        say(b" ");
-        say_number(byte_at(plan, i) as u64);
+// The bytes of a plan of this length, with a blank before each.
+fn say_bytes(rt: &HostRuntime, plan: &[u8], length: usize) -> io::Result<()> {
+    for i in 0..length {
+        print!(rt; " {}", byte_at(plan, i))?;
     }
-}
-
-// The plan's first eight bytes.
-fn say_bytes(plan: &[u8], length: usize) {
-    say_byte(plan, length, 0);
-    say_byte(plan, length, 1);
-    say_byte(plan, length, 2);
-    say_byte(plan, length, 3);
-    say_byte(plan, length, 4);
-    say_byte(plan, length, 5);
-    say_byte(plan, length, 6);
-    say_byte(plan, length, 7);
+    Ok(())
 }
 
 // One line: the example's name, then the answer.
-fn show(name: &[u8], answer: Answer, plan: &[u8]) {
-    say(name);
+fn show(rt: &HostRuntime, name: &str, answer: Answer, plan: &[u8]) -> io::Result<()> {
+    rt.print(name)?;
     match answer {
         Answer::Reach { height, length } => {
-            say(b" reach ");
-            say_number(height as u64);
-            say(b", plan of ");
-            say_number(length as u64);
-            say(b" bytes");
+            print!(rt; " reach {height}, plan of {length} bytes")?;
             if length < 9 {
-                say(b":");
-                say_bytes(plan, length);
+                rt.print(":")?;
+                say_bytes(rt, plan, length)?;
             }
         }
-        Answer::Cannot => say(b" cannot"),
-        Answer::Refused(why) => say_refused(why),
+        Answer::Cannot => rt.print(" cannot")?,
+        Answer::Refused(why) => say_refused(rt, why)?,
     }
-    say(b"\n");
+    rt.println("")
 }
 
 // The answer to a question over n settings, with nothing known and nothing to learn, in these rooms.
 fn show_asked(
-    name: &[u8],
+    rt: &HostRuntime,
+    name: &str,
     book: &[u8],
     n: usize,
     team: u8,
     make: &[u8],
     ranks: &mut [u8],
     plan: &mut [u8],
-) {
+) -> io::Result<()> {
     let table = formula::read(n, make).table;
     let question = Question {
         team,
@@ -99,7 +85,7 @@ fn show_asked(
         held: 0,
     };
     let answer = finder::find(book, question, &table, &[], ranks, plan);
-    show(name, answer, plan);
+    show(rt, name, answer, plan)
 }
 
 // The book of P6: `write a 2 ~c`, `write b 1 a`, `read c 2 1`, `write c 2 c`; looks that are not
@@ -119,15 +105,15 @@ fn sixth(book: &mut [u8]) {
 }
 
 // P6 with this plan room.
-fn show_sixth(name: &[u8], plan: &mut [u8]) {
+fn show_sixth(rt: &HostRuntime, name: &str, plan: &mut [u8]) -> io::Result<()> {
     let mut book = [0u8; 2048];
     sixth(&mut book);
-    show_asked(name, &book, 3, 3, b"b", &mut [0u8; 343], plan);
+    show_asked(rt, name, &book, 3, 3, b"b", &mut [0u8; 343], plan)
 }
 
-pub(crate) fn plan_rooms() {
-    show_sixth(b"P6, plan room 8:", &mut [0u8; 8]);
-    show_sixth(b"P6, plan room 7:", &mut [0u8; 7]);
+pub(crate) fn plan_rooms(rt: &HostRuntime) -> io::Result<()> {
+    show_sixth(rt, "P6, plan room 8:", &mut [0u8; 8])?;
+    show_sixth(rt, "P6, plan room 7:", &mut [0u8; 7])
 }
 
 // The book of P11: `write a 1 b|~b`, and both looks open.
@@ -140,13 +126,13 @@ fn eleventh(book: &mut [u8]) {
 }
 
 // P11 with this rank room.
-fn show_eleventh(name: &[u8], ranks: &mut [u8]) {
+fn show_eleventh(rt: &HostRuntime, name: &str, ranks: &mut [u8]) -> io::Result<()> {
     let mut book = [0u8; 1536];
     eleventh(&mut book);
-    show_asked(name, &book, 2, 1, b"a", ranks, &mut [0u8; 2]);
+    show_asked(rt, name, &book, 2, 1, b"a", ranks, &mut [0u8; 2])
 }
 
-pub(crate) fn rank_rooms() {
-    show_eleventh(b"n = 2, rank room 48:", &mut [0u8; 48]);
-    show_eleventh(b"n = 2, rank room 49:", &mut [0u8; 49]);
+pub(crate) fn rank_rooms(rt: &HostRuntime) -> io::Result<()> {
+    show_eleventh(rt, "n = 2, rank room 48:", &mut [0u8; 48])?;
+    show_eleventh(rt, "n = 2, rank room 49:", &mut [0u8; 49])
 }

@@ -1,19 +1,9 @@
 // What the examples print, to standard output.
 use refusal::Refusal;
-
-pub(crate) fn say(text: &[u8]) {
-    io::write_all(1, text);
-}
-
-pub(crate) fn say_number(x: u64) {
-    io::print_decimal(1, x);
-}
+use std::io;
 
 // A refusal: its number and its place.
-pub(crate) fn say_refused(why: Refusal) {
+pub(crate) fn say_refused(rt: &HostRuntime, why: Refusal) -> io::Result<()> {
     let told = why.numbers();
-    say(b" refused ");
-    say_number(told.number);
-    say(b" at ");
-    say_number(told.place as u64);
+    print!(rt; " refused {} at {}", told.number, told.place)
 }

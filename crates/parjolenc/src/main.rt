@@ -3,7 +3,6 @@
 // standard error.
 #![tactic(auto)]
 
-use libc::STDIN_FILENO;
 use program_files::Input;
 use sheet_reading::SheetTold;
 
@@ -11,7 +10,7 @@ use sheet_reading::SheetTold;
 const READ_MOST: usize = sheet_reading::SHEET_MOST + 1;
 
 // Writes out the answer to a sheet, and says what came of it, of a refusal with its own place.
-fn deliver(sheet: &[u8], answer: &[u8]) {
+fn deliver(rt: &HostRuntime, sheet: &[u8], answer: &[u8]) {
     let outcome = program_outcome::of_answer(answer);
     let reading = sheet_reading::read(sheet);
     let told = reading.told;
@@ -19,6 +18,7 @@ fn deliver(sheet: &[u8], answer: &[u8]) {
         SheetTold::Refused(why, _) => {
             let numbers = why.numbers();
             program_outcome::deliver_fault(
+                rt,
                 answer,
                 outcome,
                 numbers.number,
@@ -26,21 +26,21 @@ fn deliver(sheet: &[u8], answer: &[u8]) {
                 b"sheet\n",
             );
         }
-        SheetTold::Stated => program_outcome::deliver(answer, outcome),
+        SheetTold::Stated => program_outcome::deliver(rt, answer, outcome),
     }
 }
 
 // What a sheet is answered.
-fn answer(sheet: &[u8]) {
+fn answer(rt: &HostRuntime, sheet: &[u8]) {
     let mut out = [0u8; sheet::ANSWER_MOST];
     let printed = sheet::answer(sheet, &mut out);
-    deliver(sheet, &out[..printed]);
+    deliver(rt, sheet, &out[..printed]);
 }
 
-fn main() {
+fn main(rt: HostRuntime) {
     let mut sheet = [0u8; READ_MOST];
-    match program_files::read_all(STDIN_FILENO, &mut sheet) {
-        Input::Failed => program_outcome::trouble(b"parjolenc: standard input"),
-        Input::Whole(length) => answer(&sheet[..length]),
+    match program_files::read_all(&mut rt.stdin(), &mut sheet) {
+        Input::Failed(error) => program_outcome::trouble(&rt, b"parjolenc: standard input", error),
+        Input::Whole(length) => answer(&rt, &sheet[..length]),
     }
 }

@@ -22,7 +22,7 @@ const QUESTION_READ_MOST: usize = sheet_words::TEXT_MOST + 1;
 const RANKS_MOST: usize = 2 * 7 * 7 * 7 * 7 * 7 * 7 * 7;
 
 // Writes out the answer to a question over a book of this size, and says what came of it.
-fn deliver_sound(settings: u8, posts: u8, question: &[u8], answer: &[u8]) {
+fn deliver_sound(rt: &HostRuntime, settings: u8, posts: u8, question: &[u8], answer: &[u8]) {
     let outcome = program_outcome::of_answer(answer);
     let reading = sheet_legs::read_legs(question, settings, posts);
     let told = reading.told;
@@ -30,6 +30,7 @@ fn deliver_sound(settings: u8, posts: u8, question: &[u8], answer: &[u8]) {
         LegsTold::Refused(why, _) => {
             let numbers = why.numbers();
             program_outcome::deliver_fault(
+                rt,
                 answer,
                 outcome,
                 numbers.number,
@@ -37,17 +38,18 @@ fn deliver_sound(settings: u8, posts: u8, question: &[u8], answer: &[u8]) {
                 b"question\n",
             );
         }
-        LegsTold::One => program_outcome::deliver(answer, outcome),
-        LegsTold::Two => program_outcome::deliver(answer, outcome),
+        LegsTold::One => program_outcome::deliver(rt, answer, outcome),
+        LegsTold::Two => program_outcome::deliver(rt, answer, outcome),
     }
 }
 
 // Writes out the answer, and says what came of it; of a refusal whose it is, with its own place.
-fn deliver(book: &[u8], question: &[u8], answer: &[u8]) {
+fn deliver(rt: &HostRuntime, book: &[u8], question: &[u8], answer: &[u8]) {
     match book_sound::sound(book) {
         ReadAnswer::Refused(why) => {
             let numbers = why.numbers();
             program_outcome::deliver_fault(
+                rt,
                 answer,
                 Outcome::Refused,
                 numbers.number,
@@ -55,7 +57,9 @@ fn deliver(book: &[u8], question: &[u8], answer: &[u8]) {
                 b"book\n",
             );
         }
-        ReadAnswer::Book { settings, posts } => deliver_sound(settings, posts, question, answer),
+        ReadAnswer::Book { settings, posts } => deliver_sound(
+            rt, settings, posts, question, answer,
+        ),
     }
 }
 
@@ -74,26 +78,26 @@ fn answer_room() -> [u8; sheet_ask::ASK_MOST]
 }
 
 // What a book answers to a question.
-fn ask(book: &[u8], question: &[u8]) {
+fn ask(rt: &HostRuntime, book: &[u8], question: &[u8]) {
     let mut ranks = ranks_room();
     let mut out = answer_room();
     let printed = sheet_ask::ask(book, question, &mut ranks, &mut out);
-    deliver(book, question, &out[..printed]);
+    deliver(rt, book, question, &out[..printed]);
 }
 
 // The question that is put to a book.
-fn question_over(book: &[u8]) {
+fn question_over(rt: &HostRuntime, book: &[u8]) {
     let mut question = [0u8; QUESTION_READ_MOST];
-    match program_files::read_named(QUESTION_WORD, &mut question) {
-        Input::Failed => program_outcome::say(Outcome::Trouble),
-        Input::Whole(length) => ask(book, &question[..length]),
+    match program_files::read_named(rt, QUESTION_WORD, &mut question) {
+        Input::Failed(_) => program_outcome::say(rt, Outcome::Trouble),
+        Input::Whole(length) => ask(rt, book, &question[..length]),
     }
 }
 
-fn main() {
+fn main(rt: HostRuntime) {
     let mut book = [0u8; BOOK_READ_MOST];
-    match program_files::read_named(BOOK_WORD, &mut book) {
-        Input::Failed => program_outcome::say(Outcome::Trouble),
-        Input::Whole(length) => question_over(&book[..length]),
+    match program_files::read_named(&rt, BOOK_WORD, &mut book) {
+        Input::Failed(_) => program_outcome::say(&rt, Outcome::Trouble),
+        Input::Whole(length) => question_over(&rt, &book[..length]),
     }
 }

@@ -14,13 +14,14 @@ const BOOK_WORD: usize = 2;
 const READ_MOST: usize = sheet_words::TEXT_MOST + 1;
 
 // The book of a rules text, or its refusal.
-fn make(rules: &[u8]) {
+fn make(rt: &HostRuntime, rules: &[u8]) {
     let mut book = [0u8; sheet_book::BOOK_MOST];
     match sheet_book::make_book(rules, &mut book) {
-        MakeAnswer::Made(length) => program_outcome::store(BOOK_WORD, &book[..length]),
+        MakeAnswer::Made(length) => program_outcome::store(rt, BOOK_WORD, &book[..length]),
         MakeAnswer::Refused(why, line) => {
             let numbers = why.numbers();
             program_outcome::refuse(
+                rt,
                 numbers.number,
                 line,
                 numbers.place,
@@ -31,10 +32,10 @@ fn make(rules: &[u8]) {
     }
 }
 
-fn main() {
+fn main(rt: HostRuntime) {
     let mut rules = [0u8; READ_MOST];
-    match program_files::read_named(RULES_WORD, &mut rules) {
-        Input::Failed => program_outcome::say(Outcome::Trouble),
-        Input::Whole(length) => make(&rules[..length]),
+    match program_files::read_named(&rt, RULES_WORD, &mut rules) {
+        Input::Failed(_) => program_outcome::say(&rt, Outcome::Trouble),
+        Input::Whole(length) => make(&rt, &rules[..length]),
     }
 }

@@ -39,12 +39,13 @@ fn plan_outcome(number: u64) -> Outcome
 }
 
 // Writes out what is said of a plan.
-fn tell(told: CheckTold) {
+fn tell(rt: &HostRuntime, told: CheckTold) {
     match told {
-        CheckTold::Yes => program_outcome::deliver(b"yes\n", Outcome::Done),
+        CheckTold::Yes => program_outcome::deliver(rt, b"yes\n", Outcome::Done),
         CheckTold::BookRefused(why) => {
             let numbers = why.numbers();
             program_outcome::refuse(
+                rt,
                 numbers.number,
                 numbers.place,
                 numbers.place,
@@ -55,6 +56,7 @@ fn tell(told: CheckTold) {
         CheckTold::QuestionRefused(why, line) => {
             let numbers = why.numbers();
             program_outcome::refuse(
+                rt,
                 numbers.number,
                 line,
                 numbers.place,
@@ -65,6 +67,7 @@ fn tell(told: CheckTold) {
         CheckTold::TextRefused(why) => {
             let numbers = why.numbers();
             program_outcome::refuse(
+                rt,
                 numbers.number,
                 numbers.place,
                 numbers.place,
@@ -75,6 +78,7 @@ fn tell(told: CheckTold) {
         CheckTold::PlanRefused(why) => {
             let numbers = why.numbers();
             program_outcome::refuse_seconded(
+                rt,
                 numbers.number,
                 numbers.place,
                 numbers.second,
@@ -86,27 +90,27 @@ fn tell(told: CheckTold) {
 }
 
 // Reads the plan, and checks it.
-fn check_plan(book: &[u8], question: &[u8]) {
+fn check_plan(rt: &HostRuntime, book: &[u8], question: &[u8]) {
     let mut plan = [0u8; PLAN_ROOM];
-    match read_named(PLAN_WORD, &mut plan) {
-        Input::Failed => program_outcome::say(Outcome::Trouble),
-        Input::Whole(length) => tell(sheet_check::check(book, question, &plan[..length])),
+    match read_named(rt, PLAN_WORD, &mut plan) {
+        Input::Failed(_) => program_outcome::say(rt, Outcome::Trouble),
+        Input::Whole(length) => tell(rt, sheet_check::check(book, question, &plan[..length])),
     }
 }
 
 // Reads the question, and then the plan.
-fn check_question(book: &[u8]) {
+fn check_question(rt: &HostRuntime, book: &[u8]) {
     let mut question = [0u8; QUESTION_ROOM];
-    match read_named(QUESTION_WORD, &mut question) {
-        Input::Failed => program_outcome::say(Outcome::Trouble),
-        Input::Whole(length) => check_plan(book, &question[..length]),
+    match read_named(rt, QUESTION_WORD, &mut question) {
+        Input::Failed(_) => program_outcome::say(rt, Outcome::Trouble),
+        Input::Whole(length) => check_plan(rt, book, &question[..length]),
     }
 }
 
-fn main() {
+fn main(rt: HostRuntime) {
     let mut book = [0u8; BOOK_ROOM];
-    match read_named(BOOK_WORD, &mut book) {
-        Input::Failed => program_outcome::say(Outcome::Trouble),
-        Input::Whole(length) => check_question(&book[..length]),
+    match read_named(&rt, BOOK_WORD, &mut book) {
+        Input::Failed(_) => program_outcome::say(&rt, Outcome::Trouble),
+        Input::Whole(length) => check_question(&rt, &book[..length]),
     }
 }

@@ -5,4 +5,4 @@ use Rattle.program_files.specs.declared.Input.TheVariants.{Whole, Failed}
 
 abbrev pub InRoom : Input → List ℕ → Type 0
 InRoom (Whole n) room = n ≤ length room
-InRoom Failed room = Unit
+InRoom (Failed why) room = Unit

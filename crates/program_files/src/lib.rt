@@ -1,134 +1,164 @@
-// Reading and writing for the programs, over the C library: a failure is told, and never taken for the end
+// Reading and writing for the programs, over std: a failure is told, and never taken for the end
 // of the input. What the system reads and writes no contract can say; what is proved is that no byte
 // outside the room is counted. Nothing is refused, and no function has a `requires`. A failure to do with
 // a named file is said on standard error here.
 #![tactic(auto)]
 
+ghost use Rattle.std.specs.Prelude.{◌≡◌, ◌≤◌, length};
+ghost use Rattle.std.specs.Io.{ReadsAtMost};
 ghost use Rattle.program_files.specs.Input.{InRoom};
+
+use std::env::Env;
+use std::fs::{self, File, OpenOptions};
+use std::io::{self, ErrorKind, Read, Write};
+use std::str;
 
 // What was read.
 #[derive(Clone, Copy)]
 pub enum Input {
     // All of it, so many bytes at the start of the room; or as many as the room has.
     Whole(usize),
-    // A read failed. What the room holds counts for nothing.
-    Failed,
+    // A read failed, for this reason. What the room holds counts for nothing.
+    Failed(io::Error),
 }
 
 // How often in a row a read may be interrupted by a signal before it counts as failed: a program has to
 // end.
 const INTERRUPTED_MOST: u32 = 1000000;
 
-// One read, tried again where a signal interrupts it before it has moved a byte; -1 where it fails.
-fn read_some(fd: i32, room: &mut [u8]) -> isize {
-    let mut tries: u32 = 0;
-    while tries < INTERRUPTED_MOST {
-        let got = libc::read(fd, room);
-        if 0 <= got {
-            return got;
+// Bytes of a word of the program's that is put to use: as many as the system's longest name of a file and its end.
+const WORD_MOST: usize = 4096;
+
+// One read, tried again where a signal interrupts it before it has moved a byte.
+fn read_some<R: Read>(from: &mut R, room: &mut [u8]) -> io::Result<usize>
+    ensures { ReadsAtMost result room.new }
+{
+    for _ in 0..INTERRUPTED_MOST {
+        match from.read(room) {
+            Err(error) if error.kind() == ErrorKind::Interrupted => {}
+            result => return result,
         }
-        if os::errno() != libc::EINTR {
-            return -1;
-        }
-        tries += 1;
     }
-    -1
+    Err(io::Error::from(ErrorKind::Interrupted))
 }
 
 // Reads until the room is full or the input ends.
-pub fn read_all(fd: i32, room: &mut [u8]) -> Input
+pub fn read_all<R: Read>(from: &mut R, room: &mut [u8]) -> Input
     ensures { InRoom result room.new }
 {
     let mut done: usize = 0;
     while done < room.len() {
-        let got = read_some(fd, &mut room[done..]);
-        if got < 0 {
-            return Input::Failed;
+        match read_some(from, &mut room[done..]) {
+            Ok(0) => return Input::Whole(done),
+            Ok(more) => done += more,
+            Err(error) => return Input::Failed(error),
         }
-        let more = io::count(got, &room[done..]);
-        if more == 0 {
-            return Input::Whole(done);
-        }
-        done += more;
     }
     Input::Whole(done)
 }
 
-// One write, tried again where a signal interrupts it before it has moved a byte; -1 where it fails.
-fn write_some(fd: i32, bytes: &[u8]) -> isize {
-    let mut tries: u32 = 0;
-    while tries < INTERRUPTED_MOST {
-        let put = libc::write(fd, bytes);
-        if 0 <= put {
-            return put;
-        }
-        if os::errno() != libc::EINTR {
-            return -1;
-        }
-        tries += 1;
-    }
-    -1
+// Zeros for one of the program's words.
+pub fn word_room() -> [u8; WORD_MOST]
+    ensures { 4096 ≡ length result }
+{
+    [0; WORD_MOST]
 }
 
-// Writes all of the bytes, and tells whether it could. What was written before a failure stays written.
-pub fn write_all(fd: i32, bytes: &[u8]) -> bool {
-    let mut done: usize = 0;
-    while done < bytes.len() {
-        let put = write_some(fd, &bytes[done..]);
-        let more = io::count(put, &bytes[done..]);
-        if more == 0 {
-            return false;
-        }
-        done += more;
+// Puts one of the program's words at the start of the room, and tells its length: 0 where there is no such word, or the
+// room is too small for it.
+pub fn word_in(rt: &HostRuntime, word: usize, room: &mut [u8]) -> usize
+    ensures { result ≤ length room.new }
+{
+    match rt.arg(word, room) {
+        Ok(length) => length,
+        Err(_) => 0,
     }
-    true
+}
+
+// The words of an error's text, without the number that std puts behind them.
+fn words_of(text: &str) -> &str {
+    match text.split_once(" (os error ") {
+        Some((words, _)) => words,
+        None => text,
+    }
+}
+
+// Says on standard error what failed, and why.
+pub fn fail(rt: &HostRuntime, what: &[u8], error: io::Error) {
+    let _ = rt.stderr().lock().write_all(what);
+    let _ = match error.to_string(rt.alloc()) {
+        Ok(text) => rt.eprintln(format_args!(": {}", words_of(text.as_str()))),
+        Err(_) => rt.eprintln(format_args!(": {error}")),
+    };
+}
+
+// A name as std takes it, which is UTF-8 alone.
+fn path_of(name: &[u8]) -> io::Result<&str> {
+    match str::from_utf8(name) {
+        Ok(path) => Ok(path),
+        Err(_) => Err(io::Error::from(ErrorKind::InvalidFilename)),
+    }
+}
+
+// The file of this name, opened for reading.
+fn opened(rt: &HostRuntime, name: &[u8]) -> io::Result<File> {
+    File::open(rt, path_of(name)?)
+}
+
+// Reads the file of this name.
+fn read_file(rt: &HostRuntime, name: &[u8], room: &mut [u8]) -> Input
+    ensures { InRoom result room.new }
+{
+    match opened(rt, name) {
+        Ok(mut file) => read_all(&mut file, room),
+        Err(error) => Input::Failed(error),
+    }
 }
 
 // The file that one of the program's words names, whole or as many bytes as the room has.
-pub fn read_named(word: usize, room: &mut [u8]) -> Input
+pub fn read_named(rt: &HostRuntime, word: usize, room: &mut [u8]) -> Input
     ensures { InRoom result room.new }
 {
-    let mut name = io::buffer();
-    let length = os::arg(word, &mut name);
-    let fd = os::open_read(&name[..length]);
-    if fd < 0 {
-        os::fail(&name[..length]);
-        return Input::Failed;
-    }
-    let input = read_all(fd, room);
+    let mut name = word_room();
+    let length = word_in(rt, word, &mut name);
+    let input = read_file(rt, &name[..length], room);
     match input {
-        Input::Failed => os::fail(&name[..length]),
+        Input::Failed(error) => fail(rt, &name[..length], error),
         Input::Whole(_) => {}
     }
-    libc::close(fd);
     input
 }
 
-// Writes the bytes to a file that was just made, and closes it; tells whether all of that could be done.
-fn filled(fd: i32, bytes: &[u8]) -> bool {
-    if !write_all(fd, bytes) {
-        return false;
+// Writes the bytes to a file that was just made, and closes it.
+fn fill(mut file: File, bytes: &[u8]) -> io::Result<()> {
+    file.write_all(bytes)?;
+    file.sync_all()
+}
+
+// Makes the file of this name, with these bytes.
+fn make(rt: &HostRuntime, name: &[u8], bytes: &[u8]) -> io::Result<()> {
+    let path = path_of(name)?;
+    let file = OpenOptions::new()
+        .write(true)
+        .create_new(true)
+        .open(rt, path)?;
+    let made = fill(file, bytes);
+    if made.is_err() {
+        let _ = fs::remove_file(rt, path);
     }
-    if libc::fsync(fd) < 0 {
-        return false;
-    }
-    0 <= libc::close(fd)
+    made
 }
 
 // Makes the file that one of the program's words names, with these bytes, and tells whether it could. A file
 // that is there is never overwritten, and a failed write leaves no file.
-pub fn make_named(word: usize, bytes: &[u8]) -> bool {
-    let mut name = io::buffer();
-    let length = os::arg(word, &mut name);
-    let fd = os::create(&name[..length]);
-    if fd < 0 {
-        os::fail(&name[..length]);
-        return false;
+pub fn make_named(rt: &HostRuntime, word: usize, bytes: &[u8]) -> bool {
+    let mut name = word_room();
+    let length = word_in(rt, word, &mut name);
+    match make(rt, &name[..length], bytes) {
+        Ok(()) => true,
+        Err(error) => {
+            fail(rt, &name[..length], error);
+            false
+        }
     }
-    if filled(fd, bytes) {
-        return true;
-    }
-    os::fail(&name[..length]);
-    os::unlink(&name[..length]);
-    false
 }

@@ -1,13 +1,20 @@
-// How a program says what came of it. A Rattle program has no exit status: it writes one digit and a newline to
-// descriptor 3, and the command `./parjolenc` turns the digit into its status. A program that ended without
-// saying it is in trouble. Nothing is refused; where descriptor 3 is not open, nobody asked.
+// How a program says what came of it: it writes one digit and a newline to descriptor 3, and the command `./parjolenc`
+// turns the digit into its status. A program that ended without saying it is in trouble. Nothing is refused; where
+// descriptor 3 is not open for writing, nobody asked.
 #![tactic(auto)]
 
 ghost use Rattle.std.specs.Prelude.{◌≡◌};
 ghost use Rattle.program_outcome.specs.Outcomes.{status_digit, answer_outcome};
 
-// Where the outcome is said.
-const OUTCOME_FILENO: i32 = 3;
+use std::fs::{self, OpenOptions};
+use std::io::{self, Write};
+use std::os::unix::prelude::PermissionsExt;
+
+// Where the outcome is said: descriptor 3. std reaches a descriptor by its name alone.
+const OUTCOME_NAME: &str = "/proc/self/fd/3";
+
+// The bit of a mode that lets a file's owner write. The name of a descriptor has it where the descriptor is open for writing.
+const OWNER_WRITES: u32 = 0o200;
 
 // Bytes that hold any refusal's line: `refused`, two numbers of up to 20 digits, one of up to 3, three spaces and the line's
 // end are 54.
@@ -51,80 +58,120 @@ pub fn of_answer(text: &[u8]) -> Outcome
     Outcome::Refused
 }
 
+// Whether descriptor 3 is open for writing.
+fn asked(rt: &HostRuntime) -> bool {
+    match fs::symlink_metadata(rt, OUTCOME_NAME) {
+        Ok(metadata) => metadata.permissions().mode() & OWNER_WRITES != 0,
+        Err(_) => false,
+    }
+}
+
+// Writes to descriptor 3, behind what was written to it before. Where that fails, the command finds no outcome.
+fn tell(rt: &HostRuntime, bytes: &[u8]) {
+    if !asked(rt) {
+        return;
+    }
+    if let Ok(mut file) = OpenOptions::new().append(true).open(rt, OUTCOME_NAME) {
+        let _ = file.write_all(bytes);
+    }
+}
+
 // Says the outcome.
-pub fn say(outcome: Outcome) {
-    let line = [status_digit(outcome), b'\n'];
-    program_files::write_all(OUTCOME_FILENO, &line);
+pub fn say(rt: &HostRuntime, outcome: Outcome) {
+    tell(rt, &[status_digit(outcome), b'\n']);
 }
 
 // Says the outcome, and whose fault it is.
-pub fn say_whose(outcome: Outcome, whose: &[u8]) {
-    say(outcome);
-    program_files::write_all(OUTCOME_FILENO, whose);
+pub fn say_whose(rt: &HostRuntime, outcome: Outcome, whose: &[u8]) {
+    say(rt, outcome);
+    tell(rt, whose);
 }
 
 // Makes the file that one of the program's words names, with these bytes, and says what came of it.
-pub fn store(word: usize, bytes: &[u8]) {
-    if program_files::make_named(word, bytes) {
-        say(Outcome::Done);
+pub fn store(rt: &HostRuntime, word: usize, bytes: &[u8]) {
+    if program_files::make_named(rt, word, bytes) {
+        say(rt, Outcome::Done);
     } else {
-        say(Outcome::Trouble);
+        say(rt, Outcome::Trouble);
     }
 }
 
-// Says that standard input or output has failed.
-pub fn trouble(what: &[u8]) {
-    os::fail(what);
-    say(Outcome::Trouble);
+// Says that standard input or output has failed, and why.
+pub fn trouble(rt: &HostRuntime, what: &[u8], error: io::Error) {
+    program_files::fail(rt, what, error);
+    say(rt, Outcome::Trouble);
 }
 
 // Writes the answer to standard output, and tells whether it could; else that is said.
-fn written(answer: &[u8]) -> bool {
-    if program_files::write_all(libc::STDOUT_FILENO, answer) {
-        return true;
+fn written(rt: &HostRuntime, answer: &[u8]) -> bool {
+    match rt.stdout().lock().write_all(answer) {
+        Ok(()) => true,
+        Err(error) => {
+            trouble(rt, b"parjolenc: standard output", error);
+            false
+        }
     }
-    trouble(b"parjolenc: standard output");
-    false
 }
 
 // Writes out an answer, and says its outcome.
-pub fn deliver(answer: &[u8], outcome: Outcome) {
-    if written(answer) {
-        say(outcome);
+pub fn deliver(rt: &HostRuntime, answer: &[u8], outcome: Outcome) {
+    if written(rt, answer) {
+        say(rt, outcome);
     }
 }
 
 // Writes out an answer that names a fault, and says its outcome. Three lines more, from which the command can make a
 // hint: the answer, the refusal with its own place (of a formula the byte, where the answer has the line), and
 // whose fault it is.
-pub fn deliver_fault(answer: &[u8], outcome: Outcome, number: u64, place: usize, whose: &[u8]) {
-    if !written(answer) {
+pub fn deliver_fault(
+    rt: &HostRuntime,
+    answer: &[u8],
+    outcome: Outcome,
+    number: u64,
+    place: usize,
+    whose: &[u8],
+) {
+    if !written(rt, answer) {
         return;
     }
-    say(outcome);
-    program_files::write_all(OUTCOME_FILENO, answer);
+    say(rt, outcome);
+    tell(rt, answer);
     let mut room = [0u8; REFUSED_MOST];
     let length = print_answer::refused(number, place, &mut room);
     if length <= room.len() {
-        program_files::write_all(OUTCOME_FILENO, &room[..length]);
+        tell(rt, &room[..length]);
     }
-    program_files::write_all(OUTCOME_FILENO, whose);
+    tell(rt, whose);
 }
 
 // Writes out a refusal by its numbers, and says it; `second` is one more than its second number, or 0 where it has none.
-pub fn refuse_seconded(number: u64, place: usize, second: u8, whose: &[u8], outcome: Outcome) {
+pub fn refuse_seconded(
+    rt: &HostRuntime,
+    number: u64,
+    place: usize,
+    second: u8,
+    whose: &[u8],
+    outcome: Outcome,
+) {
     let mut room = [0u8; REFUSED_MOST];
     let length = print_answer::seconded(number, place, second, &mut room);
     if length <= room.len() {
-        deliver_fault(&room[..length], outcome, number, place, whose);
+        deliver_fault(rt, &room[..length], outcome, number, place, whose);
     }
 }
 
 // Writes out a refusal by its number, at this place of a text, and says it; `own` is the refusal's own place.
-pub fn refuse(number: u64, place: usize, own: usize, whose: &[u8], outcome: Outcome) {
+pub fn refuse(
+    rt: &HostRuntime,
+    number: u64,
+    place: usize,
+    own: usize,
+    whose: &[u8],
+    outcome: Outcome,
+) {
     let mut room = [0u8; REFUSED_MOST];
     let length = print_answer::refused(number, place, &mut room);
     if length <= room.len() {
-        deliver_fault(&room[..length], outcome, number, own, whose);
+        deliver_fault(rt, &room[..length], outcome, number, own, whose);
     }
 }

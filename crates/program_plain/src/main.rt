@@ -20,22 +20,23 @@ const QUESTION_READ_MOST: usize = sheet_words::TEXT_MOST + 1;
 const REACH_MOST: usize = 10;
 
 // Writes out a height, and says it.
-fn reached(height: u8) {
+fn reached(rt: &HostRuntime, height: u8) {
     let mut room = [0u8; REACH_MOST];
     let length = print_answer::reach_alone(height, &mut room);
     if length <= room.len() {
-        program_outcome::deliver(&room[..length], Outcome::Done);
+        program_outcome::deliver(rt, &room[..length], Outcome::Done);
     }
 }
 
 // Writes out what is said of a question.
-fn tell(told: PlainTold) {
+fn tell(rt: &HostRuntime, told: PlainTold) {
     match told {
-        PlainTold::Reach(height) => reached(height),
-        PlainTold::Cannot => program_outcome::deliver(b"cannot\n", Outcome::No),
+        PlainTold::Reach(height) => reached(rt, height),
+        PlainTold::Cannot => program_outcome::deliver(rt, b"cannot\n", Outcome::No),
         PlainTold::BookRefused(why) => {
             let numbers = why.numbers();
             program_outcome::refuse(
+                rt,
                 numbers.number,
                 numbers.place,
                 numbers.place,
@@ -46,6 +47,7 @@ fn tell(told: PlainTold) {
         PlainTold::QuestionRefused(why, line) => {
             let numbers = why.numbers();
             program_outcome::refuse(
+                rt,
                 numbers.number,
                 line,
                 numbers.place,
@@ -57,18 +59,18 @@ fn tell(told: PlainTold) {
 }
 
 // Reads the question, and asks it.
-fn ask_question(book: &[u8]) {
+fn ask_question(rt: &HostRuntime, book: &[u8]) {
     let mut question = [0u8; QUESTION_READ_MOST];
-    match read_named(QUESTION_WORD, &mut question) {
-        Input::Failed => program_outcome::say(Outcome::Trouble),
-        Input::Whole(length) => tell(sheet_plain::ask(book, &question[..length])),
+    match read_named(rt, QUESTION_WORD, &mut question) {
+        Input::Failed(_) => program_outcome::say(rt, Outcome::Trouble),
+        Input::Whole(length) => tell(rt, sheet_plain::ask(book, &question[..length])),
     }
 }
 
-fn main() {
+fn main(rt: HostRuntime) {
     let mut book = [0u8; BOOK_READ_MOST];
-    match read_named(BOOK_WORD, &mut book) {
-        Input::Failed => program_outcome::say(Outcome::Trouble),
-        Input::Whole(length) => ask_question(&book[..length]),
+    match read_named(&rt, BOOK_WORD, &mut book) {
+        Input::Failed(_) => program_outcome::say(&rt, Outcome::Trouble),
+        Input::Whole(length) => ask_question(&rt, &book[..length]),
     }
 }

@@ -10,7 +10,7 @@ ghost use Rattle.program_replay.specs.Outcomes.{replay_outcome};
 
 use book_block::BLOCK;
 use ground::SETTINGS_MOST;
-use program_files::{Input, read_named};
+use program_files::{Input, read_named, word_in, word_room};
 use program_outcome::Outcome;
 use refusal::Refusal;
 use station_print::{REPLAY_MOST, ReplayTold};
@@ -42,65 +42,78 @@ fn outcome_of(told: ReplayTold) -> Outcome
 }
 
 // Writes out a refusal, and says whose it is.
-fn refuse(why: Refusal, whose: &[u8], outcome: Outcome) {
+fn refuse(rt: &HostRuntime, why: Refusal, whose: &[u8], outcome: Outcome) {
     let numbers = why.numbers();
-    program_outcome::refuse(numbers.number, numbers.place, numbers.place, whose, outcome);
+    program_outcome::refuse(
+        rt,
+        numbers.number,
+        numbers.place,
+        numbers.place,
+        whose,
+        outcome,
+    );
 }
 
 // Writes out what is printed of a shift with a fault, and says which fault.
-fn stop(why: Refusal, answer: &[u8], outcome: Outcome) {
+fn stop(rt: &HostRuntime, why: Refusal, answer: &[u8], outcome: Outcome) {
     let numbers = why.numbers();
-    program_outcome::deliver_fault(answer, outcome, numbers.number, numbers.place, b"shift\n");
+    program_outcome::deliver_fault(
+        rt,
+        answer,
+        outcome,
+        numbers.number,
+        numbers.place,
+        b"shift\n",
+    );
 }
 
 // Says what START must be.
-fn no_start(outcome: Outcome) {
-    program_files::write_all(
-        libc::STDERR_FILENO,
-        b"parjolenc: START must name each setting of the book once, as in 'a ~b c ~d', where ~ is off\n",
+fn no_start(rt: &HostRuntime, outcome: Outcome) {
+    let _ = rt.eprintln(
+        "parjolenc: START must name each setting of the book once, as in 'a ~b c ~d', where ~ is off",
     );
-    program_outcome::say_whose(outcome, b"start\n");
+    program_outcome::say_whose(rt, outcome, b"start\n");
 }
 
 // Runs the shift, and writes out what comes of it.
-fn replay(book: &[u8], start: &[u8], shift: &[u8]) {
+fn replay(rt: &HostRuntime, book: &[u8], start: &[u8], shift: &[u8]) {
     let mut out = [0u8; REPLAY_MOST];
     let told = station_print::print(book, start, shift, &mut out);
     let outcome = outcome_of(told);
     match told {
-        ReplayTold::Done(length) => program_outcome::deliver(&out[..length], outcome),
-        ReplayTold::Stopped(why, length) => stop(why, &out[..length], outcome),
-        ReplayTold::BookRefused(why) => refuse(why, b"book\n", outcome),
-        ReplayTold::NoStart => no_start(outcome),
-        ReplayTold::ShiftRefused(why) => refuse(why, b"shift\n", outcome),
+        ReplayTold::Done(length) => program_outcome::deliver(rt, &out[..length], outcome),
+        ReplayTold::Stopped(why, length) => stop(rt, why, &out[..length], outcome),
+        ReplayTold::BookRefused(why) => refuse(rt, why, b"book\n", outcome),
+        ReplayTold::NoStart => no_start(rt, outcome),
+        ReplayTold::ShiftRefused(why) => refuse(rt, why, b"shift\n", outcome),
     }
 }
 
 // Takes START, and runs the shift. A START that is too long for its room names no settings.
-fn replay_from_start(book: &[u8], shift: &[u8]) {
-    let mut start = io::buffer();
-    let length = os::arg(START_WORD, &mut start);
-    replay(book, &start[..length], shift);
+fn replay_from_start(rt: &HostRuntime, book: &[u8], shift: &[u8]) {
+    let mut start = word_room();
+    let length = word_in(rt, START_WORD, &mut start);
+    replay(rt, book, &start[..length], shift);
 }
 
 // Reads the shift into this room, and runs it.
-fn replay_named(book: &[u8], room: &mut [u8]) {
-    match read_named(SHIFT_WORD, room) {
-        Input::Failed => program_outcome::say(Outcome::Trouble),
-        Input::Whole(length) => replay_from_start(book, &room[..length]),
+fn replay_named(rt: &HostRuntime, book: &[u8], room: &mut [u8]) {
+    match read_named(rt, SHIFT_WORD, room) {
+        Input::Failed(_) => program_outcome::say(rt, Outcome::Trouble),
+        Input::Whole(length) => replay_from_start(rt, book, &room[..length]),
     }
 }
 
 // The room for a shift, which another function fills: so the prover never writes it out.
-fn replay_over(book: &[u8]) {
+fn replay_over(rt: &HostRuntime, book: &[u8]) {
     let mut room = [0u8; SHIFT_ROOM];
-    replay_named(book, &mut room);
+    replay_named(rt, book, &mut room);
 }
 
-fn main() {
+fn main(rt: HostRuntime) {
     let mut book = [0u8; BOOK_ROOM];
-    match read_named(BOOK_WORD, &mut book) {
-        Input::Failed => program_outcome::say(Outcome::Trouble),
-        Input::Whole(length) => replay_over(&book[..length]),
+    match read_named(&rt, BOOK_WORD, &mut book) {
+        Input::Failed(_) => program_outcome::say(&rt, Outcome::Trouble),
+        Input::Whole(length) => replay_over(&rt, &book[..length]),
     }
 }

@@ -67,29 +67,30 @@ fn closed_line(marks: u8, out: &mut [u8]) -> usize
 }
 
 // Makes the book, and says which settings were closed.
-fn make(marks: u8, book: &[u8]) {
-    if !program_files::make_named(BOOK_WORD, book) {
-        program_outcome::say(Outcome::Trouble);
+fn make(rt: &HostRuntime, marks: u8, book: &[u8]) {
+    if !program_files::make_named(rt, BOOK_WORD, book) {
+        program_outcome::say(rt, Outcome::Trouble);
         return;
     }
     let mut line = [0u8; LINE_MOST];
     let length = closed_line(marks, &mut line);
     if length <= line.len() {
-        program_outcome::deliver(&line[..length], Outcome::Done);
+        program_outcome::deliver(rt, &line[..length], Outcome::Done);
     }
 }
 
 // The book salvaged, or its refusal.
-fn salvage(damaged: &[u8]) {
+fn salvage(rt: &HostRuntime, damaged: &[u8]) {
     let mut book = [0u8; BOOK_MOST];
     match book_salvage::salvage(damaged, &mut book) {
         SalvageAnswer::Salvaged { marks, count: _ } => {
             let length = damaged.len();
-            make(marks, &book[..length]);
+            make(rt, marks, &book[..length]);
         }
         SalvageAnswer::Refused(why) => {
             let numbers = why.numbers();
             program_outcome::refuse(
+                rt,
                 numbers.number,
                 numbers.place,
                 numbers.place,
@@ -100,10 +101,10 @@ fn salvage(damaged: &[u8]) {
     }
 }
 
-fn main() {
+fn main(rt: HostRuntime) {
     let mut damaged = [0u8; READ_MOST];
-    match program_files::read_named(DAMAGED_WORD, &mut damaged) {
-        Input::Failed => program_outcome::say(Outcome::Trouble),
-        Input::Whole(length) => salvage(&damaged[..length]),
+    match program_files::read_named(&rt, DAMAGED_WORD, &mut damaged) {
+        Input::Failed(_) => program_outcome::say(&rt, Outcome::Trouble),
+        Input::Whole(length) => salvage(&rt, &damaged[..length]),
     }
 }

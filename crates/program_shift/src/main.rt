@@ -17,14 +17,15 @@ const SHIFT_WORD: usize = 2;
 const TEXT_ROOM: usize = SHIFT_MOST + 1;
 
 // The bytes of a shift's text, by way of a room that fits them, or its refusal.
-fn make(text: &[u8], room: &mut [u8])
+fn make(rt: &HostRuntime, text: &[u8], room: &mut [u8])
     requires { 419430 ≡ length room.old }
 {
     match station_text::read(text, room) {
-        ShiftTold::Read(length) => program_outcome::store(SHIFT_WORD, &room[..length]),
+        ShiftTold::Read(length) => program_outcome::store(rt, SHIFT_WORD, &room[..length]),
         ShiftTold::Refused(why) => {
             let numbers = why.numbers();
             program_outcome::refuse(
+                rt,
                 numbers.number,
                 numbers.place,
                 numbers.place,
@@ -37,20 +38,20 @@ fn make(text: &[u8], room: &mut [u8])
 
 // The room for the bytes. A room is filled by another function than the one that has it, so the prover never writes it
 // out.
-fn make_bytes(text: &[u8]) {
+fn make_bytes(rt: &HostRuntime, text: &[u8]) {
     let mut room = [0u8; READ_MOST];
-    make(text, &mut room);
+    make(rt, text, &mut room);
 }
 
 // Reads the text into this room, and makes its bytes.
-fn make_named(room: &mut [u8]) {
-    match program_files::read_named(TEXT_WORD, room) {
-        Input::Failed => program_outcome::say(Outcome::Trouble),
-        Input::Whole(length) => make_bytes(&room[..length]),
+fn make_named(rt: &HostRuntime, room: &mut [u8]) {
+    match program_files::read_named(rt, TEXT_WORD, room) {
+        Input::Failed(_) => program_outcome::say(rt, Outcome::Trouble),
+        Input::Whole(length) => make_bytes(rt, &room[..length]),
     }
 }
 
-fn main() {
+fn main(rt: HostRuntime) {
     let mut text = [0u8; TEXT_ROOM];
-    make_named(&mut text);
+    make_named(&rt, &mut text);
 }

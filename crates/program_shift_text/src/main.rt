@@ -26,9 +26,10 @@ fn shift_outcome(number: u64) -> Outcome
 }
 
 // Writes out a refusal.
-fn refuse(why: Refusal) {
+fn refuse(rt: &HostRuntime, why: Refusal) {
     let numbers = why.numbers();
     program_outcome::refuse(
+        rt,
         numbers.number,
         numbers.place,
         numbers.place,
@@ -38,56 +39,56 @@ fn refuse(why: Refusal) {
 }
 
 // Writes out the text of a shift's bytes, by way of a room that fits it.
-fn print_by(shift: &[u8], room: &mut [u8])
+fn print_by(rt: &HostRuntime, shift: &[u8], room: &mut [u8])
     requires { 2097152 ≡ length room.old }
 {
     match station_text::print(shift, room) {
-        ShiftTold::Read(length) => program_outcome::deliver(&room[..length], Outcome::Done),
-        ShiftTold::Refused(why) => refuse(why),
+        ShiftTold::Read(length) => program_outcome::deliver(rt, &room[..length], Outcome::Done),
+        ShiftTold::Refused(why) => refuse(rt, why),
     }
 }
 
 // The room for the text. A room is filled by another function than the one that has it, so the prover never writes it
 // out.
-fn print_bytes(shift: &[u8]) {
+fn print_bytes(rt: &HostRuntime, shift: &[u8]) {
     let mut room = [0u8; SHIFT_MOST];
-    print_by(shift, &mut room);
+    print_by(rt, shift, &mut room);
 }
 
 // Writes out what a shift's text says, a line an act, by way of a room that fits its bytes.
-fn print_text_by(shift: &[u8], room: &mut [u8])
+fn print_text_by(rt: &HostRuntime, shift: &[u8], room: &mut [u8])
     requires { 419430 ≡ length room.old }
 {
     match station_text::read(shift, room) {
-        ShiftTold::Read(length) => print_bytes(&room[..length]),
-        ShiftTold::Refused(why) => refuse(why),
+        ShiftTold::Read(length) => print_bytes(rt, &room[..length]),
+        ShiftTold::Refused(why) => refuse(rt, why),
     }
 }
 
 // The room for the bytes.
-fn print_text(shift: &[u8]) {
+fn print_text(rt: &HostRuntime, shift: &[u8]) {
     let mut room = [0u8; READ_MOST];
-    print_text_by(shift, &mut room);
+    print_text_by(rt, shift, &mut room);
 }
 
 // Writes out the text of a shift, text or bytes.
-fn print(shift: &[u8]) {
+fn print(rt: &HostRuntime, shift: &[u8]) {
     if station_text::is_text(shift) {
-        print_text(shift);
+        print_text(rt, shift);
     } else {
-        print_bytes(shift);
+        print_bytes(rt, shift);
     }
 }
 
 // Reads the shift into this room, and prints it.
-fn print_named(room: &mut [u8]) {
-    match program_files::read_named(SHIFT_WORD, room) {
-        Input::Failed => program_outcome::say(Outcome::Trouble),
-        Input::Whole(length) => print(&room[..length]),
+fn print_named(rt: &HostRuntime, room: &mut [u8]) {
+    match program_files::read_named(rt, SHIFT_WORD, room) {
+        Input::Failed(_) => program_outcome::say(rt, Outcome::Trouble),
+        Input::Whole(length) => print(rt, &room[..length]),
     }
 }
 
-fn main() {
+fn main(rt: HostRuntime) {
     let mut shift = [0u8; SHIFT_ROOM];
-    print_named(&mut shift);
+    print_named(&rt, &mut shift);
 }

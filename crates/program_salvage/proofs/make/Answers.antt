@@ -1,8 +1,0 @@
--- `make` hands out no byte that is not there: the line is written out only where it fits its room.
-use mathlib.Core.Path.{sym}
-use lib.Seq.{length-take-le}
-use borrow.Author.Rules.{rules}
-use Rattle.program_salvage.proofs.make.Goals as goal
-
-pub slice_bounds-deliver-end : goal.slice_bounds-deliver-end
-slice_bounds-deliver-end c = sym (length-take-le _ _ (search rules))
