@@ -17,7 +17,7 @@ use Rattle.refusal.specs.declared.Refusal.{Refusal}
 use Rattle.refusal.specs.declared.Refusal.TheVariants.{Settings}
 use Rattle.refusal.specs.Refusals.{place}
 use Rattle.refusal.specs.Order.{First, Never, when}
-use Rattle.refusal.proofs.OrderLaws.{first_unique, first-clear, when-never, PlacesBelow, first-place-below, places_append}
+use Rattle.refusal.proofs.OrderLaws.{first_unique, first-clear, when-never, first-place-below, places_append}
 use Rattle.ground.specs.Bounds.{SettingsFit}
 use Rattle.ground.proofs.Bools.{lt_or_ge}
 use Rattle.book.specs.Rows.{read_rows, write_rows}

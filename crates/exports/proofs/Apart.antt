@@ -1,7 +1,7 @@
 -- A host takes a result apart. The upper half is 0 exactly for a success; of a refusal it holds the number, and above it the second number, and the lower
 -- half is the place; and a book's n and m, a salvage's count and marks, and a plan's height and length, come back by one division each: every place and every length that is given
 -- has room, but for a record's index past 2^32.
-use mathlib.Core.Path.{◌≡◌, refl, sym, ap, ◌∙◌, subst}
+use mathlib.Core.Path.{◌≡◌, refl, ap, ◌∙◌, subst}
 use mathlib.Core.List.{List}
 use Prim.Native.Nat.{ℕ, ◌+◌, ◌*◌, ◌/◌, ◌%◌, ◌^◌, ◌≤◌, ◌<◌}
 use native.Mathlib.Nat.{div-eq_of_lt, mod-eq_of_lt}

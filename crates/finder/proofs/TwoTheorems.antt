@@ -1,10 +1,10 @@
 -- What is promised of `find_two`, about its contract: "reach" exactly when there is a plan of the first team that works and leaves the second team a
 -- working plan at each of its stops; the height named is the least, and the plan written is such a plan. What it gives is settled, all three rooms
 -- included, and what each refusal leaves. Demand 3 is not claimed of two legs.
-use mathlib.Core.Path.{◌≡◌, refl, sym, ap, ◌∙◌, subst}
+use mathlib.Core.Path.{◌≡◌, sym, ap, ◌∙◌, subst}
 use mathlib.Core.Logic.{◌⊎◌, inl, inr}
 use mathlib.Core.List.{List, ◌++◌}
-use Prim.Native.Nat.{ℕ, ◌^◌, ◌≤◌, ◌<◌}
+use Prim.Native.Nat.{ℕ, ◌≤◌, ◌<◌}
 use native.Mathlib.Omega.{arith}
 use lib.ListN.{length, drop}
 use Rattle.refusal.specs.declared.Refusal.{Refusal}

@@ -1,7 +1,7 @@
 -- A working plan of height below h exists exactly where layer h says so (`sound`, `complete`): a layer has the goal's states and those with an act
 -- into the layer before it, so a plan's first act takes both from one layer to the one before.
 use mathlib.Core.Logic.{◌⊎◌, inl, inr}
-use mathlib.Core.Bool.{Bool, true, false, ◌||◌}
+use mathlib.Core.Bool.{true, false}
 use Prim.Native.Nat.{ℕ, zero, suc, ◌+◌, ◌≤◌, ◌<◌}
 use native.Mathlib.Nat.{zero-add, suc-add, add_comm, le_dest}
 use native.Mathlib.Omega.{arith}

@@ -1,6 +1,6 @@
 -- Two legs: the first leg as a system of its own has exactly the plans that work and leave the second team a working plan at each stop. So its least
 -- height, its "cannot" and its ranks are those of two legs.
-use mathlib.Core.Path.{◌≡◌, refl}
+use mathlib.Core.Path.{◌≡◌}
 use mathlib.Core.Logic.{◌↔◌, ◌⊎◌, inl, inr}
 use mathlib.Core.Bool.{Bool, true, false, ◌&&◌}
 use Prim.Native.Nat.{ℕ, suc, ◌-◌, ◌^◌, ◌≤◌, ◌<◌}
@@ -9,9 +9,8 @@ use lib.Dec.{T}
 use Rattle.ground.specs.Search.{Least}
 use Rattle.ground.proofs.Bools.{and_in, and_left, and_right}
 use Rattle.knowledge_acts.specs.Acts.{set_to, look_at}
-use Rattle.plan.specs.Plans.{System, may, Lawful, Plan, stop, set_then, look_then, Works, height}
-use Rattle.plan.specs.Ranks.{Reach, Cannot, IsRank}
-use Rattle.plan.specs.Layers.{below}
+use Rattle.plan.specs.Plans.{System, Lawful, Plan, stop, set_then, look_then, Works, height}
+use Rattle.plan.specs.Ranks.{Reach, IsRank}
 use Rattle.plan.specs.Legs.{WorksThen, ReachThen, can_from, with_goal, first_leg}
 use Rattle.plan.proofs.Layers.{sound, complete}
 use Rattle.plan.proofs.Bound.{bound}

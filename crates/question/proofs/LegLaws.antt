@@ -1,13 +1,13 @@
 -- A question of two legs: which refusal it meets, from what the code found, that what `ask_two` gives is settled; and that its second leg is a valid
 -- question of its own, so that both legs' systems are lawful.
 use mathlib.Core.Path.{◌≡◌, refl, sym, ap, ap₂, subst}
-use mathlib.Core.List.{List, [], ◌∷◌}
+use mathlib.Core.List.{List}
 use Prim.Native.Nat.{ℕ}
 use Rattle.refusal.specs.declared.Refusal.{Refusal}
 use Rattle.refusal.specs.declared.Refusal.TheVariants.{Team, Goal as WrongGoal}
-use Rattle.refusal.specs.Order.{Row, when, First, Clear}
+use Rattle.refusal.specs.Order.{First, Clear}
 use Rattle.refusal.proofs.OrderLaws.{first-when, first_past, first-left, first-right, first_unique, first-clear, clear-append, clear-past, clear_none}
-use Rattle.book_sound.specs.Rows.{settings_of, posts_of}
+use Rattle.book_sound.specs.Rows.{posts_of}
 use Rattle.book_sound.proofs.SoundLaws.{sound-settings, sound-posts}
 use Rattle.book_sound.proofs.Theorems.{sound-one}
 use Rattle.knowledge.specs.Goal.{Goal}

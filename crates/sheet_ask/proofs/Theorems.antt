@@ -1,6 +1,6 @@
 -- What is promised of what `ask` prints, about its contract: it is settled, both rooms included; it has at most 456,970 bytes; and what it is for a text of
 -- one leg and of two.
-use mathlib.Core.Path.{◌≡◌, refl, sym, ap, ◌∙◌, subst, subst₂}
+use mathlib.Core.Path.{◌≡◌, sym, ◌∙◌, subst, subst₂}
 use mathlib.Core.Logic.{◌⊎◌, inl, inr}
 use mathlib.Core.Bool.{true}
 use mathlib.Core.List.{List}
@@ -17,8 +17,7 @@ use Rattle.book_sound.proofs.SoundLaws.{sound-clear}
 use Rattle.book_sound.proofs.Theorems.{sound-one, book_place-small}
 use Rattle.knowledge.specs.Goal.{Goal}
 use Rattle.plan.specs.Plans.{System, Lawful, Plan, height}
-use Rattle.plan.specs.Ranks.{Reach}
-use Rattle.plan.specs.Legs.{WorksThen, ReachThen, first_leg}
+use Rattle.plan.specs.Legs.{WorksThen, ReachThen}
 use Rattle.plan.proofs.Legs.{then_works, works_then, reach_then, then_reach}
 use Rattle.plan.proofs.Written.{written_works, written-height}
 use Rattle.print_answer.specs.Printed.{reach_text, cannot_text, Prints}
@@ -32,7 +31,7 @@ use Rattle.question.proofs.LegLaws.{first_leg_lawful, second_lawful}
 use Rattle.sheet_question.specs.Asked.{Asked}
 use Rattle.sheet_question.specs.Question.{QuestionMeaning, refused, asked, question_meaning}
 use Rattle.sheet_words.specs.Words.{split, newline}
-use Rattle.sheet_legs.specs.Legs.{Cut, whole, cut_lines, LegsMeaning, refused-at, one, two, one_leg, legs_meaning}
+use Rattle.sheet_legs.specs.Legs.{whole, cut_lines, LegsMeaning, refused-at, one, two, one_leg, legs_meaning}
 use Rattle.sheet_legs.proofs.CutLaws.{no_then, one-asked}
 use Rattle.sheet_legs.proofs.Whole.{LegsFit, legs_fit, LegsMost, legs_most}
 use Rattle.sheet_ask.specs.Asks.{QuestionAsks, SecondAsks, PrintsFound, PrintsRefused, PrintsAsked, PrintsQuestion, PrintsTwo, PrintsLegs, AsksBook}

@@ -1,6 +1,6 @@
 -- What the finder answers to valid legs with room for the ranks of both: it refuses nothing; what it found can be printed; and with the second leg's ranks
 -- behind the first's, one table holds both.
-use mathlib.Core.Path.{◌≡◌, sym, ap, ◌∙◌, subst}
+use mathlib.Core.Path.{◌≡◌, sym, ◌∙◌, subst}
 use mathlib.Core.Logic.{inl, inr}
 use mathlib.Core.List.{List}
 use Prim.Native.Nat.{ℕ, ◌+◌, ◌-◌, ◌*◌, ◌^◌, ◌≤◌, ◌<◌}

@@ -1,7 +1,7 @@
 -- Question texts with a line `then` computed: a shift change, and the refusals that are easy to get wrong. Each holds by computing the meaning.
 use mathlib.Core.Path.{◌≡◌, refl}
 use mathlib.Core.List.{[], ◌∷◌}
-use mathlib.Core.Bool.{true, false}
+use mathlib.Core.Bool.{false}
 use Rattle.ground.specs.Text.{bytes}
 use Rattle.refusal.specs.declared.Refusal.TheVariants.{LetterPast, Malformed, Twice}
 use Rattle.formula_grammar.specs.Signs.{is_letter, is_sign, is_stray, is_past}

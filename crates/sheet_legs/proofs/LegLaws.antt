@@ -20,7 +20,7 @@ use Rattle.sheet_question.specs.declared.QuestionTold.TheVariants.{Stated}
 use Rattle.sheet_question.specs.declared.QuestionTold.TheVariants.{Refused as NotAsked}
 use Rattle.sheet_question.proofs.ReadLaws.{not-long}
 use Rattle.sheet_question.proofs.SecondLaws.{second-not-long}
-use Rattle.sheet_legs.specs.Legs.{Cut, cut_lines, LegsMeaning, refused-at, one, two, one_leg, first_then, legs_of, legs_meaning}
+use Rattle.sheet_legs.specs.Legs.{LegsMeaning, refused-at, one, two, first_then, legs_of, legs_meaning}
 use Rattle.sheet_legs.specs.Reads.{CutsAt, ReadsLegs}
 use Rattle.sheet_legs.specs.declared.LegsTold.{LegsTold}
 use Rattle.sheet_legs.specs.declared.LegsTold.TheVariants.{One, Two, Refused}

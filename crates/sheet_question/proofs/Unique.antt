@@ -71,8 +71,8 @@ turn_one n (fault r) (No why) (No else) a b e f = (ap No (e ∙ sym f), λ due z
 turn_one n (next (due, v)) (Next d) (Next c) a b (e, h) (f, k) = (ap Next (e ∙ sym f), λ x z. asked-one n v a b h k)
 turn_one n (fault r) (Next d) y a b e f = elim e [ ]
 turn_one n (fault r) (No why) (Next c) a b e f = elim f [ ]
-turn_one n (next (due , v)) (Next d) (No else) a b e f = elim f [ ]
-turn_one n (next (due , v)) (No why) y a b e f = elim e [ ]
+turn_one n (next (due, v)) (Next d) (No else) a b e f = elim f [ ]
+turn_one n (next (due, v)) (No why) y a b e f = elim e [ ]
 
 -- ---- what is read
 

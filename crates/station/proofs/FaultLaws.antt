@@ -1,13 +1,12 @@
 -- What each fault is, as the request lists it: the causes of 27, and that 29 is of looks alone.
-use mathlib.Core.Path.{◌≡◌, refl, sym, ap, ◌∙◌, subst}
-use mathlib.Core.Logic.{◌⊎◌, inl, inr, ◌↔◌}
-use mathlib.Core.Bool.{Bool, true, false}
+use mathlib.Core.Path.{◌≡◌, refl, sym, ap, ◌∙◌}
+use mathlib.Core.Logic.{inl, inr}
 use mathlib.Core.List.{List}
-use Prim.Native.Nat.{ℕ, zero, suc, ◌-◌, ◌/◌, ◌%◌, ◌^◌, ◌≤◌, ◌<◌}
+use Prim.Native.Nat.{ℕ, ◌-◌, ◌/◌, ◌%◌, ◌^◌, ◌≤◌, ◌<◌}
 use native.Mathlib.Nat.{mod-lt}
 use native.Mathlib.Omega.{arith}
 use lib.Dec.{T}
-use borrow.Author.Tests.{lt-ltb, le-ltb, le-leb, lt-leb}
+use borrow.Author.Tests.{lt-ltb, le-leb, lt-leb}
 use Rattle.ground.proofs.Bits.{below_2}
 use Rattle.ground.proofs.Bools.{lt_or_ge}
 use Rattle.knowledge_acts.specs.Acts.{setting_of, post_of, of_kind, act_of}
@@ -16,7 +15,7 @@ use Rattle.knowledge_acts.specs.declared.act.Act.TheVariants.{Set, Look}
 use Rattle.knowledge_acts.specs.declared.act.Named.{Named}
 use Rattle.knowledge_acts.specs.declared.act.Named.TheVariants.{One, Nothing}
 use Rattle.knowledge_acts.proofs.Acts.{setting_of_kind, post_of_kind, kind_look}
-use Rattle.station.specs.Station.{of_book, allowed, shown, seen_most}
+use Rattle.station.specs.Station.{allowed, seen_most}
 use Rattle.station.specs.Shift.{IsRecord, no_record, disagrees, IsAtFault}
 use Rattle.station.proofs.Laws.{of_book_lem, book_has, look_shows}
 use Rattle.station.proofs.RecordLaws.{one_act, names-none}

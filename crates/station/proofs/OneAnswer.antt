@@ -1,9 +1,9 @@
 -- The contract of `replay` allows one answer alone: no record is both faultless and at fault, nor at fault for two things, so two answers have come equally
 -- far; and none of the rows is given where a shift is played.
 use mathlib.Core.Path.{◌≡◌, refl, sym, ap, ap₂, ◌∙◌, subst}
-use mathlib.Core.Logic.{◌⊎◌, inl, inr}
+use mathlib.Core.Logic.{inl, inr}
 use mathlib.Core.List.{List}
-use Prim.Native.Nat.{ℕ, ◌<◌, ◌≤◌}
+use Prim.Native.Nat.{ℕ, ◌<◌}
 use native.Mathlib.Omega.{arith}
 use lib.Dec.{T}
 use Rattle.ground.proofs.Bools.{lt_or_ge}
@@ -19,7 +19,7 @@ use Rattle.station.specs.declared.record.Running.{Running}
 use Rattle.station.specs.declared.shift.Replayed.{Replayed}
 use Rattle.station.specs.declared.shift.Replayed.TheVariants.{Whole, Stopped, Refused}
 use Rattle.station.specs.Station.{allowed, shown}
-use Rattle.station.specs.Shift.{records, act_byte, seen_byte, settings_at, IsRecord, IsFaultless, RecordFault, no_record, not-allowed, disagrees}
+use Rattle.station.specs.Shift.{act_byte, seen_byte, settings_at, IsRecord, IsFaultless, RecordFault, no_record, not-allowed, disagrees}
 use Rattle.station.specs.Shift.{IsAtFault, fault_at, Reached, StopsAt}
 use Rattle.station.specs.Replay.{ShiftFits, replay_rows, Plays, PlaysAs, Replays}
 use Rattle.station.proofs.RecordLaws.{one_act}

@@ -1,9 +1,9 @@
 -- One record of a shift, judged by one test after the other: one law for each way out. A record names one act at most.
-use mathlib.Core.Path.{◌≡◌, refl, sym, ap, ◌∙◌}
+use mathlib.Core.Path.{◌≡◌, refl, sym, ap}
 use mathlib.Core.Bool.{true, false}
 use mathlib.Core.List.{List}
 use Prim.Native.Nat.{ℕ}
-use lib.Dec.{T, leb, T_not}
+use lib.Dec.{leb, T_not}
 use borrow.Author.Tests.{leb-true, leb-false}
 use native.Mathlib.Omega.{arith}
 use Rattle.ground.proofs.Bools.{true→T, false→T}
@@ -13,7 +13,7 @@ use Rattle.knowledge_acts.specs.declared.act.Named.TheVariants.{One, Nothing}
 use Rattle.refusal.specs.declared.Refusal.TheVariants.{NoRecord, NotAllowed, Disagrees}
 use Rattle.station.specs.declared.judge.Judged.TheVariants.{Faultless, AtFault}
 use Rattle.station.specs.Station.{of_book, allowed, shown, seen_most}
-use Rattle.station.specs.Shift.{IsRecord, IsFaultless, no_record, not-allowed, disagrees}
+use Rattle.station.specs.Shift.{IsRecord, no_record, not-allowed, disagrees}
 use Rattle.station.specs.Inner.{Judges}
 
 -- the act that is named, or another where none is

@@ -1,6 +1,6 @@
 -- How a shift is read: the act byte stands first and what was seen second, records follow one another, and each act meets the settings that those before it
 -- left. And what was reached is a valuation of the book's settings.
-use mathlib.Core.Path.{◌≡◌, refl, sym, ap, ◌∙◌}
+use mathlib.Core.Path.{◌≡◌, refl, ap, ◌∙◌}
 use mathlib.Core.List.{List, [], ◌∷◌}
 use Prim.Native.Nat.{ℕ, zero, suc, ◌+◌, ◌*◌, ◌^◌, ◌<◌}
 use native.Mathlib.Omega.{arith}
@@ -9,7 +9,7 @@ use Rattle.ground.specs.Digits.{put}
 use Rattle.knowledge_acts.specs.Acts.{act_of}
 use Rattle.plan.specs.Runs.{change}
 use Rattle.station.specs.declared.record.Running.{Running}
-use Rattle.station.specs.Station.{leaves, left_by}
+use Rattle.station.specs.Station.{leaves}
 use Rattle.station.specs.Shift.{act_byte, seen_byte, settings_at, IsFaultless, Reached}
 use Rattle.station.proofs.Laws.{left_lt, book_has}
 

@@ -1,11 +1,11 @@
 -- What is printed fits what was played: the words are those of the fault, the settings are a START for the next shift, and the line that is said is the one
 -- whose two bytes the replay read.
-use mathlib.Core.Path.{◌≡◌, refl, ap, ap₂, ◌∙◌}
+use mathlib.Core.Path.{◌≡◌, refl, ap, ◌∙◌}
 use mathlib.Core.List.{List, [], ◌∷◌}
 use Prim.Native.Nat.{ℕ, ◌+◌, ◌*◌, ◌<◌}
 use native.Mathlib.Omega.{arith}
 use lib.Dec.{T}
-use lib.ListN.{length, get_or}
+use lib.ListN.{get_or}
 use Rattle.refusal.specs.declared.Refusal.{Refusal}
 use Rattle.refusal.specs.Refusals.{number}
 use Rattle.sheet_words.specs.Words.{split, newline}
@@ -15,7 +15,7 @@ use Rattle.station.specs.declared.record.Running.{Running}
 use Rattle.station.specs.declared.shift.Replayed.TheVariants.{Whole, Stopped}
 use Rattle.station.proofs.ShiftShape.{reached-below}
 use Rattle.station_text.specs.Lines.{line_record}
-use Rattle.station_text.specs.Meaning.{gives, lines_bytes, line_of, read_meaning}
+use Rattle.station_text.specs.Meaning.{gives, line_of, read_meaning}
 use Rattle.station_text.specs.Grammar.{GivesAt}
 use Rattle.station_text.proofs.Theorems.{bytes-given, line_gives}
 use Rattle.station_print.specs.Start.{start_words, names_all, StartIs}

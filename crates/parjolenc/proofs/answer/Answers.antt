@@ -3,7 +3,6 @@ use mathlib.Core.Path.{sym}
 use native.Mathlib.Omega.{arith}
 use lib.Seq.{length-take-le}
 use Rattle.sheet.proofs.Theorems.{answer-most}
-use borrow.Author.Rules.{rules}
 use Rattle.parjolenc.proofs.answer.Goals as goal
 
 pub slice_bounds-out-end : goal.slice_bounds-out-end

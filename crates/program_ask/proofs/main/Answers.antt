@@ -2,7 +2,6 @@
 use mathlib.Core.Path.{sym, subst}
 use lib.Seq.{length-take-le}
 use Rattle.program_files.specs.Input.{InRoom}
-use borrow.Author.Rules.{rules}
 use Rattle.program_ask.proofs.main.Goals as goal
 
 pub slice_bounds-book-end : goal.slice_bounds-book-end

@@ -4,7 +4,6 @@ use Prim.Native.Nat.{ℕ}
 use lib.ListN.{length-replicate}
 use lib.Seq.{length-take-le}
 use Rattle.program_files.specs.Input.{InRoom}
-use borrow.Author.Rules.{rules}
 use Rattle.program_check.proofs.check_plan.Goals as goal
 
 pub slice_bounds-read_named-end : goal.slice_bounds-read_named-end

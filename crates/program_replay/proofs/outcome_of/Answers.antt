@@ -1,7 +1,6 @@
 -- `outcome_of` meets its contract: one way for each case.
 use mathlib.Core.Path.{sym, ap}
 use Rattle.program_replay.specs.Outcomes.{replay_outcome}
-use borrow.Author.Rules.{rules}
 use Rattle.program_replay.proofs.outcome_of.Goals as goal
 
 pub returns-in-Done : goal.returns-in-Done

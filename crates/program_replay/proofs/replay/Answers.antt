@@ -10,7 +10,7 @@ use Rattle.program_replay.proofs.replay.Goals as goal
 pub slice_bounds-out-end : goal.slice_bounds-out-end
 slice_bounds-out-end c =
     let printed-fits : text_bytes c.print-told.result ≤ 151 =
-        let a = c.args in
+    let a = c.args in
     printed-most a.book.now a.start.now a.shift.now (λ i. (omega (arith, c.type_inv.shift i))) _ _ _ c.print-told.ensures in
     let most = subst (λ (r : ReplayTold). text_bytes r ≤ 151) c.in-Done.is (printed-fits) in
     search rules
@@ -18,7 +18,7 @@ slice_bounds-out-end c =
 pub slice_bounds-deliver-end : goal.slice_bounds-deliver-end
 slice_bounds-deliver-end c =
     let printed-fits : text_bytes c.print-told.result ≤ 151 =
-        let a = c.args in
+    let a = c.args in
     printed-most a.book.now a.start.now a.shift.now (λ i. (omega (arith, c.type_inv.shift i))) _ _ _ c.print-told.ensures in
     let most = subst (λ (r : ReplayTold). text_bytes r ≤ 151) c.in-Done.is (printed-fits) in
     sym (length-take-le _ _ (search rules))
@@ -26,7 +26,7 @@ slice_bounds-deliver-end c =
 pub slice_bounds-out-end-in-Stopped : goal.slice_bounds-out-end-in-Stopped
 slice_bounds-out-end-in-Stopped c =
     let printed-fits : text_bytes c.print-told.result ≤ 151 =
-        let a = c.args in
+    let a = c.args in
     printed-most a.book.now a.start.now a.shift.now (λ i. (omega (arith, c.type_inv.shift i))) _ _ _ c.print-told.ensures in
     let most = subst (λ (r : ReplayTold). text_bytes r ≤ 151) c.in-Stopped.is (printed-fits) in
     search rules
@@ -34,7 +34,7 @@ slice_bounds-out-end-in-Stopped c =
 pub slice_bounds-stop-end : goal.slice_bounds-stop-end
 slice_bounds-stop-end c =
     let printed-fits : text_bytes c.print-told.result ≤ 151 =
-        let a = c.args in
+    let a = c.args in
     printed-most a.book.now a.start.now a.shift.now (λ i. (omega (arith, c.type_inv.shift i))) _ _ _ c.print-told.ensures in
     let most = subst (λ (r : ReplayTold). text_bytes r ≤ 151) c.in-Stopped.is (printed-fits) in
     sym (length-take-le _ _ (search rules))

@@ -2,7 +2,6 @@
 use mathlib.Core.Path.{sym, subst}
 use lib.Seq.{length-take-le}
 use Rattle.program_files.specs.Input.{InRoom}
-use borrow.Author.Rules.{rules}
 use Rattle.program_replay.proofs.replay_named.Goals as goal
 
 pub slice_bounds-replay_from_start-end : goal.slice_bounds-replay_from_start-end

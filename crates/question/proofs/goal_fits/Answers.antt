@@ -4,7 +4,6 @@ use Rattle.ground.specs.Table.{Within}
 use Rattle.ground.proofs.Answers.{told, untold, tells_iff}
 use Rattle.knowledge.specs.Goal.{goal_of}
 use Rattle.question.specs.Rows.{LearnWithin, GoalFits}
-use borrow.Author.Rules.{rules}
 use Rattle.question.proofs.goal_fits.Goals as goal
 
 pub returns-then-learn-gt-LEARN_MOST : goal.returns-then-learn-gt-LEARN_MOST

@@ -3,7 +3,6 @@ use mathlib.Core.Path.{refl, subst}
 use mathlib.Core.Logic.{inl, inr}
 use Rattle.book_sound.specs.Promise.{Judges}
 use Rattle.sheet_ask.proofs.FoundLaws.{numbers-printed}
-use borrow.Author.Rules.{rules}
 use Rattle.sheet_ask.proofs.ask.Goals as goal
 
 pub ask_sound-requires : goal.ask_sound-requires

@@ -7,7 +7,6 @@ use Rattle.print_room.proofs.Writing.{wrote_then, wrote_as}
 use Rattle.station_print.specs.Faults.{fault_text}
 use Rattle.station_print.specs.Printed.{stopped_text}
 use Rattle.station_print.proofs.Lengths.{reached-length, fault-length}
-use borrow.Author.Rules.{rules}
 use Rattle.station_print.proofs.stopped.Goals as goal
 
 pub reached-to-requires : goal.reached-to-requires

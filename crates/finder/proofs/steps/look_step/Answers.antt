@@ -1,5 +1,4 @@
 -- `look_step` meets its contract: by the digit, the bit of the table and the three entries of the rank table.
-use borrow.Author.Rules.{rules}
 use Prim.Native.Nat.{ℕ, ◌<◌, ◌≤◌}
 use mathlib.Core.Path.{sym, ◌∙◌, subst}
 use mathlib.Core.Bool.{false, true}

@@ -1,6 +1,5 @@
 -- `finder::two::fill_leg` meets its contract: the tables tell the system of the question's rules, whose ranks are those without the sets that change
 -- nothing.
-use borrow.Author.Rules.{rules}
 use Rattle.knowledge.specs.Goal.{goal_of}
 use Rattle.plan.specs.Plans.{System}
 use Rattle.question.proofs.SystemLaws.{from_ruled}

@@ -1,5 +1,4 @@
 -- `settled` meets its contract: where the entry is above 0 the goal is not settled.
-use borrow.Author.Rules.{rules}
 use mathlib.Core.Path.{◌∙◌}
 use native.Mathlib.Omega.{arith}
 use Rattle.knowledge_judging.proofs.GoalLaws.{unguarded}

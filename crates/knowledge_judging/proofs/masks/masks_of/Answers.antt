@@ -1,13 +1,11 @@
 -- `knowledge_judging::masks::masks_of` meets its contract. The loop's invariant: the first i settings are in the masks. The measure is what is left of
 -- the n settings.
-use borrow.Author.Rules.{rules}
-use mathlib.Core.Path.{◌≡◌, sym}
+use mathlib.Core.Path.{sym}
 use native.Mathlib.Nat.{pow-zero}
-use Prim.Native.Nat.{◌^◌, ◌≤◌, ◌-◌}
+use Prim.Native.Nat.{◌-◌}
 use native.Mathlib.Omega.{arith}
 use Rattle.knowledge.specs.Number.{digit_in}
-use Rattle.knowledge_judging.specs.Sides.{told_of}
-use Rattle.knowledge_judging.proofs.MaskLaws.{MasksTo, no_masks, masks_turn, mask_fits, bit-most, bit-next, all_masks, side_three}
+use Rattle.knowledge_judging.proofs.MaskLaws.{no_masks, masks_turn, mask_fits, bit-most, bit-next, all_masks, side_three}
 use Rattle.knowledge_judging.proofs.masks.masks_of.Goals as goal
 
 pub loop-i-init : goal.loop-i-init

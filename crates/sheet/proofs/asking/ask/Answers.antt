@@ -4,7 +4,6 @@ use Prim.Native.Nat.{ℕ}
 use lib.ListN.{replicate, length-replicate}
 use lib.Seq.{length-take-le}
 use Rattle.sheet.proofs.DeskQuestion.{plan-fits, plan-readable, plan-told, cannot_told, never-refused}
-use borrow.Author.Rules.{rules}
 use Rattle.sheet.proofs.asking.ask.Goals as goal
 
 pub slice_bounds-plan-end : goal.slice_bounds-plan-end

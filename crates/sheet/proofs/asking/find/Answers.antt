@@ -6,7 +6,6 @@ use lib.ListN.{length, length-replicate}
 use lib.Seq.{length-take-le}
 use Rattle.sheet.specs.Inner.{learn_in}
 use Rattle.sheet.proofs.DeskQuestion.{book_length, desk_found}
-use borrow.Author.Rules.{rules}
 use Rattle.sheet.proofs.asking.find.Goals as goal
 
 pub slice_bounds-find-end : goal.slice_bounds-find-end

@@ -5,7 +5,6 @@ use Prim.Native.Nat.{ℕ, ◌^◌}
 use native.Mathlib.Nat.{min-eq_left}
 use native.Mathlib.Omega.{arith}
 use Rattle.question.proofs.SystemLaws.{few}
-use borrow.Author.Rules.{rules}
 use Rattle.sheet_ask.proofs.two.answered_two.Goals as goal
 
 pub returns-then-ranks-count : goal.returns-then-ranks-count

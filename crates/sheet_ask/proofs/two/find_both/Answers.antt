@@ -1,6 +1,5 @@
 -- `find_both` meets its contract: the finder refuses nothing, and its second table is copied behind the first.
 use Rattle.sheet_ask.proofs.TwoLaws.{two-found}
-use borrow.Author.Rules.{rules}
 use Rattle.sheet_ask.proofs.two.find_both.Goals as goal
 
 pub find_legs-answer-requires : goal.find_legs-answer-requires

@@ -1,5 +1,4 @@
 -- `unstated_rights` meets its contract: the two tables, laid out.
-use borrow.Author.Rules.{rules}
 use Rattle.sheet_rules.proofs.unstated.unstated_rights.Goals as goal
 
 pub lay-requires : goal.lay-requires

@@ -9,7 +9,6 @@ use Rattle.print_room.specs.Wrote.{Ends}
 use Rattle.print_room.proofs.Writing.{wrote_then, ends-left, ends-right}
 use Rattle.station_text.specs.Records.{words_of, record_text}
 use Rattle.station_text.proofs.ToldLaws.{wrote_as}
-use borrow.Author.Rules.{rules}
 use Rattle.station_text.proofs.record.record_text.Goals as goal
 
 pub word-to-requires : goal.word-to-requires
