@@ -105,7 +105,7 @@ module _ (book : List ℕ) (q : Question) (goal : Goal) (ranks plan : List ℕ) 
   pub rows-given : (w : Refusal) → First (find_rows book q goal ranks) w → (a ≡ Refused w) × (r ≡ ranks) × (x ≡ plan)
   rows-given w f =
       find_unique book q goal ranks plan a (Refused w) r ranks x plan finds
-      (inl (record { why = w; answered = refl; first = f; ranks-kept = refl; plan-kept = refl }))
+      (inl (record { why = w; answered = refl; first = f; ranks_kept = refl; plan_kept = refl }))
 
   pub given-rows : (w : Refusal) → a ≡ Refused w → (w ≡ PlanRoom → ⊥) → First (find_rows book q goal ranks) w
   given-rows w e other =

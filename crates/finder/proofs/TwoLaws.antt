@@ -44,5 +44,5 @@ module _ (book : List ℕ) (q : Question) (goal : Goal) (team2 : ℕ) (goal2 : G
     unfolding find_two_rows
     two-clear room =
         clear-append (legs_clear book q goal team2 goal2 v)
-        (clear-when (long-first room.first-room)
-        (clear-when (λ l. omega (arith, room.second-room, subst (λ (x : ℕ). length old.ranks2 < 7 ^ x) size_is l)) clear_none))
+        (clear-when (long-first room.first_room)
+        (clear-when (λ l. omega (arith, room.second_room, subst (λ (x : ℕ). length old.ranks2 < 7 ^ x) size_is l)) clear_none))

@@ -18,7 +18,7 @@ use Rattle.plan.proofs.Ranks.{rank_reach}
 
 -- what is lawful does not turn on the goal
 pub lawful_goal : {n : ℕ} {S : System} (goal : ℕ → Bool) → Lawful n S → Lawful n (with_goal S goal)
-lawful_goal goal law = record { setting_of_lem = law.setting_of_lem; post_of_lem = law.post_of_lem; looks-at = law.looks-at }
+lawful_goal goal law = record { setting_of_case = law.setting_of_case; post_of_case = law.post_of_case; looks_at = law.looks_at }
 
 pub first_lawful : {n : ℕ} {S : System} (R : System) → Lawful n S → Lawful n (first_leg n S R)
 unfolding first_leg

@@ -130,7 +130,7 @@ module _ {book : List ℕ} {q : Question} {goal : Goal} {n m : ℕ} (v : ValidQu
             | inl l ↦ inl (
               l,
               record {
-                ranks-kept = u.ranks-kept;
+                ranks_kept = u.ranks_kept;
                 printed = subst (λ (w : Refusal). Prints old (refused_text (number w) (place w)) r new) (first_unique u.first (short-table v ranks l)) f;
               },
             )

@@ -121,7 +121,7 @@ line-most s room a why line after e m =
 -- and so is a book's length
 length-within : (o : Meaning) (room : List ℕ) (size : ℕ) (after : List ℕ) → MeaningGoes o → MakesBook o room (Made size) after → size ≤ 4096
 length-within (refused r at) room size after goes m = absurd m
-length-within (stated rules) room size after goes m = omega (arith, m.0, goes.settings-most)
+length-within (stated rules) room size after goes m = omega (arith, m.0, goes.settings_most)
 
 pub length_most : (s room : List ℕ) (a : MakeAnswer) (size : ℕ) (after : List ℕ) → a ≡ Made size → MakesBook (rules_meaning s) room a after → size ≤ 4096
 length_most s room a size after e m =

@@ -25,7 +25,7 @@ use Rattle.sheet_question.specs.Question.{refused, asked, asked_from, question_m
 use Rattle.sheet_question.specs.declared.desk.Due.{Due}
 use Rattle.sheet_question.specs.declared.desk.Due.TheVariants.{Team, Known, Held, Make, Asks}
 use Rattle.sheet_question.proofs.ReadLaws.{after, asked-after, not-long, too_long}
-use Rattle.sheet_legs.specs.Legs.{is_then, Cut, whole, parted, ahead, cut_lines, refused-at, one, one_leg, legs_of, legs_meaning}
+use Rattle.sheet_legs.specs.Legs.{is_then, Cut, whole, parted, ahead, cut_lines, refused_at, one, one_leg, legs_of, legs_meaning}
 
 -- ---- the cut, one line more in front
 
@@ -183,13 +183,13 @@ module _ (n m : ℕ) where
 -- ---- the whole
 
 module _ (n m : ℕ) (s : List ℕ) where
-  pub legs_too_long : 65536 < length s → legs_meaning n m s ≡ refused-at SheetLength 0
+  pub legs_too_long : 65536 < length s → legs_meaning n m s ≡ refused_at SheetLength 0
   unfolding legs_meaning
-  legs_too_long h = ap (λ (b : Bool). cond b (refused-at SheetLength 0) (legs_of n m (split newline s) (cut_lines (split newline s)))) (lt-ltb 65536 (length s) h)
+  legs_too_long h = ap (λ (b : Bool). cond b (refused_at SheetLength 0) (legs_of n m (split newline s) (cut_lines (split newline s)))) (lt-ltb 65536 (length s) h)
 
   pub legs_not-long : length s ≤ 65536 → legs_meaning n m s ≡ legs_of n m (split newline s) (cut_lines (split newline s))
   unfolding legs_meaning
-  legs_not-long h = ap (λ (b : Bool). cond b (refused-at SheetLength 0) (legs_of n m (split newline s) (cut_lines (split newline s)))) (le-ltb 65536 (length s) h)
+  legs_not-long h = ap (λ (b : Bool). cond b (refused_at SheetLength 0) (legs_of n m (split newline s) (cut_lines (split newline s)))) (le-ltb 65536 (length s) h)
 
   -- a text without a line `then` means what it means with one leg
   pub no_then : cut_lines (split newline s) ≡ whole → legs_meaning n m s ≡ one_leg (question_meaning 0 true n m s)

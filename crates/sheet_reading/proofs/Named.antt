@@ -12,7 +12,7 @@ use Rattle.book_block.specs.declared.rule.Right.TheVariants.{Look, Set}
 use Rattle.sheet_words.specs.Words.{twice}
 use Rattle.sheet_words.proofs.NameForms.{three}
 use Rattle.sheet_rules.specs.Rules.{Rule, same_right, concerns, is_stated}
-use Rattle.sheet_reading.specs.Faults.{right-line, LineStates, StatedIn, OneOf, Repeats}
+use Rattle.sheet_reading.specs.Faults.{right_line, LineStates, StatedIn, OneOf, Repeats}
 
 -- ---- posts and settings
 
@@ -68,14 +68,14 @@ same_in Set Look e = let z : ◌≡◌ {A = ℕ} 0 1 = cc in omega arith
 same_in Set Set e = tt
 
 module _ (r : Rule) where
-  concerns_in : (q : Rule) → LineStates r (right-line q) → T (concerns q r.right r.setting r.post)
+  concerns_in : (q : Rule) → LineStates r (right_line q) → T (concerns q r.right r.setting r.post)
   unfolding concerns
   concerns_in q (x, y, z) =
       let a : Bool = same_right q.right r.right in
       let b : Bool = eqb q.setting r.setting in
       and_in (a && b) (eqb q.post r.post) (and_in a b (same_in q.right r.right x) (eq→eqb y)) (eq→eqb z)
 
-  pub stated_in : (rules : List Rule) → StatedIn r (map right-line rules) → T (is_stated rules r.right r.setting r.post)
+  pub stated_in : (rules : List Rule) → StatedIn r (map right_line rules) → T (is_stated rules r.right r.setting r.post)
   unfolding is_stated
   stated_in (q ∷ rules) (inl h) =
       or_left (concerns q r.right r.setting r.post) (is_stated rules r.right r.setting r.post) (concerns_in q h)
@@ -83,13 +83,13 @@ module _ (r : Rule) where
       or_right (concerns q r.right r.setting r.post) (is_stated rules r.right r.setting r.post) (stated_in rules h)
   stated_in mathlib.Core.List.[] x' = elim x' [ ]
 
-  concerns_out : (q : Rule) → T (concerns q r.right r.setting r.post) → LineStates r (right-line q)
+  concerns_out : (q : Rule) → T (concerns q r.right r.setting r.post) → LineStates r (right_line q)
   unfolding concerns
   concerns_out q h =
       let t = three (same_right q.right r.right) (eqb q.setting r.setting) (eqb q.post r.post) h in
       (same_out q.right r.right t.0, eqb→eq q.setting r.setting t.1, eqb→eq q.post r.post t.2)
 
-  pub stated_out : (rules : List Rule) → T (is_stated rules r.right r.setting r.post) → StatedIn r (map right-line rules)
+  pub stated_out : (rules : List Rule) → T (is_stated rules r.right r.setting r.post) → StatedIn r (map right_line rules)
   unfolding is_stated
   stated_out (q ∷ rules) h =
       ⊎_elim (λ k. inl (concerns_out q k)) (λ k. inr (stated_out rules k))

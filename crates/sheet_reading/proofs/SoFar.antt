@@ -93,7 +93,7 @@ made v F so i = record {
     held = so.held;
     make = i;
     asks = subst AsksFit (sym so.no_asks) tt;
-    asks-most = rw so.no_asks (omega arith);
+    asks_most = rw so.no_asks (omega arith);
   };
 }
 
@@ -129,7 +129,7 @@ rights_begin : (v : Sheet) → WellSoFar Team v → BeginsSheet (to_rights v)
 unfolding to_team to_rights
 rights_begin v h =
     begins_less (to_rights v) (ended (team_line (0 ∷ [])))
-    (known-begins (asked_as v (team_as v.asked (0 ∷ []))) (h, omega arith, (h.0.posts-least, tt)))
+    (known-begins (asked_as v (team_as v.asked (0 ∷ []))) (h, omega arith, (h.0.posts_least, tt)))
 
 pub so_far_begins : (due : Due) (v : Sheet) → WellSoFar due v → BeginsSheet (so_far due v)
 so_far_begins Team v h = rights_begin v h

@@ -34,5 +34,5 @@ Breaks s L = (L < length (split newline s)) × (BeginsSheet (first_lines L s) �
 
 -- "22 [..] line": the least such; else "a last line without it is malformed", and "A sheet that ends early gets 22 one past its last line."
 pub data MalformedAt (s : List ℕ) : ℕ → Type 0 where
-  at-line : {L : ℕ} → Least (Breaks s) L → MalformedAt s L
+  at_line : {L : ℕ} → Least (Breaks s) L → MalformedAt s L
   at_end : ((L : ℕ) → Breaks s L → ⊥) → (IsSheet s → ⊥) → MalformedAt s (length (split newline s))

@@ -48,7 +48,7 @@ module _ (n m : ℕ) (book : List ℕ) (start : ℕ) (shift : List ℕ) where
     pub plays-stopped : (why : Refusal) → running.count < records shift
         → Judges n m book running.present.0 running.count (act_of (act_byte shift running.count)) (seen_byte shift running.count) (AtFault why)
         → Plays n m book start shift (Stopped why running)
-    plays-stopped why more judged = (reached, record { more = more; fault = judged.0; why-is = judged.1; at-fault = judged.2 })
+    plays-stopped why more judged = (reached, record { more = more; fault = judged.0; why_is = judged.1; at_fault = judged.2 })
 
     -- after the last
     pub plays-whole : records shift ≤ running.count → Plays n m book start shift (Whole running)

@@ -49,8 +49,8 @@ module _ (n m : ℕ) (book : List ℕ) (start : ℕ) (shift : List ℕ) (below :
   settings-below zero f = below
   settings-below (suc k) f =
       let here = f k (omega arith) in
-      rw here.is_record_lem.names
-      (left_lt (settings_at start shift k) n here.act_done (settings-below k (λ j l. f j (omega (arith, l)))) (book_has n m here.act_done here.is_record_lem.of_book_lem).0)
+      rw here.is_record_case.names
+      (left_lt (settings_at start shift k) n here.act_done (settings-below k (λ j l. f j (omega (arith, l)))) (book_has n m here.act_done here.is_record_case.of_book_case).0)
 
   pub reached-below : (running : Running) → Reached n m book start shift running → running.present.0 < 2 ^ n
   reached-below running r = rw r.left (settings-below running.count r.faultless)

@@ -9,7 +9,7 @@ use lib.ListN.{get_or}
 use Rattle.refusal.specs.declared.Refusal.{Refusal}
 use Rattle.refusal.specs.Refusals.{number}
 use Rattle.sheet_words.specs.Words.{split, newline}
-use Rattle.station.specs.Shift.{records, act_byte, seen_byte, RecordFault, no_record, not-allowed, disagrees, fault_at}
+use Rattle.station.specs.Shift.{records, act_byte, seen_byte, RecordFault, no_record, not_allowed, disagrees, fault_at}
 use Rattle.station.specs.Replay.{PlaysAs}
 use Rattle.station.specs.declared.record.Running.{Running}
 use Rattle.station.specs.declared.shift.Replayed.TheVariants.{Whole, Stopped}
@@ -28,7 +28,7 @@ use Rattle.station_print.proofs.print.Reads as print
 -- the words are those of the fault that stopped the shift
 pub numbered_back : (f : RecordFault) (k : ℕ) → fault_numbered (number (fault_at f k)) ≡ f
 numbered_back no_record k = refl
-numbered_back not-allowed k = refl
+numbered_back not_allowed k = refl
 numbered_back disagrees k = refl
 
 -- the settings that are printed of a replay are a START, which says them

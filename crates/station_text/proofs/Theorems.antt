@@ -31,7 +31,7 @@ use Rattle.station_text.proofs.LineNumbers.{gives_at, find_none}
 use Rattle.station_text.proofs.text.read.Reads as read
 use Rattle.station_text.proofs.bytes.print.Reads as print
 use Rattle.station_text.proofs.is_text.Reads as is-text
-use Rattle.station_text.proofs.record.is_record.Reads as is_record_lem
+use Rattle.station_text.proofs.record.is_record.Reads as is_record_case
 use Rattle.station_text.proofs.text.line_of.Reads as Line-of
 
 -- ---- a text is taken where it is written as the grammar says, and nowhere else
@@ -156,7 +156,7 @@ print_unique κs a x y s p q = (told-one (print_meaning a.0.now) x y a.1.0.now s
 pub is-text_unique : (κs : _) (a : _) (x y : _) (s : _) → is-text.Post κs a x s → is-text.Post κs a y s → x ≡ y
 is-text_unique κs a x y s p q = p ∙ sym q
 
-pub is_record_unique : (κs : _) (a : _) (x y : _) (s : _) → is_record_lem.Post κs a x s → is_record_lem.Post κs a y s → x ≡ y
+pub is_record_unique : (κs : _) (a : _) (x y : _) (s : _) → is_record_case.Post κs a x s → is_record_case.Post κs a y s → x ≡ y
 is_record_unique κs a x y s p q = p ∙ sym q
 
 pub line_of_unique : (κs : _) (a : _) (x y : _) (s : _) → Line-of.Post κs a x s → Line-of.Post κs a y s → x ≡ y

@@ -13,7 +13,7 @@ returns-in-Refused c =
     inl (
       c.in-Refused.why,
       subst (Judges c.args.book.now) c.in-Refused.is c.sound.ensures,
-      record { ranks-kept = refl; printed = numbers-printed c.in-Refused.why c.numbers-numbers.ensures c.refused.ensures },
+      record { ranks_kept = refl; printed = numbers-printed c.in-Refused.why c.numbers-numbers.ensures c.refused.ensures },
     )
 
 pub returns-in-Book : goal.returns-in-Book

@@ -24,8 +24,8 @@ returns-then-ranks-numbers c =
       why = RankRoom 0;
       answered = refl;
       first = short-table (valid) c.args.ranks.now (omega (arith, size_is, c.if-ranks-numbers.true));
-      ranks-kept = refl;
-      plan-kept = refl;
+      ranks_kept = refl;
+      plan_kept = refl;
     }
 
 pub search-requires : goal.search-requires
@@ -48,8 +48,8 @@ returns-in-Not c =
       first =
           early c.args.book.now c.args.question (goalHere) c.args.ranks.now
           (as_not c.args.book.now c.args.question (goalHere) c.in-Not.is c.ask.ensures);
-      ranks-kept = refl;
-      plan-kept = refl;
+      ranks_kept = refl;
+      plan_kept = refl;
     }
 
 pub returns-else-ranks-numbers : goal.returns-else-ranks-numbers

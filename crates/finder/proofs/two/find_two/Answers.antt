@@ -66,7 +66,7 @@ search_two-requires c =
     let size_is : c.numbers-count.result ≡ 7 ^ c.in-Valid.settings =
     c.numbers-count.ensures ∙ ap (λ k. 7 ^ k) (min-eq_left (few (valid).first)) in (
       (c.in-Valid.posts, valid),
-      record { first-room = omega (arith, size_is, c.if-ranks-count.false); second-room = omega (arith, size_is, c.if-ranks2-count.false) },
+      record { first_room = omega (arith, size_is, c.if-ranks-count.false); second_room = omega (arith, size_is, c.if-ranks2-count.false) },
     )
 
 pub returns-in-Not : goal.returns-in-Not
@@ -100,6 +100,6 @@ returns-else-ranks2-count c =
       c.in-Valid.settings,
       c.in-Valid.posts,
       valid,
-      record { first-room = omega (arith, size_is, c.if-ranks-count.false); second-room = omega (arith, size_is, c.if-ranks2-count.false) },
+      record { first_room = omega (arith, size_is, c.if-ranks-count.false); second_room = omega (arith, size_is, c.if-ranks2-count.false) },
       c.search_two.ensures,
     )

@@ -27,7 +27,7 @@ fill_leg-requires c =
     goal_of c.args.make2.now c.args.learn2.now in
     let v = c.requires.0.1 in (
       (c.requires.0.0, second-valid c.args.book.now c.args.question (wantedFirst) c.args.team2 (wantedSecond) v),
-      c.requires.1.second-room,
+      c.requires.1.second_room,
     )
 
 pub from_start-requires : goal.from_start-requires
@@ -45,17 +45,17 @@ from_start-requires c =
     let leg = c.fill_leg.ensures in
     first-tells v.first c.posts_allowed-set.ensures c.posts_allowed-look.ensures c.made-done.ensures c.learnt-known.ensures
     (second_lawful c.args.book.now c.args.question (wantedFirst) c.args.team2 (wantedSecond) v) leg.ranks
-    c.fill_first.ensures (omega (arith, c.requires.1.second-room, leg.size)) c.requires.1.first-room in
+    c.fill_first.ensures (omega (arith, c.requires.1.second_room, leg.size)) c.requires.1.first_room in
     let filled : RanksFilled c.args.n (firstHere) c.args.ranks.now c.fill_first.new.ranks =
     let v = c.requires.0.1 in
     let leg = c.fill_leg.ensures in
     first-filled v.first c.posts_allowed-set.ensures c.posts_allowed-look.ensures c.made-done.ensures c.learnt-known.ensures
     (second_lawful c.args.book.now c.args.question (wantedFirst) c.args.team2 (wantedSecond) v) leg.ranks
-    c.fill_first.ensures (omega (arith, c.requires.1.second-room, leg.size)) c.requires.1.first-room in
+    c.fill_first.ensures (omega (arith, c.requires.1.second_room, leg.size)) c.requires.1.first_room in
     let start-here : c.number-start.result ≡ start_of c.args.question =
     start_is c.args.question c.at_start.ensures c.number-start.ensures in (
       subst (λ (x : ℕ). x < 7 ^ c.args.n) (sym (start-here)) (valid_start c.requires.0.1.first),
-      omega (arith, c.requires.1.first-room, (filled).size),
+      omega (arith, c.requires.1.first_room, (filled).size),
       (firstHere, told),
     )
 
@@ -80,18 +80,18 @@ returns c =
     let leg = c.fill_leg.ensures in
     first-tells v.first c.posts_allowed-set.ensures c.posts_allowed-look.ensures c.made-done.ensures c.learnt-known.ensures
     (second_lawful c.args.book.now c.args.question (wantedFirst) c.args.team2 (wantedSecond) v) leg.ranks
-    c.fill_first.ensures (omega (arith, c.requires.1.second-room, leg.size)) c.requires.1.first-room in
+    c.fill_first.ensures (omega (arith, c.requires.1.second_room, leg.size)) c.requires.1.first_room in
     let filled : RanksFilled c.args.n (firstHere) c.args.ranks.now c.fill_first.new.ranks =
     let v = c.requires.0.1 in
     let leg = c.fill_leg.ensures in
     first-filled v.first c.posts_allowed-set.ensures c.posts_allowed-look.ensures c.made-done.ensures c.learnt-known.ensures
     (second_lawful c.args.book.now c.args.question (wantedFirst) c.args.team2 (wantedSecond) v) leg.ranks
-    c.fill_first.ensures (omega (arith, c.requires.1.second-room, leg.size)) c.requires.1.first-room in
+    c.fill_first.ensures (omega (arith, c.requires.1.second_room, leg.size)) c.requires.1.first_room in
     let start-here : c.number-start.result ≡ start_of c.args.question =
     start_is c.args.question c.at_start.ensures c.number-start.ensures in
     record {
-      second-ranks = c.fill_leg.ensures;
-      first-ranks =
+      second_ranks = c.fill_leg.ensures;
+      first_ranks =
           asked (λ (S : System). RanksFilled c.args.n S c.args.ranks.now c.fill_first.new.ranks)
           (ranks-without.0 (filled));
       answers =

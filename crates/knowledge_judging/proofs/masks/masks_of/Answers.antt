@@ -20,7 +20,7 @@ overflow_add-unknown c =
 pub overflow_add-values : goal.overflow_add-values
 overflow_add-values c =
     let inv = c.loop-i.invariant in
-    let fits = mask_fits inv.3.values-small (omega (arith, inv.1, c.loop-i-test.true)) inv.2 c.bit_if-values.ensures.1 in
+    let fits = mask_fits inv.3.values_small (omega (arith, inv.1, c.loop-i-test.true)) inv.2 c.bit_if-values.ensures.1 in
     omega (arith, fits)
 
 pub overflow_mul-bit : goal.overflow_mul-bit

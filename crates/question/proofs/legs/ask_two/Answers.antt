@@ -60,6 +60,6 @@ returns-else-not-goal_fits c =
     goal_of c.args.make2.now c.args.learn2.now in
     record {
       first = valid;
-      second-team = team;
-      second-goal = told ((GoalFits c.in-Valid.settings (wantedSecond))) c.goal_fits.result c.goal_fits.ensures c.if-not-goal_fits.false;
+      second_team = team;
+      second_goal = told ((GoalFits c.in-Valid.settings (wantedSecond))) c.goal_fits.result c.goal_fits.ensures c.if-not-goal_fits.false;
     }

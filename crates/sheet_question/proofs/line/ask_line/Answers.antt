@@ -32,7 +32,7 @@ slice_bounds-formula_line-start c =
     begins-length (bytes "ask ") a.line.now (sym c.begins.ensures ∙ c.if-not-begins.false))
 
 pub formula_line-requires : goal.formula_line-requires
-formula_line-requires c = (c.if-desk-ge-ASKS_MOST.false, c.requires.1.learn-size)
+formula_line-requires c = (c.if-desk-ge-ASKS_MOST.false, c.requires.1.learn_size)
 
 pub returns : goal.returns
 returns c =

@@ -10,6 +10,6 @@ returns c =
       looks = c.unstated_table.result;
       sets = c.unstated_table-2.result;
       look_table = c.unstated_table.ensures;
-      set-table = c.unstated_table-2.ensures;
+      set_table = c.unstated_table-2.ensures;
       laid = c.lay.ensures;
     }
