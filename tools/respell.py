@@ -3,8 +3,9 @@
 
 usage: python3 tools/respell.py        at the top of the repository
 
-A word in camel case, as systemOf, becomes system_of. Of a name with dashes, as zero-at, a dash stays where it joins two names of
-definitions, as in truth-bit, and becomes _ elsewhere. A name that would fall together with another gets _lem. It turns specs/, proofs/,
+A word in camel case, as systemOf, becomes system_of. In a name of specs/ each dash becomes _. Of a lemma's name, as zero-at, a dash stays
+where it joins two names of definitions, as in truth-bit, and becomes _ elsewhere. A lemma that would fall together with
+another name gets _lem, and a constructor of specs/ _case. It turns specs/, proofs/,
 the clauses and ghost items of src/, the must-fail edits, and names between back quotes in the pages. It goes by spelling alone.
 """
 
@@ -75,10 +76,10 @@ def tokens(text):
     return set(re.findall(r"(?<![.\w'-])" + WORD, PLACE.sub(" ", bare(text))))
 
 
-def wanted(name, words):
+def wanted(name, words, specs):
     """The name in today's spelling."""
     parts = [snake(p) if p[:1].islower() else p for p in name.split("-")]
-    return joined("-".join(parts), words)
+    return "_".join(parts) if name in specs else joined("-".join(parts), words)
 
 
 def table(root):
@@ -96,7 +97,7 @@ def table(root):
     groups = collections.defaultdict(list)
     for name in sorted(own):
         if re.fullmatch(r"[A-Za-z][A-Za-z0-9_'-]*", name):
-            groups[wanted(name, words)].append(name)
+            groups[wanted(name, words, specs)].append(name)
     for new, names in sorted(groups.items()):
         # camel case first, then names that stay, then names with dashes
         names.sort(key=lambda n: (not re.match(r"[a-z][a-z0-9]*[A-Z]", n), "-" in n, n))
@@ -104,7 +105,7 @@ def table(root):
         for name in names:
             to = new
             while any(t == to and any(o in s and name in s for s in seen.values()) for o, t in given):
-                to += "_lem"
+                to += "_case" if name in specs else "_lem"
             given.append((name, to))
             if to != name:
                 yield name, to

@@ -17,7 +17,7 @@ use Rattle.refusal.specs.declared.Refusal.{Refusal}
 use Rattle.refusal.specs.declared.Refusal.TheVariants.{Settings}
 use Rattle.refusal.specs.Refusals.{place}
 use Rattle.refusal.specs.Order.{First, Never, when}
-use Rattle.refusal.proofs.OrderLaws.{first_unique, first-clear, when-never, PlacesBelow, first-place-below, places_append}
+use Rattle.refusal.proofs.OrderLaws.{first_unique, first-clear, when-never, first-place-below, places_append}
 use Rattle.ground.specs.Bounds.{SettingsFit}
 use Rattle.ground.proofs.Bools.{lt_or_ge}
 use Rattle.book.specs.Rows.{read_rows, write_rows}
@@ -85,8 +85,8 @@ unfolding read_rows
 read-place-small book room r f =
     first-place-below 9 (read_rows book room) (places_append 9 (book_rows book) _ (book_places book) (λ _. ((λ i g. omega arith), λ _. tt))) f
 
-settings-most : {n : ℕ} → Never (when (SettingsFit n → ⊥) Settings) → n ≤ 7
-settings-most {n} never =
+settings_most : {n : ℕ} → Never (when (SettingsFit n → ⊥) Settings) → n ≤ 7
+settings_most {n} never =
     ⊎_elim (λ (h : 7 < n). absurd (when-never never (λ s. omega (arith, s.most)))) (λ h. h) (lt_or_ge 7 n)
 
 pub write_place-small : (n m : ℕ) (rights room : List ℕ) (r : Refusal) → First (write_rows n m rights room) r → place r < 9
@@ -96,6 +96,6 @@ write_place-small n m rights room r f =
       (λ i g. omega arith),
       λ settings. (
         (λ i g. omega arith),
-        λ _. ((λ i g. omega arith), λ _. ((λ i g. omega (arith, g.1, settings-most settings)), λ _. ((λ i g. omega arith), λ _. tt))),
+        λ _. ((λ i g. omega arith), λ _. ((λ i g. omega (arith, g.1, settings_most settings)), λ _. ((λ i g. omega arith), λ _. tt))),
       ),
     ) f

@@ -1,11 +1,11 @@
 -- The page in full strength: each answer of `find` exactly where it is due, for any room; the refusals 6 to 13 and 31 exactly; what a yes of the plan check
 -- says of the question, and where it gives 18, with its second number; what is printed for a sheet, in one statement; and the refusals of a sheet exactly, by the grammar. Those of `find` follow from
 -- the contract's uniqueness: the answer that is due is allowed, so it is the one given.
-use mathlib.Core.Path.{◌≡◌, refl, sym, ap, ◌∙◌, subst}
+use mathlib.Core.Path.{◌≡◌, refl, sym, subst}
 use mathlib.Core.Logic.{◌⊎◌, inl, inr, ◌↔◌}
 use mathlib.Core.List.{List, ◌++◌}
 use Prim.Native.Nat.{ℕ, ◌+◌, ◌^◌, ◌≤◌, ◌<◌}
-use lib.ListN.{length, drop}
+use lib.ListN.{length}
 use Rattle.ground.specs.Search.{Least}
 use Rattle.refusal.specs.declared.Refusal.{Refusal}
 use Rattle.refusal.specs.declared.Why.{Why}
@@ -17,7 +17,7 @@ use Rattle.refusal.proofs.OrderLaws.{first-clear}
 use Rattle.book_sound.proofs.Theorems.{sound-one}
 use Rattle.knowledge.specs.Goal.{Goal}
 use Rattle.plan.specs.Plans.{System, Lawful, Plan, Works, height}
-use Rattle.plan.specs.Ranks.{Reach as ReachIn, Cannot as CannotFrom, IsRank, Written}
+use Rattle.plan.specs.Ranks.{Reach as ReachIn, IsRank, Written}
 use Rattle.plan.specs.Bytes.{encode}
 use Rattle.plan.proofs.Ranks.{has-rank, rank-least}
 use Rattle.plan.proofs.Written.{written_works, written-height}
@@ -105,7 +105,7 @@ module _ (book : List ℕ) (q : Question) (goal : Goal) (ranks plan : List ℕ) 
   pub rows-given : (w : Refusal) → First (find_rows book q goal ranks) w → (a ≡ Refused w) × (r ≡ ranks) × (x ≡ plan)
   rows-given w f =
       find_unique book q goal ranks plan a (Refused w) r ranks x plan finds
-      (inl (record { why = w; answered = refl; first = f; ranks-kept = refl; plan-kept = refl }))
+      (inl (record { why = w; answered = refl; first = f; ranks_kept = refl; plan_kept = refl }))
 
   pub given-rows : (w : Refusal) → a ≡ Refused w → (w ≡ PlanRoom → ⊥) → First (find_rows book q goal ranks) w
   given-rows w e other =
@@ -162,7 +162,7 @@ sheet-answered s old r new sheet m a =
       ],
     )
 
--- ---- the refusals of a sheet, exactly, by the grammar of well_formed sheets: "First 24; then line by line 22, 23, the formula's number; 25 directly
+-- ---- the refusals of a sheet, exactly, by the grammar of well-formed sheets: "First 24; then line by line 22, 23, the formula's number; 25 directly
 -- after line 1." The line is printed as the place.
 
 pub sheet-refused : (s : List ℕ) (w : Refusal) (L : ℕ) → (sheet_meaning s ≡ refused w L) ↔ RefusedSheet s w L

@@ -79,7 +79,7 @@ module _ (book : List ℕ) (q : Question) (goal : Goal) (team2 : ℕ) (goal2 : G
         → Least (ReachThen (system_of n book q goal) (second_system n book q team2 goal2) k) (get_or new.ranks k 0)
         ⊎ ((get_or new.ranks k 0 ≡ 255) × ((p : Plan) → WorksThen (system_of n book q goal) (second_system n book q team2 goal2) k p → ⊥))
     two-rank_means {n} v room a f k l =
-        rank_then (second_lawful book q goal team2 goal2 v) (system_of n book q goal) k (get_or new.ranks k 0) ((two-ranks v room a f).first-ranks.ranks k l)
+        rank_then (second_lawful book q goal team2 goal2 v) (system_of n book q goal) k (get_or new.ranks k 0) ((two-ranks v room a f).first_ranks.ranks k l)
 
 -- and the contract is the function's own
 pub tied_two : (κs : _) (a : _) (x : _) (s : _) → find-two-contract.Post κs a x s

@@ -8,7 +8,7 @@ use Rattle.refusal.specs.declared.Refusal.{Refusal}
 use Rattle.refusal.specs.Refusals.{number, place}
 use Rattle.book_sound.specs.Sound.{Sound}
 use Rattle.knowledge_acts.specs.Acts.{act_of}
-use Rattle.station.specs.Shift.{records, act_byte, seen_byte, settings_at, IsFaultless, RecordFault, no_record, not-allowed, disagrees, IsAtFault, fault_at}
+use Rattle.station.specs.Shift.{records, act_byte, seen_byte, settings_at, IsFaultless, RecordFault, no_record, not_allowed, disagrees, IsAtFault, fault_at}
 use Rattle.station.specs.Replay.{ShiftFits, Replays}
 use Rattle.station.specs.declared.record.Running.{Running}
 use Rattle.station.specs.declared.shift.Replayed.{Replayed}
@@ -19,12 +19,12 @@ use Rattle.station.proofs.ShiftShape.{reached-below}
 -- the number of each fault: 27 no act of this book, 28 not permitted, 29 a look that disagrees
 abbrev pub fault_number : RecordFault → ℕ
 fault_number no_record = 27
-fault_number not-allowed = 28
+fault_number not_allowed = 28
 fault_number disagrees = 29
 
 fault-told : (f : RecordFault) (k : ℕ) → (number (fault_at f k) ≡ fault_number f) × (place (fault_at f k) ≡ k)
 fault-told no_record k = (refl, refl)
-fault-told not-allowed k = (refl, refl)
+fault-told not_allowed k = (refl, refl)
 fault-told disagrees k = (refl, refl)
 
 module _ (book : List ℕ) (start : ℕ) (shift : List ℕ) where
@@ -68,9 +68,9 @@ module _ (book : List ℕ) (start : ℕ) (shift : List ℕ) where
         r.left,
         reached-below p.n p.m book start shift p.fits.below running r,
         r.faultless,
-        rw (sym r.left) s.at-fault,
-        ap number s.why-is ∙ told.0,
-        ap place s.why-is ∙ told.1,
+        rw (sym r.left) s.at_fault,
+        ap number s.why_is ∙ told.0,
+        ap place s.why_is ∙ told.1,
       )
 
   module _ {n m : ℕ} (s : Sound book n m) (fits : ShiftFits n start shift) where
@@ -96,6 +96,6 @@ module _ (book : List ℕ) (start : ℕ) (shift : List ℕ) where
           fits = fits;
           plays = (
             record { there = omega arith; faultless = before; left = refl },
-            record { more = more; fault = f; why-is = refl; at-fault = at },
+            record { more = more; fault = f; why_is = refl; at_fault = at },
           );
         })

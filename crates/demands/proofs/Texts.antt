@@ -60,9 +60,9 @@ both_ask r k = record {
   made = k.made;
   learnt = k.learnt;
   posts = k.posts;
-  settings-known = k.settings-known;
+  settings_known = k.settings_known;
   settings_true = k.settings_true;
-  settings-held = k.settings-held;
+  settings_held = k.settings_held;
 }
 
 -- a text of rules that is refused makes no book

@@ -149,9 +149,9 @@ idle_secret book q goal ranks plan r x f =
 
 -- ---- "32 with the index, after 18 at the same byte": a plan of a valid question gets it exactly where a set is due that nothing else denies, to the
 -- value that the team knows is there (question/proofs/NothingLaws `NothingHere`), and all bytes before it read without a fault
-pub changes_nothing_lem : {book : List ℕ} {q : Question} {goal : Goal} {n m : ℕ} → ValidQuestion book q goal n m → (plan : List ℕ) → length plan ≤ 32640
+pub changes_nothing_case : {book : List ℕ} {q : Question} {goal : Goal} {n m : ℕ} → ValidQuestion book q goal n m → (plan : List ℕ) → length plan ≤ 32640
     → (r : CheckAnswer) → Checks book q goal plan r → (i : ℕ) → (r ≡ NotAccepted (ChangesNothing i)) ↔ NothingAt n book q goal plan i
-changes_nothing_lem valid plan short r said i = nothing_exact valid plan r said short i
+changes_nothing_case valid plan short r said i = nothing_exact valid plan r said short i
 
 pub changes_nothing_numbers : (i : ℕ) → numbers (ChangesNothing i) ≡ record { number = 32; place = i; second = 0 }
 changes_nothing_numbers i = refl

@@ -1,7 +1,7 @@
 -- A host takes a result apart. The upper half is 0 exactly for a success; of a refusal it holds the number, and above it the second number, and the lower
 -- half is the place; and a book's n and m, a salvage's count and marks, and a plan's height and length, come back by one division each: every place and every length that is given
 -- has room, but for a record's index past 2^32.
-use mathlib.Core.Path.{◌≡◌, refl, sym, ap, ◌∙◌, subst}
+use mathlib.Core.Path.{◌≡◌, refl, ap, ◌∙◌, subst}
 use mathlib.Core.List.{List}
 use Prim.Native.Nat.{ℕ, ◌+◌, ◌*◌, ◌/◌, ◌%◌, ◌^◌, ◌≤◌, ◌<◌}
 use native.Mathlib.Nat.{div-eq_of_lt, mod-eq_of_lt}
@@ -47,7 +47,7 @@ use Rattle.sheet_book.proofs.Theorems.{line-most, length_most}
 use Rattle.station.specs.declared.record.Running.{Running}
 use Rattle.station.specs.declared.shift.Replayed.{Replayed}
 use Rattle.station.specs.declared.shift.Replayed.TheVariants.{Whole, Stopped, Refused as NotPlayed}
-use Rattle.station.specs.Shift.{RecordFault, no_record, not-allowed, disagrees, fault_at}
+use Rattle.station.specs.Shift.{RecordFault, no_record, not_allowed, disagrees, fault_at}
 use Rattle.station.specs.Replay.{replay_rows, Replays}
 use Rattle.exports.specs.Replay.{ShiftReplayed}
 use Rattle.exports.specs.Texts.{RulesMade}
@@ -206,7 +206,7 @@ low_apart r e = apart_at r (place r % 2 ^ 32) (omega (arith, e)) (omega arith)
 
 fault-place : (f : RecordFault) (k : ℕ) → place (fault_at f k) ≡ k
 fault-place no_record k = refl
-fault-place not-allowed k = refl
+fault-place not_allowed k = refl
 fault-place disagrees k = refl
 
 rows-place : (book : List ℕ) (start : ℕ) (shift : List ℕ) (w : Refusal) → First (replay_rows book start shift) w → place w < 9
@@ -222,7 +222,7 @@ replay_apart {book} {start} {shift} {old} {r = r} c = (
   λ running e. (ap upper (c.result_is ∙ ap replay_returned e), c.new_is ∙ ap (λ x. reached_after x old) e),
   λ w running e. let played = subst (λ (x : Replayed). Replays book start shift x) e c.replays in
       let stops = played.plays.1 in
-      let at = ap place stops.why-is ∙ fault-place stops.fault running.count in (
+      let at = ap place stops.why_is ∙ fault-place stops.fault running.count in (
         subst (λ (k : ℕ). Tells-at r w (k % 2 ^ 32)) at (low_apart w (c.result_is ∙ ap replay_returned e)),
         c.new_is ∙ ap (λ x. reached_after x old) e,
       ),

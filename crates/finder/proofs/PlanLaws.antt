@@ -12,7 +12,7 @@ use Rattle.knowledge_acts.specs.Acts.{set_to, look_at, byte_of, plan_byte, setti
 use Rattle.knowledge_acts.proofs.Acts.{plan-byte}
 use Rattle.knowledge_acts.specs.declared.act.Act.{Act}
 use Rattle.knowledge_acts.specs.declared.act.Act.TheVariants.{Set, Look}
-use Rattle.plan.specs.Plans.{System, after-set, after_look, Plan, stop, set_then, look_then}
+use Rattle.plan.specs.Plans.{System, after_set_case, after_look, Plan, stop, set_then, look_then}
 use Rattle.plan.specs.Ranks.{IsRank, Chosen, Written}
 use Rattle.plan.specs.Bytes.{encode}
 use Rattle.plan.specs.Certificate.{Leads}
@@ -29,11 +29,11 @@ module _ {n : ℕ} {sets' looks : List (List ℕ)} {ranks : List ℕ} where
   -- the act chosen leads to lower entries
   chosen_lower : {S : System} {k : ℕ} {a : Act} → TablesTell n sets' looks ranks S → k < 7 ^ n → Chosen S k a → Lower S ranks k a
   chosen_lower {S} {k} {a} t h c =
-      subst (λ (r : ℕ). Leads S (λ x. get_or ranks x 0) k r a) (rank_unique S k c.is-rank (t.ranked k h))
+      subst (λ (r : ℕ). Leads S (λ x. get_or ranks x 0) k r a) (rank_unique S k c.is_rank (t.ranked k h))
       (lowers_out (numbers_closed t.law) t.ranked k c.rank a h c.lowers)
 
   chosen_setting : {S : System} {k : ℕ} {a : Act} → TablesTell n sets' looks ranks S → Chosen S k a → setting_of a < n
-  chosen_setting {S} {k} {a} t c = t.law.setting_of_lem k a c.lowers.allowed
+  chosen_setting {S} {k} {a} t c = t.law.setting_of_case k a c.lowers.allowed
 
   -- where no act leads lower, the rank is 0
   stop-rank : {S : System} {k : ℕ} → TablesTell n sets' looks ranks S → k < 7 ^ n → get_or ranks k 0 < 255 → ((a : Act) → Lower S ranks k a → ⊥) → IsRank S k 0
@@ -48,7 +48,7 @@ module _ {n : ℕ} {sets' looks : List (List ℕ)} {ranks : List ℕ} where
     -- the states after the act chosen have lower ranks
     pub next-set : (i q : ℕ) (b : Bool) → Chosen from.system k (Set i q b) → Ranked n sets' looks ranks (set_to k i b) × (get_or ranks (set_to k i b) 0 < get_or ranks k 0)
     next-set i q b c =
-        let l : get_or ranks (set_to k i b) 0 < get_or ranks k 0 = (chosen_lower from.told from.state c).lower (set_to k i b) (after-set i q b) in (
+        let l : get_or ranks (set_to k i b) 0 < get_or ranks k 0 = (chosen_lower from.told from.state c).lower (set_to k i b) (after_set_case i q b) in (
           record {
             few = from.few;
             state = set_below k i b n from.state (chosen_setting from.told c);
@@ -79,7 +79,7 @@ module _ {n : ℕ} {sets' looks : List (List ℕ)} {ranks : List ℕ} where
 
     -- and its byte is one of a plan
     pub step-byte : (a : Act) → Chosen from.system k a → plan_byte a ≡ byte_of a
-    step-byte a c = plan-byte a (step-setting a c) (from.told.law.post_of_lem k a c.lowers.allowed)
+    step-byte a c = plan-byte a (step-setting a c) (from.told.law.post_of_case k a c.lowers.allowed)
 
     -- a plan written from k has at most 32,640 bytes
     pub most : {r : ℕ} → ((S : System) → TablesTell n sets' looks ranks S → (p : Plan) × Written S k p × (r ≡ length (encode p))) → r ≤ 32640

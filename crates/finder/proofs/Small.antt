@@ -8,7 +8,7 @@ use lib.ListN.{length}
 use Rattle.refusal.specs.declared.Refusal.{Refusal}
 use Rattle.refusal.specs.declared.Refusal.TheVariants.{RankRoom}
 use Rattle.refusal.specs.Refusals.{place}
-use Rattle.refusal.specs.Order.{when, First}
+use Rattle.refusal.specs.Order.{when}
 use Rattle.refusal.proofs.OrderLaws.{PlacesBelow, places_append, first-place-below}
 use Rattle.book_sound.specs.Rows.{settings_of}
 use Rattle.knowledge.specs.Goal.{Goal}

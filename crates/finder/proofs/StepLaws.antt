@@ -19,7 +19,7 @@ use Rattle.knowledge.specs.Number.{digit_in, digits_of}
 use lib.Arith.{digits_div, digits_mod}
 use Rattle.knowledge.proofs.Number.{digits_are}
 use Rattle.finder.specs.declared.steps.Step.{Step}
-use Rattle.plan.specs.Plans.{System, may, after-set, after_look}
+use Rattle.plan.specs.Plans.{System, may, after_set_case, after_look}
 use Rattle.plan.specs.Ranks.{Chosen}
 use native.Mathlib.Nat.{pow-le-pow_right}
 use Rattle.plan.proofs.Acts.{after_a_set, after_a_look}
@@ -70,10 +70,10 @@ lowest_last x q h ne l m f = elim (decide (bit x 7)) [
 module _ {n : ℕ} {sets looks : List (List ℕ)} {ranks : List ℕ} {S : System} (told : TablesTell n sets looks ranks S) (k i : ℕ) (hi : i < n) where
   -- an act by a post that the mask does not have leads nowhere
   set-bit : (q : ℕ) (b : Bool) → T (may S k (Set i q b)) → T (bit (entry sets i (now_side_number n k)) q)
-  set-bit q b m = subst T (told.sets k i q b hi (told.law.post_of_lem k (Set i q b) m)) m
+  set-bit q b m = subst T (told.sets k i q b hi (told.law.post_of_case k (Set i q b) m)) m
 
   look_bit : (q : ℕ) → T (may S k (Look i q)) → T (bit (entry looks i (now_side_number n k)) q)
-  look_bit q m = subst T (told.looks k i q hi (told.law.post_of_lem k (Look i q) m) (told.law.looks-at k i q m)) m
+  look_bit q m = subst T (told.looks k i q hi (told.law.post_of_case k (Look i q) m) (told.law.looks_at k i q m)) m
 
   nobody : (x q : ℕ) → x ≡ 0 → T (bit x q) → ⊥
   nobody x q e t = both (bit x q) t (false→T (ap (λ (y : ℕ). bit y q) e ∙ bit_of_zero q))
@@ -82,7 +82,7 @@ module _ {n : ℕ} {sets looks : List (List ℕ)} {ranks : List ℕ} {S : System
   set-nobody b e q l = nobody (entry sets i (now_side_number n k)) q e (set-bit q b l.allowed)
 
   pub set_no_lower : (b : Bool) → get_or ranks k 0 ≤ get_or ranks (set_to k i b) 0 → (q : ℕ) → Lower S ranks k (Set i q b) → ⊥
-  set_no_lower b h q l = omega (arith, l.lower (set_to k i b) (after-set i q b))
+  set_no_lower b h q l = omega (arith, l.lower (set_to k i b) (after_set_case i q b))
 
   pub set_do : (b : Bool) (q : ℕ) → q < 8 → Least (λ q. T (bit (entry sets i (now_side_number n k)) q)) q → get_or ranks (set_to k i b) 0 < get_or ranks k 0
       → (p : ℕ) × (Set i q b ≡ Set i p b) × Lower S ranks k (Set i p b) × ((x : ℕ) → Lower S ranks k (Set i x b) → p ≤ x)
@@ -94,7 +94,7 @@ module _ {n : ℕ} {sets looks : List (List ℕ)} {ranks : List ℕ} {S : System
   )
 
   pub look_seen : (digit 7 k i ≡ 0 → ⊥) → (q : ℕ) → Lower S ranks k (Look i q) → ⊥
-  look_seen f q l = f (told.law.looks-at k i q l.allowed)
+  look_seen f q l = f (told.law.looks_at k i q l.allowed)
 
   pub look_nobody : entry looks i (now_side_number n k) ≡ 0 → (q : ℕ) → Lower S ranks k (Look i q) → ⊥
   look_nobody e q l = nobody (entry looks i (now_side_number n k)) q e (look_bit q l.allowed)
@@ -157,7 +157,7 @@ NoneTo S ranks k p = (x : ℕ) → x < p → (q : ℕ) → Lower S ranks k (fami
 
 module _ {n : ℕ} {sets looks : List (List ℕ)} {ranks : List ℕ} {S : System} (told : TablesTell n sets looks ranks S) (k : ℕ) (hk : k < 7 ^ n) where
   seven : (a : Act) → Lower S ranks k a → setting_of a < 7
-  seven a l = omega (arith, told.law.setting_of_lem k a l.allowed, told.few)
+  seven a l = omega (arith, told.law.setting_of_case k a l.allowed, told.few)
 
   pub none_left : (p : ℕ) → 21 ≤ p → NoneTo S ranks k p → (a : Act) → Lower S ranks k a → ⊥
   none_left p h f a l =
@@ -181,7 +181,7 @@ module _ {n : ℕ} {sets looks : List (List ℕ)} {ranks : List ℕ} {S : System
           elim (lt_or_ge x p) [
             | inl y ↦ absurd (f x y (post_of c) (subst (Lower S ranks k) (sym here) m))
             | inr y ↦ elim (lt_or_ge p x) [
-              | inl z ↦ omega (arith, bc, bp, told.law.post_of_lem k (family p q) l.allowed, post-family p q)
+              | inl z ↦ omega (arith, bc, bp, told.law.post_of_case k (family p q) l.allowed, post-family p q)
               | inr z ↦ (let same : x ≡ p = omega arith in
                   omega (
                     arith,
@@ -195,7 +195,7 @@ module _ {n : ℕ} {sets looks : List (List ℕ)} {ranks : List ℕ} {S : System
 -- a pair whose setting the book has not
 pub pair_past : {n : ℕ} {sets looks : List (List ℕ)} {ranks : List ℕ} {S : System} (told : TablesTell n sets looks ranks S) (k p : ℕ) → n ≤ p % 7
     → (q : ℕ) → Lower S ranks k (family p q) → ⊥
-pair_past told k p h q l = omega (arith, told.law.setting_of_lem k (family p q) l.allowed, setting_of_kind (p / 7) (p % 7) q)
+pair_past told k p h q l = omega (arith, told.law.setting_of_case k (family p q) l.allowed, setting_of_kind (p / 7) (p % 7) q)
 
 -- the digit as the knowledge type tells it
 pub digit_at : (k i : ℕ) {ds : List ℕ} {d : ℕ} → k < 7 ^ 7 → ds ≡ digits_of k → d ≡ digit_in ds i → d ≡ digit 7 k i

@@ -21,7 +21,7 @@ use Rattle.knowledge.specs.Judgement.{known}
 use Rattle.knowledge.specs.Goal.{Goal, goal_settled}
 use Rattle.book_block.specs.Rule.{rule}
 use Rattle.book_block.specs.declared.rule.Right.TheVariants.{Look as look-rule, Set as set-rule}
-use Rattle.plan.specs.Plans.{System, may, Lawful, after-set, after_look}
+use Rattle.plan.specs.Plans.{System, may, Lawful, after_set_case, after_look}
 use Rattle.plan.specs.Ranks.{IsRank}
 use Rattle.plan.specs.Legs.{can_from, with_goal, first_leg}
 use Rattle.plan.specs.Certificate.{Leads, Certified}
@@ -112,12 +112,12 @@ module _ {book : List ℕ} {q : Question} {goal : Goal} {n m : ℕ} (v : ValidQu
 
   set_in : (k i p : ℕ) (b : Bool) → T (may (ruled_system n book q goal) k (Set i p b)) → May set n k i
   set_in k i p b t =
-      mask_some (entry set i (now_side_number n k)) p (subst T (set-may k i p b (law.setting_of_lem k (Set i p b) t) (law.post_of_lem k (Set i p b) t)) t)
+      mask_some (entry set i (now_side_number n k)) p (subst T (set-may k i p b (law.setting_of_case k (Set i p b) t) (law.post_of_case k (Set i p b) t)) t)
 
   look_in : (k i p : ℕ) → T (may (ruled_system n book q goal) k (Look i p)) → May look n k i
   look_in k i p t =
       mask_some (entry look i (now_side_number n k)) p
-      (subst T (look_may k i p (law.setting_of_lem k (Look i p) t) (law.post_of_lem k (Look i p) t) (law.looks-at k i p t)) t)
+      (subst T (look_may k i p (law.setting_of_case k (Look i p) t) (law.post_of_case k (Look i p) t) (law.looks_at k i p t)) t)
 
   -- whatever the goal is, as long as the table of ranks was filled by it
   module _ {settled wanted : ℕ → Bool} (same : (k : ℕ) → k < 7 ^ n → settled k ≡ wanted k) {old ranks : List ℕ}
@@ -142,9 +142,9 @@ module _ {book : List ℕ} {q : Question} {goal : Goal} {n m : ℕ} (v : ValidQu
 
     lowers_of : (k h : ℕ) (a : Act) → Leads S (rank ranks) k h a → HasLower n set look ranks k h
     lowers_of k h (Set i p b) l =
-        by_set i b (law.setting_of_lem k (Set i p b) l.allowed) (set_in k i p b l.allowed) (l.lower _ (after-set i p b))
+        by_set i b (law.setting_of_case k (Set i p b) l.allowed) (set_in k i p b l.allowed) (l.lower _ (after_set_case i p b))
     lowers_of k h (Look i p) l =
-        by_look i (law.setting_of_lem k (Look i p) l.allowed) (look_in k i p l.allowed) (law.looks-at k i p l.allowed)
+        by_look i (law.setting_of_case k (Look i p) l.allowed) (look_in k i p l.allowed) (law.looks_at k i p l.allowed)
         (l.lower _ (after_look i p false)) (l.lower _ (after_look i p true))
 
     good : Certified (λ k. k < 7 ^ n) S (rank ranks)

@@ -1,6 +1,6 @@
 -- What is promised of the finder, about its contract: demand 2, "reach" exactly when a working plan exists, with the least height and such a plan;
 -- and demand 3, what "cannot" means for a secret.
-use mathlib.Core.Path.{◌≡◌, refl, sym, subst}
+use mathlib.Core.Path.{◌≡◌, subst}
 use mathlib.Core.Logic.{inl, inr}
 use mathlib.Core.List.{List, ◌++◌}
 use Prim.Native.Nat.{ℕ, suc, ◌-◌, ◌^◌, ◌≤◌, ◌<◌}

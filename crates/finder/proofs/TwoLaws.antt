@@ -1,13 +1,13 @@
 -- The refusals of `find_two` in their order: those of both legs come first, then 13 for the first short table; and a valid question with room for
 -- both leaves none.
 use mathlib.Core.Path.{◌≡◌, sym, subst}
-use mathlib.Core.List.{List, [], ◌∷◌}
+use mathlib.Core.List.{List}
 use Prim.Native.Nat.{ℕ, ◌^◌, ◌≤◌, ◌<◌}
 use native.Mathlib.Omega.{arith}
 use lib.ListN.{length}
 use Rattle.refusal.specs.declared.Refusal.{Refusal}
 use Rattle.refusal.specs.declared.Refusal.TheVariants.{RankRoom}
-use Rattle.refusal.specs.Order.{Row, when, First, Clear}
+use Rattle.refusal.specs.Order.{First, Clear}
 use Rattle.refusal.proofs.OrderLaws.{first-left, first-right, first-when, first-later-when, clear-append, clear-when, clear_none}
 use Rattle.book_sound.specs.Rows.{settings_of}
 use Rattle.book_sound.proofs.SoundLaws.{sound-settings}
@@ -44,5 +44,5 @@ module _ (book : List ℕ) (q : Question) (goal : Goal) (team2 : ℕ) (goal2 : G
     unfolding find_two_rows
     two-clear room =
         clear-append (legs_clear book q goal team2 goal2 v)
-        (clear-when (long-first room.first-room)
-        (clear-when (λ l. omega (arith, room.second-room, subst (λ (x : ℕ). length old.ranks2 < 7 ^ x) size_is l)) clear_none))
+        (clear-when (long-first room.first_room)
+        (clear-when (λ l. omega (arith, room.second_room, subst (λ (x : ℕ). length old.ranks2 < 7 ^ x) size_is l)) clear_none))

@@ -1,10 +1,10 @@
 -- What is promised of `find_two`, about its contract: "reach" exactly when there is a plan of the first team that works and leaves the second team a
 -- working plan at each of its stops; the height named is the least, and the plan written is such a plan. What it gives is settled, all three rooms
 -- included, and what each refusal leaves. Demand 3 is not claimed of two legs.
-use mathlib.Core.Path.{◌≡◌, refl, sym, ap, ◌∙◌, subst}
+use mathlib.Core.Path.{◌≡◌, sym, ap, ◌∙◌, subst}
 use mathlib.Core.Logic.{◌⊎◌, inl, inr}
 use mathlib.Core.List.{List, ◌++◌}
-use Prim.Native.Nat.{ℕ, ◌^◌, ◌≤◌, ◌<◌}
+use Prim.Native.Nat.{ℕ, ◌≤◌, ◌<◌}
 use native.Mathlib.Omega.{arith}
 use lib.ListN.{length, drop}
 use Rattle.refusal.specs.declared.Refusal.{Refusal}
@@ -88,7 +88,7 @@ module _ (book : List ℕ) (q : Question) (goal : Goal) (team2 : ℕ) (goal2 : G
         let p = a.answers.1 in
         let law = second_lawful book q goal team2 goal2 v in
         let works = then_works law (system_of n book q goal) p.0 (start_of q) (written_works (first_system n book q goal team2 goal2) p.0 (start_of q) p.1) in
-        inr (a.answers.0, a.answers.2, (n, m, v, room, a.first-ranks, a.second-ranks, (p.0, works, p.1, p.2)))
+        inr (a.answers.0, a.answers.2, (n, m, v, room, a.first_ranks, a.second_ranks, (p.0, works, p.1, p.2)))
 
     -- and the first of those before 14 is given, whatever else may be said
     pub two-rows-given : (a : Answer) (w : Refusal) → First (find_two_rows book q goal team2 goal2 old) w → FindsTwo book q goal team2 goal2 old a new
@@ -104,7 +104,7 @@ module _ (book : List ℕ) (q : Question) (goal : Goal) (team2 : ℕ) (goal2 : G
   two_unique old a b x y (inr (n, m, v, room, g)) (inr (k, o, d, e, i)) =
       let h = subst (λ (j : ℕ). AnsweredTwo j book q goal team2 goal2 old b y) (sound-one d.first.sound v.first.sound).0 i in
       let z = answers_unique (first_leg_lawful book q goal team2 goal2 v) (few v.first) (start_of q) old.plan a b x.plan y.plan g.answers h.answers in
-      (z.0, same_rooms (ranks_unique g.first-ranks h.first-ranks) (ranks_unique g.second-ranks h.second-ranks) z.1)
+      (z.0, same_rooms (ranks_unique g.first_ranks h.first_ranks) (ranks_unique g.second_ranks h.second_ranks) z.1)
     where
       same_rooms : {r s t u p w : List ℕ} → r ≡ s → t ≡ u → p ≡ w → rooms_of r t p ≡ rooms_of s u w
       same_rooms {r} {s} {t} {u} {p} {w} e f g =

@@ -62,7 +62,7 @@ ranks_unique {n} {S} {old} {new} {other} a b =
 module _ (book : List ℕ) (q : Question) (goal : Goal) (ranks plan : List ℕ) where
   pub find_unique : (a b : Answer) (r s x y : List ℕ) → Finds book q goal ranks plan a r x → Finds book q goal ranks plan b s y → (a ≡ b) × (r ≡ s) × (x ≡ y)
   find_unique a b r s x y (inl u) (inl w) =
-      (u.answered ∙ ap Refused (first_unique u.first w.first) ∙ sym w.answered, u.ranks-kept ∙ sym w.ranks-kept, u.plan-kept ∙ sym w.plan-kept)
+      (u.answered ∙ ap Refused (first_unique u.first w.first) ∙ sym w.answered, u.ranks_kept ∙ sym w.ranks_kept, u.plan_kept ∙ sym w.plan_kept)
   find_unique a b r s x y (inl u) (inr (n, m, v, l, f, g)) = first-clear u.first (find_clear v ranks l)
   find_unique a b r s x y (inr (n, m, v, l, f, g)) (inl u) = first-clear u.first (find_clear v ranks l)
   find_unique a b r s x y (inr (n, m, v, l, f, g)) (inr (k, o, w, d, h, i)) =
@@ -81,7 +81,7 @@ module _ (book : List ℕ) (q : Question) (goal : Goal) (ranks plan : List ℕ) 
       × ((p : Plan) × Written (system_of n book q goal) (start_of q) p × (length plan < length (encode p))))))
   find_refused w r x (inl u) =
       let same-why : u.why ≡ w = let e = u.answered in cc in
-      (u.plan-kept, inl (subst (First (find_rows book q goal ranks)) same-why u.first, u.ranks-kept))
+      (u.plan_kept, inl (subst (First (find_rows book q goal ranks)) same-why u.first, u.ranks_kept))
   find_refused w r x (inr (n, m, v, l, f, a)) = (a.2, inr (a.0, (n, m, v, l, f, a.1)))
 
   -- whatever the answer to a valid question with room for the ranks, they are filled in

@@ -30,8 +30,8 @@ pub record Unmet (book : List ℕ) (q : Question) (goal : Goal) (ranks plan : Li
   pub why : Refusal
   pub answered : answer ≡ Refused why
   pub first : First (find_rows book q goal ranks) why
-  pub ranks-kept : ranks' ≡ ranks
-  pub plan-kept : plan' ≡ plan
+  pub ranks_kept : ranks' ≡ ranks
+  pub plan_kept : plan' ≡ plan
 
 -- a valid question over n settings: all ranks, and the answer
 abbrev pub Answered : ℕ → List ℕ → Question → Goal → List ℕ → List ℕ → Answer → List ℕ → List ℕ → Type 0

@@ -43,14 +43,14 @@ pub record UnmetTwo (book : List ℕ) (q : Question) (goal : Goal) (team2 : ℕ)
 
 -- a valid question over n settings: the ranks of both legs, the second's "by the second team and goal alone", and the answer of the first
 pub record AnsweredTwo (n : ℕ) (book : List ℕ) (q : Question) (goal : Goal) (team2 : ℕ) (goal2 : Goal) (old : Rooms) (answer : Answer) (new : Rooms) : Type 0 where
-  pub second-ranks : RanksFilled n (second_system n book q team2 goal2) old.ranks2 new.ranks2
-  pub first-ranks : RanksFilled n (first_system n book q goal team2 goal2) old.ranks new.ranks
+  pub second_ranks : RanksFilled n (second_system n book q team2 goal2) old.ranks2 new.ranks2
+  pub first_ranks : RanksFilled n (first_system n book q goal team2 goal2) old.ranks new.ranks
   pub answers : AnswersFrom (first_system n book q goal team2 goal2) (start_of q) old.plan answer new.plan
 
 -- there is room for the ranks of both legs
 pub record RoomForTwo (n : ℕ) (old : Rooms) : Type 0 where
-  pub first-room : 7 ^ n ≤ length old.ranks
-  pub second-room : 7 ^ n ≤ length old.ranks2
+  pub first_room : 7 ^ n ≤ length old.ranks
+  pub second_room : 7 ^ n ≤ length old.ranks2
 
 -- what `find_two` gives
 abbrev pub FindsTwo : List ℕ → Question → Goal → ℕ → Goal → Rooms → Answer → Rooms → Type 0

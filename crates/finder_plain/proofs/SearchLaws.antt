@@ -52,8 +52,8 @@ module _ (n : ℕ) (book : List ℕ) (q : Question) (goal : Goal) (k : ℕ) wher
   unfolding ruled_system
   asks-goal s = record { few = s.few; there = states_most s.few s.state; unsettled = λ l g. s.bars.unsettled k s.state l g }
 
-pub not-settled : {n k : ℕ} {goal : Goal} {entries : List ℕ} → AsksGoal n goal k entries → 0 < get_or entries k 0 → false ≡ goal_settled n goal k
-not-settled {n} {k} {goal} a l = sym (T→false (goal_settled n goal k) (not_T (goal_settled n goal k) (a.unsettled l)))
+pub not_settled : {n k : ℕ} {goal : Goal} {entries : List ℕ} → AsksGoal n goal k entries → 0 < get_or entries k 0 → false ≡ goal_settled n goal k
+not_settled {n} {k} {goal} a l = sym (T→false (goal_settled n goal k) (not_T (goal_settled n goal k) (a.unsettled l)))
 
 -- ---- by one try
 
@@ -165,7 +165,7 @@ module _ {n : ℕ} {S : System} {k : ℕ} {first : List ℕ} (s : Searches n S k
     module _ (all : 3 * n ≤ number) (goal : T (S.goal k) → ⊥) (low : 0 < h) where
       near : (a : Act) → T (may S k a) → (x : ℕ) × Outcome k a x × ((x ≡ k) ⊎ (h ≤ suc (get_or entries x 0)))
       near a m =
-          let t = covered n a (s.law.setting_of_lem k a m) in
+          let t = covered n a (s.law.setting_of_case k a m) in
           let r = (y.blocked t.0 (omega (arith, t.1))).outcome (post_of a) (rw t.2 m) in
           (r.0, rw t.2 at r.1, elim r.2 [ inl e ↦ inl e | inr l ↦ inr (omega arith) ])
 

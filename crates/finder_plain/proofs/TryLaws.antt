@@ -21,7 +21,7 @@ use Rattle.book_block.specs.declared.rule.Right.TheVariants.{Look as look-rule}
 use Rattle.knowledge.specs.Number.{digit_in, digits_of}
 use Rattle.knowledge.specs.Judgement.{known}
 use Rattle.knowledge.proofs.Number.{digit_in_lem}
-use Rattle.plan.specs.Plans.{System, given, may, Lawful, Outcome, after-set, after_look}
+use Rattle.plan.specs.Plans.{System, given, may, Lawful, Outcome, after_set_case, after_look}
 use Rattle.plan.specs.Layers.{below}
 use Rattle.plan.proofs.Layers.{layer_act}
 use Rattle.question.specs.Permitted.{ruled}
@@ -106,16 +106,16 @@ both_work {n} {S} law h {k} {x} {y} {a} o s t =
 module _ {m : Act → Bool} {k i : ℕ} {entries : List ℕ} {h : ℕ} where
   -- an act that leads back to its own state is none
   pub set_back : (b : Bool) {x : ℕ} → x ≡ set_to k i b → x ≡ k → Blocked m entries k (Set i 0 b) h
-  set_back b e s = record { outcome = λ q t. (set_to k i b, after-set i q b, inl (sym e ∙ s)) }
+  set_back b e s = record { outcome = λ q t. (set_to k i b, after_set_case i q b, inl (sym e ∙ s)) }
 
   pub set_far : (b : Bool) {x : ℕ} → x ≡ set_to k i b → h ≤ get_or entries x 0 → Blocked m entries k (Set i 0 b) h
-  set_far b e l = record { outcome = λ q t. (set_to k i b, after-set i q b, inr (rw e at l)) }
+  set_far b e l = record { outcome = λ q t. (set_to k i b, after_set_case i q b, inr (rw e at l)) }
 
   pub look_far : (b : Bool) {x : ℕ} → x ≡ look_at k i b → h ≤ get_or entries x 0 → Blocked m entries k (Look i 0) h
   look_far b e l = record { outcome = λ q t. (look_at k i b, after_look i q b, inr (rw e at l)) }
 
 set-only : {k i q : ℕ} {b : Bool} {z : ℕ} → Outcome k (Set i q b) z → z ≡ set_to k i b
-set-only (after-set i q b) = refl
+set-only (after_set_case i q b) = refl
 
 look_only : {k i q z : ℕ} → Outcome k (Look i q) z → (z ≡ look_at k i false) ⊎ (z ≡ look_at k i true)
 look_only (after_look i q false) = inl refl
@@ -124,8 +124,8 @@ look_only (after_look i q true) = inr refl
 pub set_opens : {m : Act → Bool} {k i x : ℕ} (b : Bool) → x ≡ set_to k i b → Someone m (Set i 0 b) → Opens m k (Set i 0 b) x x
 set_opens b e s = record {
   someone = s;
-  first = λ q. rw e (after-set _ q b);
-  second = λ q. rw e (after-set _ q b);
+  first = λ q. rw e (after_set_case _ q b);
+  second = λ q. rw e (after_set_case _ q b);
   only = λ q z o. inl (set-only o ∙ sym e);
 }
 

@@ -30,7 +30,7 @@ module _ {n k i rest side seven three : ℕ} (s : Spotted n k i rest side seven 
       → rank old (rest + e * seven) < h → so ≡ ltb 0 (entry look i side) → new ≡ after_offer so old rest h
       → PushedLooks n look h k i old new
   look_at {so = so} e p w less test eq =
-      try_look s.state s.setting e side so p w (rw (spot_at s e) less) s.side_is test (rw (← s.rest-is) eq)
+      try_look s.state s.setting e side so p w (rw (spot_at s e) less) s.side_is test (rw (← s.rest_is) eq)
 
   pub look_high-at : {look : List (List ℕ)} {t : List ℕ} (e : ℕ) → Beside e (digit 7 k i) → h ≤ rank t (rest + e * seven)
       → PushedLooks n look h k i t t

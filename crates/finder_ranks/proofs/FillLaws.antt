@@ -3,9 +3,8 @@ use mathlib.Core.Path.{refl, ◌∙◌}
 use mathlib.Core.Logic.{inl, inr}
 use mathlib.Core.List.{List}
 use mathlib.Core.Bool.{Bool}
-use Prim.Native.Nat.{ℕ, ◌^◌, ◌≤◌, ◌<◌}
+use Prim.Native.Nat.{ℕ}
 use native.Mathlib.Omega.{arith}
-use lib.ListN.{length}
 use Rattle.finder_ranks.specs.Marks.{Marks}
 use Rattle.finder_ranks.specs.Spread.{Ready, Spread}
 use Rattle.finder_ranks.specs.Fills.{RanksFit, RankTable, FillsRanks, FillsFirst, goal_then}

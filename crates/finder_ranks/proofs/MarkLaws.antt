@@ -10,7 +10,7 @@ use native.Mathlib.Decide.{ℕ_discrete}
 use native.Mathlib.Omega.{arith}
 use lib.Dec.{T, eqb}
 use lib.ListN.{length, get_or, set, length-set}
-use lib.Seq.{ext_get_or, get_or-set_same, get_or-set_other}
+use lib.Seq.{get_or-set_same, get_or-set_other}
 use Rattle.ground.proofs.Bools.{lt_or_ge}
 use Rattle.knowledge_acts.specs.Seven.{now_told, start_told}
 use Rattle.knowledge_acts.proofs.Seven.{now_lt, start_lt}

@@ -60,7 +60,7 @@ module _ (n k i d : ℕ) (is : d ≡ digit 7 k i) where
 -- at a spot: where the state with the digit e stands, and which side it has
 module _ {n k i rest side seven three : ℕ} (s : Spotted n k i rest side seven three) where
   pub spot_at : (e : ℕ) → put 7 k i e ≡ rest + e * seven
-  spot_at e = rw (s.rest-is, s.seven_is) (put_rest n k i e)
+  spot_at e = rw (s.rest_is, s.seven_is) (put_rest n k i e)
 
   pub spot_side : (e : ℕ) → e < 7 → now_side_number n (put 7 k i e) ≡ side + now_told e * three
   spot_side e l = rw (s.side_is, s.three_is) (side_rest n k i e l s.setting)

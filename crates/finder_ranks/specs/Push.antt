@@ -49,7 +49,7 @@ pub record Spotted (n k i rest side seven three : ℕ) : Type 0 where
   pub few : n ≤ 7
   pub state : k < 7 ^ n
   pub setting : i < n
-  pub rest-is : rest ≡ put 7 k i 0
+  pub rest_is : rest ≡ put 7 k i 0
   pub side_is : side ≡ now_side_number n (put 7 k i 0)
   pub seven_is : seven ≡ 7 ^ i
   pub three_is : three ≡ 3 ^ i

@@ -12,13 +12,13 @@ use Rattle.ground.specs.Bounds.{SettingsFit}
 use Rattle.ground.specs.Search.{Least}
 use Rattle.ground.proofs.Bools.{decide, T→true, T→false, true→T, false→T, both, and_in, and_left, and_right, or_left, or_right}
 use Rattle.refusal.specs.declared.Refusal.{Refusal}
-use Rattle.refusal.specs.declared.Refusal.TheVariants.{Settings, FormulaLength, StrayByte, LetterPast, NotSentence}
+use Rattle.refusal.specs.declared.Refusal.TheVariants.{StrayByte, LetterPast, NotSentence}
 use Rattle.refusal.specs.Order.{First, Clear}
 use Rattle.refusal.proofs.OrderLaws.{clear_none, clear-past, clear-lowest, first_unique, first-clear}
 use Rattle.formula_grammar.specs.Signs.{is_stray, is_past, Foreign}
 use Rattle.formula_grammar.specs.Automaton.{wants, Verdict, whole, breaks, verdict}
 use Rattle.formula_grammar.proofs.Begins.{whole-sentence}
-use Rattle.formula.specs.Read.{LengthFits, foreign_byte, formula_rows, ReadsFormula}
+use Rattle.formula.specs.Read.{LengthFits, formula_rows, ReadsFormula}
 use Rattle.formula.specs.Computed.{sentence_answer, foreign_answer, formula_answer}
 use Rattle.formula.specs.declared.Answer.{Answer}
 use Rattle.formula.specs.declared.Answer.TheVariants.{Accepted, Refused}

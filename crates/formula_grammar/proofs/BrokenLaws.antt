@@ -1,6 +1,6 @@
 -- Where a reader finds no part, from what its callees found: a break inside is the break of the whole, and since one text alone is the part that stands at
 -- a place, none stands where the part that begins there is not followed as it must be.
-use mathlib.Core.Path.{◌≡◌, refl, sym, ap, ap₂, ◌∙◌, subst}
+use mathlib.Core.Path.{◌≡◌, refl, sym, ap, ◌∙◌, subst}
 use mathlib.Core.Logic.{inl, inr}
 use mathlib.Core.List.{List, [], ◌∷◌, ◌++◌, append_assoc}
 use mathlib.Core.Bool.{Bool, true, false, not, ◌||◌, cond}

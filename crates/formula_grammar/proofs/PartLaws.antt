@@ -2,25 +2,22 @@
 use mathlib.Core.Path.{◌≡◌, refl, sym, ap, ap₂, ◌∙◌, subst}
 use mathlib.Core.Logic.{inl, inr}
 use mathlib.Core.List.{List, [], ◌∷◌, ◌++◌, append_assoc, append-nil}
-use mathlib.Core.Bool.{Bool, true, false, not, ◌&&◌, ◌||◌, cond}
+use mathlib.Core.Bool.{Bool, true, false, not, ◌&&◌, ◌||◌}
 use Prim.Native.Nat.{ℕ, suc, ◌+◌, ◌-◌, ◌≤◌, ◌<◌}
 use native.Mathlib.Numerals.{add-one}
 use native.Mathlib.Omega.{arith}
-use lib.Dec.{T, eqb}
+use lib.Dec.{eqb}
 use lib.ListN.{length, get_or, drop, length-append, drop_of_length-le, get_or-eq_default}
 use lib.Seq.{drop-cons}
 use borrow.Author.Tests.{ne_eqb}
 use Rattle.ground.specs.Digits.{bit}
 use Rattle.ground.proofs.Bools.{T→false, lt_or_ge}
 use Rattle.formula_grammar.specs.Grammar.{Kind, sum, product, unit, Sentence, letter, nought, one, negated, bracketed, one_unit, unit_and, one_product, product_or, text, meaning}
-use Rattle.formula_grammar.specs.Signs.{is_letter}
 use Rattle.formula_table.specs.Two.{has, WordsOf}
-use Rattle.formula_grammar.specs.Automaton as A
-use Rattle.formula_grammar.specs.Automaton.{State, wants, dead, step, is_atom, breaks, ends, verdict, stops, Parsed, Parses}
+use Rattle.formula_grammar.specs.Automaton.{stops, Parsed, Parses}
 use Rattle.formula_grammar.specs.declared.parts.Part.{Part}
-use Rattle.formula_grammar.specs.declared.parts.Part.TheVariants.{Read, Broken}
+use Rattle.formula_grammar.specs.declared.parts.Part.TheVariants.{Read}
 use Rattle.formula_table.specs.declared.Truths.{Truths}
-use Rattle.formula_grammar.proofs.Automaton.{verdict-text, verdict_dies}
 
 -- what a reader ensures of its answer, once the answer is known
 pub as_read : (k : Kind) (s : List ℕ) (i : ℕ) {r : Part} {w : Truths} {next : ℕ} → r ≡ Read w next → Parses k s i r → Parsed k s i w next

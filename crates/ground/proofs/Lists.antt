@@ -7,7 +7,7 @@ use native.Mathlib.Nat.{add-zero, add-suc, suc-add, zero-add, min-eq_left, min-e
 use native.Mathlib.Omega.{arith}
 use native.Mathlib.Numerals.{add-one}
 use Rattle.ground.proofs.Bools.{lt_or_ge}
-use lib.ListN.{length, get_or, take, drop, set, length-take, length-drop, length-set, replicate, length-replicate, take-append-drop, get_or-append}
+use lib.ListN.{length, get_or, take, drop, set, length-take, length-drop, replicate, length-replicate, take-append-drop, get_or-append}
 use lib.Seq.{ext_get_or, sets, sets-eq, length-take-le, take_all, take-take, take-suc, set_out, length-sets, get_or-append-add, get_or-take, get_or-drop}
 
 pub sets-append : (l : List ℕ) (i : ℕ) (a b : List ℕ) → sets l i (a ++ b) ≡ sets (sets l i a) (i + length a) b

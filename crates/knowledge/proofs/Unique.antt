@@ -9,7 +9,7 @@ use Rattle.knowledge.proofs.state.Knowledge.from_number.Reads as from-number
 use Rattle.knowledge.proofs.state.Knowledge.at_start.Reads as at_start
 use Rattle.knowledge.proofs.state.Knowledge.number.Reads as number
 use Rattle.knowledge.proofs.state.Knowledge.digit.Reads as digit
-use Rattle.knowledge.proofs.state.Knowledge.after_set.Reads as after-set
+use Rattle.knowledge.proofs.state.Knowledge.after_set.Reads as after_set_case
 use Rattle.knowledge.proofs.state.Knowledge.after_look.Reads as after_look
 
 -- two states with the same digits are the same state
@@ -28,7 +28,7 @@ number_unique κs a x y s p q = p ∙ sym q
 pub digit_unique : (κs : _) (a : _) (x y : _) (s : _) → digit.Post κs a x s → digit.Post κs a y s → x ≡ y
 digit_unique κs a x y s p q = p ∙ sym q
 
-pub after-set_unique : (κs : _) (a : _) (x y : _) (s : _) → after-set.Post κs a x s → after-set.Post κs a y s → x ≡ y
+pub after-set_unique : (κs : _) (a : _) (x y : _) (s : _) → after_set_case.Post κs a x s → after_set_case.Post κs a y s → x ≡ y
 after-set_unique κs a x y s p q = same-state (p ∙ sym q)
 
 pub after_look_unique : (κs : _) (a : _) (x y : _) (s : _) → after_look.Post κs a x s → after_look.Post κs a y s → x ≡ y

@@ -6,7 +6,7 @@ use Rattle.knowledge_acts.proofs.act.Act.byte.Reads as byte
 use Rattle.knowledge_acts.proofs.act.Act.offered.Reads as offered
 use Rattle.knowledge_acts.proofs.digit.now_side.Reads as now_side
 use Rattle.knowledge_acts.proofs.digit.start_side.Reads as start_side
-use Rattle.knowledge_acts.proofs.digit.after_set.Reads as after-set
+use Rattle.knowledge_acts.proofs.digit.after_set.Reads as after_set_case
 use Rattle.knowledge_acts.proofs.digit.after_look.Reads as after_look
 use Rattle.knowledge_acts.proofs.digit.first_digit.Reads as first-digit
 
@@ -27,7 +27,7 @@ now_side_unique κs a x y s p q = p ∙ sym q
 pub start_side_unique : (κs : _) (a : _) (x y : _) (s : _) → start_side.Post κs a x s → start_side.Post κs a y s → x ≡ y
 start_side_unique κs a x y s p q = p ∙ sym q
 
-pub after-set_unique : (κs : _) (a : _) (x y : _) (s : _) → after-set.Post κs a x s → after-set.Post κs a y s → x ≡ y
+pub after-set_unique : (κs : _) (a : _) (x y : _) (s : _) → after_set_case.Post κs a x s → after_set_case.Post κs a y s → x ≡ y
 after-set_unique κs a x y s p q = p ∙ sym q
 
 pub after_look_unique : (κs : _) (a : _) (x y : _) (s : _) → after_look.Post κs a x s → after_look.Post κs a y s → x ≡ y

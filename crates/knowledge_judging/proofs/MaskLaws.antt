@@ -63,14 +63,14 @@ unknown_false s t = rw (eqb→eq s 0 t)
 -- the first i settings are in the masks
 pub record MasksTo (side : ℕ → ℕ) (i unknowns values : ℕ) : Type 0 where
   pub unknowns-small : unknowns < 2 ^ i
-  pub values-small : values < 2 ^ i
+  pub values_small : values < 2 ^ i
   pub tells : (j : ℕ) → j < i → side j ≡ cond (bit unknowns j) unknown (told (bit values j))
   pub clear : (j : ℕ) → j < i → T (bit unknowns j) → bit values j ≡ false
 
 pub no_masks : (side : ℕ → ℕ) → MasksTo side 0 0 0
 no_masks side = record {
   unknowns-small = lit< tt;
-  values-small = lit< tt;
+  values_small = lit< tt;
   tells = λ j l. absurd (omega arith);
   clear = λ j l. absurd (omega arith);
 }
@@ -86,19 +86,19 @@ module _ {side : ℕ → ℕ} {i unknowns values : ℕ} (m : MasksTo side i unkn
   at-unknown = more-below unknowns i (eqb (side i) 0) m.unknowns-small
 
   at_value : (j : ℕ) → j < i → bit values' j ≡ bit values j
-  at_value = more-below values i (eqb (side i) 2) m.values-small
+  at_value = more-below values i (eqb (side i) 2) m.values_small
 
   here-unknown : bit unknowns' i ≡ eqb (side i) 0
   here-unknown = more-here unknowns i (eqb (side i) 0) m.unknowns-small
 
   here-value : bit values' i ≡ eqb (side i) 2
-  here-value = more-here values i (eqb (side i) 2) m.values-small
+  here-value = more-here values i (eqb (side i) 2) m.values_small
 
   -- a turn
   pub one_mask_more : MasksTo side (suc i) unknowns' values'
   one_mask_more = record {
     unknowns-small = more-small unknowns i (eqb (side i) 0) m.unknowns-small;
-    values-small = more-small values i (eqb (side i) 2) m.values-small;
+    values_small = more-small values i (eqb (side i) 2) m.values_small;
     tells = λ j l. below_suc j i l
         (λ e. rw (e, here-unknown, here-value) (told_by (side i) three))
         (λ k. rw (at-unknown j k, at_value j k) (m.tells j k));
@@ -127,7 +127,7 @@ pub all_masks : {n i : ℕ} {side : ℕ → ℕ} (m : Masks) → MasksTo side i 
 all_masks {n} {i} {side} m x up down =
     let e : i ≡ n = omega arith in
     let y : MasksTo side n m.unknown m.values = rw e at x in
-    record { unknown-small = y.unknowns-small; values-small = y.values-small; tells = y.tells; clear = y.clear }
+    record { unknown_small = y.unknowns-small; values_small = y.values_small; tells = y.tells; clear = y.clear }
 
 -- what either side tells is one of three
 pub side_three : (side : Side) (d : ℕ → ℕ) (i : ℕ) → told_of side d i < 3

@@ -177,12 +177,12 @@ module _ (value : Bool) (table : List ℕ) (mask values : ℕ) where
 
 module _ {n : ℕ} {side : ℕ → ℕ} {m : Masks} (few : n ≤ 7) (o : MasksOf n side m) where
   pub masks_small : m.unknown < 128
-  masks_small = omega (arith, o.unknown-small, pow_mono {i = n} {j = 7} few)
+  masks_small = omega (arith, o.unknown_small, pow_mono {i = n} {j = 7} few)
 
   -- a valuation that fits is the values with a part of the unknown settings
   part_of : (v : ℕ) → v < 2 ^ n → T (fits n side v) → bit_or m.values (bit_and v m.unknown) ≡ v
   part_of v l f =
-      same_bits n (bit_or m.values (bit_and v m.unknown)) v (or_lt n m.values (bit_and v m.unknown) o.values-small (omega (arith, and_le_l v m.unknown))) l
+      same_bits n (bit_or m.values (bit_and v m.unknown)) v (or_lt n m.values (bit_and v m.unknown) o.values_small (omega (arith, and_le_l v m.unknown))) l
       (λ i h. bit-bit_or m.values (bit_and v m.unknown) i ∙ ap (λ (b : Bool). bit m.values i || b) (bit-bit_and v m.unknown i) ∙ at i h)
     where
       at : (i : ℕ) → i < n → bit m.values i || (bit v i && bit m.unknown i) ≡ bit v i
@@ -214,7 +214,7 @@ module _ {n : ℕ} {side : ℕ → ℕ} {m : Masks} (few : n ≤ 7) (o : MasksOf
       (λ i b. and_right (bit v i) (bit m.unknown i) (subst T (bit-bit_and v m.unknown i) b))))))
       (λ h. all_intro 128 (λ t. implies (within t m.unknown) (is value (truth table (bit_or m.values t))))
       (λ t l. implies_in (within t m.unknown) (is value (truth table (bit_or m.values t)))
-      (λ x. always-at value n side table h (bit_or m.values t) (or_lt n m.values t o.values-small (below t x)) (part_fits t x))))
+      (λ x. always-at value n side table h (bit_or m.values t) (or_lt n m.values t o.values_small (below t x)) (part_fits t x))))
     where
       below : (t : ℕ) → T (within t m.unknown) → t < 2 ^ n
-      below t x = omega (arith, and_le_r t m.unknown, eqb→eq (bit_and t m.unknown) t x, o.unknown-small)
+      below t x = omega (arith, and_le_r t m.unknown, eqb→eq (bit_and t m.unknown) t x, o.unknown_small)

@@ -11,8 +11,8 @@ use Rattle.knowledge_judging.specs.declared.masks.Masks.{Masks}
 
 -- the masks of a side of n settings; an unknown setting has no value
 pub record MasksOf (n : ℕ) (side : ℕ → ℕ) (m : Masks) : Type 0 where
-  pub unknown-small : m.unknown < 2 ^ n
-  pub values-small : m.values < 2 ^ n
+  pub unknown_small : m.unknown < 2 ^ n
+  pub values_small : m.values < 2 ^ n
   pub tells : (j : ℕ) → j < n → side j ≡ cond (bit m.unknown j) unknown (told (bit m.values j))
   pub clear : (j : ℕ) → j < n → T (bit m.unknown j) → bit m.values j ≡ false
 

@@ -173,7 +173,7 @@ asks s h =
       made = taken n F (table_of n F) (pick t 5 h);
       learnt = tables-taken n s.asked.asks (pick t 6 h);
       posts = mask_bits s.asked.team (pick t 7 h);
-      settings-known = mask_bits (known_settings s.asked.known) (pick t 8 h);
+      settings_known = mask_bits (known_settings s.asked.known) (pick t 8 h);
       settings_true = mask_bits (known_true s.asked.known) (pick t 9 h);
-      settings-held = mask_bits (held_settings s.asked.held) (pick t 10 h);
+      settings_held = mask_bits (held_settings s.asked.held) (pick t 10 h);
     }

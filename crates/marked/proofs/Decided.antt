@@ -31,7 +31,7 @@ use Rattle.sheet_question.specs.LineSteps.{with_team, with_known, with_held, wit
 use Rattle.sheet_question.specs.Question.{asked_from}
 use Rattle.sheet_reading.specs.Sheet.{Sheet}
 use Rattle.sheet_reading.specs.Reading.{Meaning, refused, stated, sheet_meaning}
-use Rattle.marked.specs.Row.{Row, reads, refuses, sums, reaches, faults, prints, sheet-reaches, sheet_cannot, RowHolds, Of, Reaches, NoneReaches}
+use Rattle.marked.specs.Row.{Row, reads, refuses, sums, reaches, faults, prints, sheet_reaches, sheet_cannot, RowHolds, Of, Reaches, NoneReaches}
 use Rattle.marked.proofs.Tests.{every, pick, same, same_out}
 use Rattle.marked.proofs.FormulaRows.{reads_so, row_reads, refuses_so, row-refuses}
 use Rattle.marked.proofs.Formed.{formed, well_formed}
@@ -93,7 +93,7 @@ decided (sums block s t) = two (checkOf (drop 0 block)) s t
 decided (reaches s h plan) = every (reach_tests s (search_in s) h plan)
 decided (faults s plan x p) = every (fault_tests s plan x p)
 decided (prints s t) = print_test (sheet_meaning (bytes s)) (bytes t)
-decided (sheet-reaches s h plan t) = both_test (sheet_meaning (bytes s)) h plan (bytes t)
+decided (sheet_reaches s h plan t) = both_test (sheet_meaning (bytes s)) h plan (bytes t)
 decided (sheet_cannot s t) = cannot_test (sheet_meaning (bytes s)) (bytes t)
 
 -- ---- what they give
@@ -148,7 +148,7 @@ holds (faults s plan a p) x =
     let t = fault_tests s plan a p in
     judged s (well_formed s (pick t 0 x)) (asks s (pick t 1 x)) plan (leb→le (length plan) 32640 (pick t 2 x)) a p (pick t 3 x)
 holds (prints s t) x = printed (bytes s) (bytes t) (print_holds (sheet_meaning (bytes s)) (bytes t) x)
-holds (sheet-reaches s h plan t) x =
+holds (sheet_reaches s h plan t) x =
     let y = both_hold (sheet_meaning (bytes s)) h plan (bytes t) x in (y.0, printed (bytes s) (bytes t) y.1)
 holds (sheet_cannot s t) x =
     let y = cannot_hold (sheet_meaning (bytes s)) (bytes t) x in (y.0, printed (bytes s) (bytes t) y.1)

@@ -94,10 +94,10 @@ well_formed s h =
     let m : ℕ = s.size.posts in
     record {
       ruled = record {
-        settings-least = leb→le 1 n (pick t 0 h);
-        settings-most = leb→le n 7 (pick t 1 h);
-        posts-least = leb→le 1 m (pick t 2 h);
-        posts-most = leb→le m 8 (pick t 3 h);
+        settings_least = leb→le 1 n (pick t 0 h);
+        settings_most = leb→le n 7 (pick t 1 h);
+        posts_least = leb→le 1 m (pick t 2 h);
+        posts_most = leb→le m 8 (pick t 3 h);
         rules = rules_fit_out n m s.rules (pick t 4 h);
       };
       well_asked = record {
@@ -107,6 +107,6 @@ well_formed s h =
         held = held_fit_out n s.asked.held (pick t 8 h);
         make = in-line-out s.asked.make (pick t 9 h);
         asks = asks_fit_out s.asked.asks (pick t 10 h);
-        asks-most = leb→le (length s.asked.asks) 4 (pick t 11 h);
+        asks_most = leb→le (length s.asked.asks) 4 (pick t 11 h);
       };
     }

@@ -86,14 +86,14 @@ module _ (s : Sheet) (w : WellFormed s) (c : Certificate) (t : T (shows s c)) wh
   pub shown-written : Written (system_in s) (start_in s) c.plan
   unfolding shows
   shown-written =
-      sample_written c.states (entry c.states c.ranks) (asked_lawful w shown-asks) w.ruled.settings-most (pick (shown s c) 2 t) c.plan (start_in s) there
+      sample_written c.states (entry c.states c.ranks) (asked_lawful w shown-asks) w.ruled.settings_most (pick (shown s c) 2 t) c.plan (start_in s) there
       (pick (shown s c) 3 t)
 
   pub shown-least : Least (Reach (system_in s) (start_in s)) c.height
   unfolding shows
   shown-least =
       let table : ℕ → ℕ = entry c.states c.ranks in
-      let rank = sample_rank c.states table (asked_lawful w shown-asks) w.ruled.settings-most (pick (shown s c) 2 t) (start_in s) there in
+      let rank = sample_rank c.states table (asked_lawful w shown-asks) w.ruled.settings_most (pick (shown s c) 2 t) (start_in s) there in
       least_from (system_in s) (start_in s) c.height c.plan
       (subst (IsRank (system_in s) (start_in s)) (eqb→eq (table (start_in s)) c.height (pick (shown s c) 4 t)) rank) shown-written
 

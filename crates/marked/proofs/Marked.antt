@@ -47,9 +47,9 @@ p9 : RowHolds Table.p9
 unfolding decided
 p9 = holds Table.p9 tt
 
-p9-printed : RowHolds Table.p9-printed
+p9_printed : RowHolds Table.p9_printed
 unfolding decided
-p9-printed = holds Table.p9-printed tt
+p9_printed = holds Table.p9_printed tt
 
 p10 : RowHolds Table.p10
 unfolding decided
@@ -59,17 +59,17 @@ p11 : RowHolds Table.p11
 unfolding decided
 p11 = holds Table.p11 tt
 
-p11-printed : RowHolds Table.p11-printed
+p11_printed : RowHolds Table.p11_printed
 unfolding decided
-p11-printed = holds Table.p11-printed tt
+p11_printed = holds Table.p11_printed tt
 
 p12 : RowHolds Table.p12
 unfolding decided
 p12 = holds Table.p12 tt
 
-p12-printed : RowHolds Table.p12-printed
+p12_printed : RowHolds Table.p12_printed
 unfolding decided
-p12-printed = holds Table.p12-printed tt
+p12_printed = holds Table.p12_printed tt
 
 p13_zeros : RowHolds Table.p13_zeros
 unfolding decided
@@ -91,7 +91,7 @@ pub marked : All Table.examples
 marked =
     p1 and p2 and p3 and p4 and p5
     and p6 and p6_no_read and p7 and p8a and p8c
-    and p9 and p9-printed and p10 and p11 and p11-printed and p12 and p12-printed
+    and p9 and p9_printed and p10 and p11 and p11_printed and p12 and p12_printed
     and p13_zeros and p13_ones
     and empty_sheet and six_settings
     and done

@@ -38,7 +38,7 @@ module _ (s : Sheet) (w : WellFormed s) (c : Certificate) (t : T (shows s c)) wh
       let written = shown-written s w c t in
       let filled = all-ranks law ranks l in (
         (filled.0, inr (s.size.settings, s.size.posts, v, l, filled.1, (least, (c.plan, written, refl, big, refl)))),
-        λ r ranks' room' f. one_reach law w.ruled.settings-most (start_in s) room room' c.height c.plan least written big r (answers v ranks room l r ranks' room' f),
+        λ r ranks' room' f. one_reach law w.ruled.settings_most (start_in s) room room' c.height c.plan least written big r (answers v ranks room l r ranks' room' f),
       )
 
   pub reached : (h : ℕ) (plan : List ℕ) → c.height ≡ h → encode c.plan ≡ plan → Of (stated s) (Reaches h plan)
@@ -66,7 +66,7 @@ module _ (s : Sheet) (w : WellFormed s) (states : List ℕ) (t : T (catches s st
         λ ranks room l.
             let filled = all-ranks law ranks l in (
               (filled.0, inr (s.size.settings, s.size.posts, v, l, filled.1, (none, refl))),
-              λ r ranks' room' f. one_cannot law w.ruled.settings-most (start_in s) room room' none r (answers v ranks room l r ranks' room' f),
+              λ r ranks' room' f. one_cannot law w.ruled.settings_most (start_in s) room room' none r (answers v ranks room l r ranks' room' f),
             ),
       )
 

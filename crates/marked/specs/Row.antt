@@ -43,7 +43,7 @@ pub data Row : Type 0 where
   -- a sheet, and all that is printed for it
   prints : (sheet printed : String) → Row
   -- a sheet, the least height and the bytes of the plan written for its question, and all that is printed
-  sheet-reaches : (sheet : String) (height : ℕ) (plan : List ℕ) (printed : String) → Row
+  sheet_reaches : (sheet : String) (height : ℕ) (plan : List ℕ) (printed : String) → Row
   -- a sheet with a question that no plan answers, and all that is printed
   sheet_cannot : (sheet printed : String) → Row
 
@@ -96,7 +96,7 @@ RowHolds (sums block s t) = (r : Sums) → r ≡ check (drop 0 block) → (r.s �
 RowHolds (reaches asked h plan) = Of (stated asked) (Reaches h plan)
 RowHolds (faults asked plan x p) = Of (stated asked) (Faults plan x p)
 RowHolds (prints s t) = Printed (bytes s) (bytes t)
-RowHolds (sheet-reaches s h plan t) = Of (sheet_meaning (bytes s)) (Reaches h plan) × Printed (bytes s) (bytes t)
+RowHolds (sheet_reaches s h plan t) = Of (sheet_meaning (bytes s)) (Reaches h plan) × Printed (bytes s) (bytes t)
 RowHolds (sheet_cannot s t) = Of (sheet_meaning (bytes s)) NoneReaches × Printed (bytes s) (bytes t)
 
 -- every row of a table

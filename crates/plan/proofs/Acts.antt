@@ -10,24 +10,24 @@ use Rattle.ground.proofs.Search.{all-at, any_intro, any_elim}
 use Rattle.knowledge_acts.specs.Acts.{setting_of, post_of, set_to, look_at}
 use Rattle.knowledge_acts.specs.declared.act.Act.{Act}
 use Rattle.knowledge_acts.specs.declared.act.Act.TheVariants.{Set, Look}
-use Rattle.plan.specs.Plans.{System, may, Outcome, after-set, after_look}
+use Rattle.plan.specs.Plans.{System, may, Outcome, after_set_case, after_look}
 use Rattle.plan.specs.Layers.{leads, can, one_of, some_act}
 
 -- what holds at the states after an act holds at its outcomes
 pub after_a_set : (P : ℕ → Type 0) {k i q : ℕ} {b : Bool} {x : ℕ} → P (set_to k i b) → Outcome k (Set i q b) x → P x
-after_a_set P h (after-set i q b) = h
+after_a_set P h (after_set_case i q b) = h
 
 pub after_a_look : (P : ℕ → Type 0) {k i q x : ℕ} → P (look_at k i false) → P (look_at k i true) → Outcome k (Look i q) x → P x
 after_a_look P f t (after_look i q false) = f
 after_a_look P f t (after_look i q true) = t
 
 pub leads_to : {k x : ℕ} {a : Act} (f : ℕ → Bool) → T (leads f k a) → Outcome k a x → T (f x)
-leads_to f h (after-set i q b) = h
+leads_to f h (after_set_case i q b) = h
 leads_to {k} f h (after_look i q false) = and_left (f (look_at k i false)) (f (look_at k i true)) h
 leads_to {k} f h (after_look i q true) = and_right (f (look_at k i false)) (f (look_at k i true)) h
 
 pub leads_in : (f : ℕ → Bool) (k : ℕ) (a : Act) → ((x : ℕ) → Outcome k a x → T (f x)) → T (leads f k a)
-leads_in f k (Set i q b) h = h (set_to k i b) (after-set i q b)
+leads_in f k (Set i q b) h = h (set_to k i b) (after_set_case i q b)
 leads_in f k (Look i q) h =
     and_in (f (look_at k i false)) (f (look_at k i true)) (h (look_at k i false) (after_look i q false)) (h (look_at k i true) (after_look i q true))
 

@@ -78,10 +78,10 @@ module _ (n : ℕ) where
     pub so_after : (p : Plan) (k v a : ℕ) → Permitted S k p → So k v a → So (knows_after k (run p a)) v (real_after a (run p a))
     so_after stop k v a m h = h
     so_after (set_then i q b p) k v a m h =
-        so_after p (set_to k i b) v (change a i b) m.1 (so_set k i v a b (law.setting_of_lem k (Set i q b) m.0) h)
+        so_after p (set_to k i b) v (change a i b) m.1 (so_set k i v a b (law.setting_of_case k (Set i q b) m.0) h)
     so_after (look_then i q p r) k v a m h =
-        let l = law.setting_of_lem k (Look i q) m.0 in
-        let z = law.looks-at k i q m.0 in
+        let l = law.setting_of_case k (Look i q) m.0 in
+        let z = law.looks_at k i q m.0 in
         elim (decide (bit a i)) [
           | inl t ↦ (let e = T→true (bit a i) t in subst (λ es. So (knows_after k es) v (real_after a es)) (sym (run_look i q a true p r e))
               (so_after r (look_at k i true) v a m.2 (so_look k i v a true l z e h)))

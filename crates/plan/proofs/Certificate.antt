@@ -11,7 +11,7 @@ use Rattle.knowledge_acts.specs.Acts.{set_to, look_at}
 use Rattle.knowledge_acts.proofs.Outcomes.{set_below, look_below}
 use Rattle.knowledge_acts.specs.declared.act.Act.{Act}
 use Rattle.knowledge_acts.specs.declared.act.Act.TheVariants.{Set, Look}
-use Rattle.plan.specs.Plans.{System, may, Lawful, Outcome, after-set, after_look, Plan, stop, set_then, look_then, Works, height}
+use Rattle.plan.specs.Plans.{System, may, Lawful, Outcome, after_set_case, after_look, Plan, stop, set_then, look_then, Works, height}
 use Rattle.plan.specs.Ranks.{IsRank}
 use Rattle.plan.specs.Certificate.{Certified}
 use Rattle.plan.proofs.Acts.{after_a_set, after_a_look}
@@ -20,8 +20,8 @@ use Rattle.plan.proofs.Bound.{short-plan}
 
 -- an act's outcomes are knowledge numbers of n settings again
 pub outcome_lt : {n : ℕ} {S : System} (law : Lawful n S) {k x : ℕ} {a : Act} → T (may S k a) → Outcome k a x → k < 7 ^ n → x < 7 ^ n
-outcome_lt {n} law {k} m (after-set i q b) h = set_below k i b n h (law.setting_of_lem k (Set i q b) m)
-outcome_lt {n} law {k} m (after_look i q b) h = look_below k i b n h (law.setting_of_lem k (Look i q) m)
+outcome_lt {n} law {k} m (after_set_case i q b) h = set_below k i b n h (law.setting_of_case k (Set i q b) m)
+outcome_lt {n} law {k} m (after_look i q b) h = look_below k i b n h (law.setting_of_case k (Look i q) m)
 
 -- acts do not lead out of the states with an entry
 abbrev pub Closed : System → (ℕ → Type 0) → Type 0
@@ -50,7 +50,7 @@ module _ {n : ℕ} {S : System} {Has : ℕ → Type 0} {table : ℕ → ℕ} (la
       good.least k b (Set i q v) (suc (height p)) record {
         allowed = w.0;
         lower = λ x. after_a_set (λ x. table x < suc (height p))
-            (omega (arith, none-lower p (set_to k i v) (closed k (set_to k i v) (Set i q v) b w.0 (after-set i q v)) w.1));
+            (omega (arith, none-lower p (set_to k i v) (closed k (set_to k i v) (Set i q v) b w.0 (after_set_case i q v)) w.1));
       }
   none-lower (look_then i q p r) k b w =
       good.least k b (Look i q) (suc (max (height p) (height r))) record {

@@ -19,7 +19,7 @@ use Rattle.plan.specs.declared.Permit.{Permit}
 use Rattle.plan.specs.declared.Permit.TheVariants.{Given, Denied, ChangesNothing}
 use Rattle.plan.specs.Plans.{System, given, may, Lawful, Plan, stop, set_then, look_then, Works}
 use Rattle.plan.specs.Bytes.{encode}
-use Rattle.plan.specs.Check.{Fault, no_act, not-permitted, changes_nothing_lem, not-settled, Verdict, accepted, faulty, Reading, goes_on, fails, outcomes, read_act, read_named, read_stop, read_byte, judge, check}
+use Rattle.plan.specs.Check.{Fault, no_act, not_permitted, changes_nothing_case, not_settled, Verdict, accepted, faulty, Reading, goes_on, fails, outcomes, read_act, read_named, read_stop, read_byte, judge, check}
 use Rattle.knowledge_acts.proofs.Acts.{act_of_byte}
 use Rattle.plan.proofs.Bytes.{byte_of_act, byte_positive}
 
@@ -33,7 +33,7 @@ module _ (S : System) (k : ℕ) where
   pub read-stop : T (S.goal k) → read_byte S k 0 ≡ goes_on []
   read-stop g = rw (T→true (S.goal k) g)
 
-  pub read-unsettled : T (not (S.goal k)) → read_byte S k 0 ≡ fails not-settled
+  pub read-unsettled : T (not (S.goal k)) → read_byte S k 0 ≡ fails not_settled
   read-unsettled g = rw (T→false (S.goal k) g)
 
   pub read_named_lem : (c : ℕ) → 0 < c → read_byte S k c ≡ read_named S k (act_of c)
@@ -47,11 +47,11 @@ module _ (S : System) (k : ℕ) where
   read-other c a h e o = read_named_lem c h ∙ rw (e, T→false (S.offers a) o)
 
   pub read_forbidden : (c : ℕ) (a : Act) (why : Why) → 0 < c → act_of c ≡ One a → T (S.offers a) → S.permits k a ≡ Denied why
-      → read_byte S k c ≡ fails (not-permitted why)
+      → read_byte S k c ≡ fails (not_permitted why)
   read_forbidden c a why h e o p = read_named_lem c h ∙ rw (e, T→true (S.offers a) o, p)
 
   pub read_idle : (c : ℕ) (a : Act) → 0 < c → act_of c ≡ One a → T (S.offers a) → S.permits k a ≡ ChangesNothing
-      → read_byte S k c ≡ fails changes_nothing_lem
+      → read_byte S k c ≡ fails changes_nothing_case
   read_idle c a h e o p = read_named_lem c h ∙ rw (e, T→true (S.offers a) o, p)
 
   pub read_act_lem : (c : ℕ) (a : Act) → 0 < c → act_of c ≡ One a → T (may S k a) → read_byte S k c ≡ goes_on (outcomes k a)
@@ -119,7 +119,7 @@ Plans S (k ∷ ks) bytes = (p : Plan) × Works S k p × ((rest : List ℕ) × (b
 module _ {n : ℕ} {S : System} (law : Lawful n S) (few : n ≤ 7) where
   read-allowed : (k : ℕ) (a : Act) → T (may S k a) → read_byte S k (byte_of a) ≡ goes_on (outcomes k a)
   read-allowed k a m =
-      read_act_lem S k (byte_of a) a (byte_positive a) (act_of_byte a (omega (arith, law.setting_of_lem k a m)) (law.post_of_lem k a m)) m
+      read_act_lem S k (byte_of a) a (byte_positive a) (act_of_byte a (omega (arith, law.setting_of_case k a m)) (law.post_of_case k a m)) m
 
   pub judge-plan : (p : Plan) (k : ℕ) (ks : List ℕ) (at : ℕ) (rest : List ℕ) → Works S k p
       → judge S (k ∷ ks) at (encode p ++ rest) ≡ judge S ks (at + length (encode p)) rest

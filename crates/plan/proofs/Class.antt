@@ -22,7 +22,7 @@ use Rattle.knowledge_acts.specs.Seven.{after_set}
 use Rattle.knowledge_acts.specs.Acts.{set_to}
 use Rattle.knowledge_acts.specs.declared.act.Act.{Act}
 use Rattle.knowledge_acts.specs.declared.act.Act.TheVariants.{Set, Look}
-use Rattle.plan.specs.Plans.{System, may, Lawful, Outcome, after-set, after_look}
+use Rattle.plan.specs.Plans.{System, may, Lawful, Outcome, after_set_case, after_look}
 use Rattle.plan.specs.Pending.{nought, unknowns}
 use Rattle.knowledge_acts.proofs.Seven.{set_lt}
 use Rattle.plan.proofs.Unknowns.{seven, unknowns_le, unknowns-set, unknowns_look}
@@ -132,7 +132,7 @@ set_stays n k y i b m l = go (digit 7 y i) refl
 -- an act stays in the class or makes a setting known
 pub stays : {n : ℕ} {S : System} (law : Lawful n S) (k y x : ℕ) (a : Act) → Mates n k y → T (may S y a) → Outcome y a x
     → Mates n k x ⊎ (unknowns n x < unknowns n k)
-stays {n} law k y x a m t (after-set i q b) =
-    set_stays n k y i b m (law.setting_of_lem y (Set i q b) t)
+stays {n} law k y x a m t (after_set_case i q b) =
+    set_stays n k y i b m (law.setting_of_case y (Set i q b) t)
 stays {n} law k y x a m t (after_look i q b) =
-    inr (omega (arith, mates_unknowns n k y m, unknowns_look n y i b (law.setting_of_lem y (Look i q) t) (law.looks-at y i q t)))
+    inr (omega (arith, mates_unknowns n k y m, unknowns_look n y i b (law.setting_of_case y (Look i q) t) (law.looks_at y i q t)))

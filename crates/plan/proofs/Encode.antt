@@ -16,7 +16,7 @@ use Rattle.plan.proofs.Bytes.{byte_injective, byte_positive}
 module _ {n : ℕ} {S : System} (law : Lawful n S) (few : n ≤ 7) where
   one_act : (k : ℕ) (a c : Act) → T (may S k a) → T (may S k c) → byte_of a ≡ byte_of c → a ≡ c
   one_act k a c m l e =
-      byte_injective a c (omega (arith, law.setting_of_lem k a m)) (law.post_of_lem k a m) (omega (arith, law.setting_of_lem k c l)) (law.post_of_lem k c l) e
+      byte_injective a c (omega (arith, law.setting_of_case k a m)) (law.post_of_case k a m) (omega (arith, law.setting_of_case k c l)) (law.post_of_case k c l) e
 
   no_act : {A : Type 0} {s t : List ℕ} (a : Act) → 0 ∷ s ≡ byte_of a ∷ t → A
   no_act a e = let z : 0 ≡ byte_of a = cc in absurd (omega (arith, byte_positive a))

@@ -1,7 +1,7 @@
 -- A working plan of height below h exists exactly where layer h says so (`sound`, `complete`): a layer has the goal's states and those with an act
 -- into the layer before it, so a plan's first act takes both from one layer to the one before.
 use mathlib.Core.Logic.{◌⊎◌, inl, inr}
-use mathlib.Core.Bool.{Bool, true, false, ◌||◌}
+use mathlib.Core.Bool.{true, false}
 use Prim.Native.Nat.{ℕ, zero, suc, ◌+◌, ◌≤◌, ◌<◌}
 use native.Mathlib.Nat.{zero-add, suc-add, add_comm, le_dest}
 use native.Mathlib.Omega.{arith}
@@ -10,7 +10,7 @@ use Rattle.ground.proofs.Bools.{or_left, or_right, or_out}
 use Rattle.knowledge_acts.specs.Acts.{set_to, look_at}
 use Rattle.knowledge_acts.specs.declared.act.Act.{Act}
 use Rattle.knowledge_acts.specs.declared.act.Act.TheVariants.{Set, Look}
-use Rattle.plan.specs.Plans.{System, may, Lawful, Outcome, after-set, after_look, Plan, stop, set_then, look_then, Works, height}
+use Rattle.plan.specs.Plans.{System, may, Lawful, Outcome, after_set_case, after_look, Plan, stop, set_then, look_then, Works, height}
 use Rattle.plan.specs.Layers.{can, some_act, below}
 use Rattle.plan.proofs.Acts.{after_a_set, after_a_look, some_in, some_out, can_in, can-may, can-at}
 
@@ -21,7 +21,7 @@ Within S h k = (p : Plan) × Works S k p × (height p < h)
 -- an act and a plan from each of its outcomes make a plan
 pub act_then : (S : System) (h k : ℕ) (a : Act) → T (may S k a) → ((x : ℕ) → Outcome k a x → Within S h x) → Within S (suc h) k
 act_then S h k (Set i q b) m f =
-    let r = f (set_to k i b) (after-set i q b) in
+    let r = f (set_to k i b) (after_set_case i q b) in
     (set_then i q b r.0, (m, r.1), omega arith)
 act_then S h k (Look i q) m f =
     let r = f (look_at k i false) (after_look i q false) in
@@ -37,7 +37,7 @@ module _ {n : ℕ} {S : System} (law : Lawful n S) where
   unfolding below
   layer_act h k a m f =
       or_right (S.goal k) (some_act n (can S (below n S h) k))
-      (some_in n (can S (below n S h) k) a (can_in S (below n S h) k a m f) (law.setting_of_lem k a m) (law.post_of_lem k a m))
+      (some_in n (can S (below n S h) k) a (can_in S (below n S h) k a m f) (law.setting_of_case k a m) (law.post_of_case k a m))
 
   -- what a state of a layer has: the goal, or an act into the layer before
   pub layer_out : (h k : ℕ) → T (below n S (suc h) k) → T (S.goal k) ⊎ ((a : Act) × T (may S k a) × ((x : ℕ) → Outcome k a x → T (below n S h x)))

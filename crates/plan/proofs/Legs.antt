@@ -1,6 +1,6 @@
 -- Two legs: the first leg as a system of its own has exactly the plans that work and leave the second team a working plan at each stop. So its least
 -- height, its "cannot" and its ranks are those of two legs.
-use mathlib.Core.Path.{◌≡◌, refl}
+use mathlib.Core.Path.{◌≡◌}
 use mathlib.Core.Logic.{◌↔◌, ◌⊎◌, inl, inr}
 use mathlib.Core.Bool.{Bool, true, false, ◌&&◌}
 use Prim.Native.Nat.{ℕ, suc, ◌-◌, ◌^◌, ◌≤◌, ◌<◌}
@@ -9,9 +9,8 @@ use lib.Dec.{T}
 use Rattle.ground.specs.Search.{Least}
 use Rattle.ground.proofs.Bools.{and_in, and_left, and_right}
 use Rattle.knowledge_acts.specs.Acts.{set_to, look_at}
-use Rattle.plan.specs.Plans.{System, may, Lawful, Plan, stop, set_then, look_then, Works, height}
-use Rattle.plan.specs.Ranks.{Reach, Cannot, IsRank}
-use Rattle.plan.specs.Layers.{below}
+use Rattle.plan.specs.Plans.{System, Lawful, Plan, stop, set_then, look_then, Works, height}
+use Rattle.plan.specs.Ranks.{Reach, IsRank}
 use Rattle.plan.specs.Legs.{WorksThen, ReachThen, can_from, with_goal, first_leg}
 use Rattle.plan.proofs.Layers.{sound, complete}
 use Rattle.plan.proofs.Bound.{bound}
@@ -19,7 +18,7 @@ use Rattle.plan.proofs.Ranks.{rank_reach}
 
 -- what is lawful does not turn on the goal
 pub lawful_goal : {n : ℕ} {S : System} (goal : ℕ → Bool) → Lawful n S → Lawful n (with_goal S goal)
-lawful_goal goal law = record { setting_of_lem = law.setting_of_lem; post_of_lem = law.post_of_lem; looks-at = law.looks-at }
+lawful_goal goal law = record { setting_of_case = law.setting_of_case; post_of_case = law.post_of_case; looks_at = law.looks_at }
 
 pub first_lawful : {n : ℕ} {S : System} (R : System) → Lawful n S → Lawful n (first_leg n S R)
 unfolding first_leg

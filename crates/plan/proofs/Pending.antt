@@ -29,14 +29,14 @@ pending-stop n k x ks p = (omega (arith, p.1.0), p.1.1)
 
 module _ {n : ℕ} {S : System} (law : Lawful n S) where
   pub pending-set : (k i q : ℕ) (b : Bool) (ks : List ℕ) → T (may S k (Set i q b)) → Pending n k ks → Pending n (set_to k i b) ks
-  pending-set k i q b ks m p = (omega (arith, p.0, unknowns-set n k i b (law.setting_of_lem k (Set i q b) m)), p.1)
+  pending-set k i q b ks m p = (omega (arith, p.0, unknowns-set n k i b (law.setting_of_case k (Set i q b) m)), p.1)
 
   pub pending_look : (k i q : ℕ) (ks : List ℕ) → T (may S k (Look i q)) → Pending n k ks → Pending n (look_at k i false) (look_at k i true ∷ ks)
   pending_look k i q ks m p =
       (omega (arith, p.0, less false), (omega (arith, p.0, less true), p.1))
     where
       less : (b : Bool) → unknowns n (look_at k i b) + 1 ≡ unknowns n k
-      less b = unknowns_look n k i b (law.setting_of_lem k (Look i q) m) (law.looks-at k i q m)
+      less b = unknowns_look n k i b (law.setting_of_case k (Look i q) m) (law.looks_at k i q m)
 
   -- the same for whatever byte reads well
   abbrev AllPending : List ℕ → Type 0

@@ -11,7 +11,7 @@ use Rattle.knowledge_acts.specs.Acts.{byte_of, set_to, look_at}
 use Rattle.knowledge_acts.specs.declared.act.Act.{Act}
 use Rattle.knowledge_acts.specs.declared.act.Act.TheVariants.{Set, Look}
 use Rattle.knowledge.specs.Fits.{implies}
-use Rattle.plan.specs.Plans.{System, may, Lawful, Outcome, after-set, after_look, Plan, stop, set_then, look_then}
+use Rattle.plan.specs.Plans.{System, may, Lawful, Outcome, after_set_case, after_look, Plan, stop, set_then, look_then}
 use Rattle.plan.specs.Ranks.{IsRank, Chosen, Written}
 use Rattle.plan.specs.Certificate.{Leads, Certified}
 use Rattle.plan.specs.Layers.{leads, can, some_act}
@@ -99,13 +99,13 @@ module _ {n : ℕ} {S : System} (ks : List ℕ) (table : ℕ → ℕ) (law : Law
   minded : (k : ℕ) (a : Act) → Has k → T (may S k a) → T (leads (λ x. elem x ks) k a) × (table k ≤ suc (top table k a))
   minded k a m h =
       let r = holds (may S k a) (leads (λ x. elem x ks) k a && leb (table k) (suc (top table k a))) h
-      (every_at n (minds S ks table k) a (four k m).3 (law.setting_of_lem k a h) (law.post_of_lem k a h)) in (
+      (every_at n (minds S ks table k) a (four k m).3 (law.setting_of_case k a h) (law.post_of_case k a h)) in (
         and_left (leads (λ x. elem x ks) k a) (leb (table k) (suc (top table k a))) r,
         leb→le (table k) (suc (top table k a)) (and_right (leads (λ x. elem x ks) k a) (leb (table k) (suc (top table k a))) r),
       )
 
   top_lt : (k h : ℕ) (a : Act) → ((x : ℕ) → Outcome k a x → table x < h) → top table k a < h
-  top_lt k h (Set i q b) f = f (set_to k i b) (after-set i q b)
+  top_lt k h (Set i q b) f = f (set_to k i b) (after_set_case i q b)
   top_lt k h (Look i q) f = omega (arith, f (look_at k i false) (after_look i q false), f (look_at k i true) (after_look i q true))
 
   closed : Closed S Has
@@ -133,7 +133,7 @@ module _ {n : ℕ} {S : System} (ks : List ℕ) (table : ℕ → ℕ) (law : Law
       let s = and_right (drops S table k (table k) a) (every_act n (no_smaller S table k a)) c in
       chosen closed sample_rank k a m (drops_out k (table k) a d)
       (λ c l. leb→le (byte_of a) (byte_of c) (holds (drops S table k (table k) c) (leb (byte_of a) (byte_of c)) (drops_in k (table k) c l)
-      (every_at n (no_smaller S table k a) c s (law.setting_of_lem k c l.allowed) (law.post_of_lem k c l.allowed))))
+      (every_at n (no_smaller S table k a) c s (law.setting_of_case k c l.allowed) (law.post_of_case k c l.allowed))))
 
   -- the plan tested is the plan written
   pub sample_written : (p : Plan) (k : ℕ) → T (elem k ks) → T (writes n S table p k) → Written S k p
@@ -142,7 +142,7 @@ module _ {n : ℕ} {S : System} (ks : List ℕ) (table : ℕ → ℕ) (law : Law
   sample_written (set_then i q b p) k m w =
       let c = picked k (Set i q b) m (and_left (chooses n S table k (Set i q b)) (writes n S table p (set_to k i b)) w) in (
         c,
-        sample_written p (set_to k i b) (closed k (set_to k i b) (Set i q b) m c.lowers.allowed (after-set i q b))
+        sample_written p (set_to k i b) (closed k (set_to k i b) (Set i q b) m c.lowers.allowed (after_set_case i q b))
             (and_right (chooses n S table k (Set i q b)) (writes n S table p (set_to k i b)) w),
       )
   sample_written (look_then i q p r) k m w =

@@ -61,7 +61,7 @@ module _ (n : ℕ) (formula : List ℕ) where
     other : ℕ
     one_lt : one < 2 ^ n
     other_lt : other < 2 ^ n
-    one-fits : T (fits_start n (digit 7 k) one)
+    one_fits : T (fits_start n (digit 7 k) one)
     other_fits : T (fits_start n (digit 7 k) other)
     one_false : truth formula one ≡ false
     other_true : truth formula other ≡ true
@@ -76,7 +76,7 @@ module _ (n : ℕ) (formula : List ℕ) where
         other = w;
         one_lt = v-lt;
         other_lt = w-lt;
-        one-fits = v-fits;
+        one_fits = v-fits;
         other_fits = w_Fits;
         one_false = v-false;
         other_true = w-true;
@@ -89,7 +89,7 @@ module _ (n : ℕ) (formula : List ℕ) where
     other = o.other;
     one_lt = o.one_lt;
     other_lt = o.other_lt;
-    one-fits = fits-set n k i o.one b o.one-fits;
+    one_fits = fits-set n k i o.one b o.one_fits;
     other_fits = fits-set n k i o.other b o.other_fits;
     one_false = o.one_false;
     other_true = o.other_true;
@@ -103,12 +103,12 @@ module _ (n : ℕ) (formula : List ℕ) where
     other = o.other;
     one_lt = o.one_lt;
     other_lt = o.other_lt;
-    one-fits = fits_look n k i o.one b z o.one-fits;
+    one_fits = fits_look n k i o.one b z o.one_fits;
     other_fits = fits_look n k i o.other b z o.other_fits;
     one_false = o.one_false;
     other_true = o.other_true;
     alike = λ a c x y.
-        run_look i q a b p r (x i l z ∙ fits_seen n k i o.one b l o.one-fits)
+        run_look i q a b p r (x i l z ∙ fits_seen n k i o.one b l o.one_fits)
         ∙ ap (λ t. saw (Look i q) b ∷ t) (o.alike a c (real_look n k i o.one a b x) (real_look n k i o.other c b y))
         ∙ sym (run_look i q c b p r (y i l z ∙ fits_seen n k i o.other b l o.other_fits));
   }
@@ -125,9 +125,9 @@ module _ (n : ℕ) (formula : List ℕ) where
       | inr o ↦ inr (open_set k i q b p o)
     ]
     works_or_open (look_then i q p r) k m = elim (works_or_open p (look_at k i false) m.1) [
-      | inr o ↦ inr (open_look k i q false p r (law.setting_of_lem k (Look i q) m.0) (law.looks-at k i q m.0) o)
+      | inr o ↦ inr (open_look k i q false p r (law.setting_of_case k (Look i q) m.0) (law.looks_at k i q m.0) o)
       | inl w ↦ elim (works_or_open r (look_at k i true) m.2) [
-        | inr o ↦ inr (open_look k i q true p r (law.setting_of_lem k (Look i q) m.0) (law.looks-at k i q m.0) o)
+        | inr o ↦ inr (open_look k i q true p r (law.setting_of_case k (Look i q) m.0) (law.looks_at k i q m.0) o)
         | inl x ↦ inl (m.0, w, x)
       ]
     ]
@@ -141,10 +141,10 @@ module _ (n : ℕ) (formula : List ℕ) where
         other = o.other;
         one_lt = o.one_lt;
         other_lt = o.other_lt;
-        one-fits = o.one-fits;
+        one_fits = o.one_fits;
         other_fits = o.other_fits;
         differ = λ e. let z : false ≡ true = sym o.one_false ∙ e ∙ o.other_true in let c : ◌≡◌ {A = ℕ} 0 1 = cc in omega arith;
-        same-run = o.alike o.one o.other (λ i l z. refl) (λ i l z. refl);
+        same_run = o.alike o.one o.other (λ i l z. refl) (λ i l z. refl);
       })
     ]
 

@@ -43,11 +43,11 @@ size {n} law stop k w = one-le-mul (one-le-pow (unknowns n k) 2 (lit< tt)) (omeg
 size {n} law (set_then i q b p) k w =
     one_more (length (encode p)) (unknowns n k) (height p)
     (wider (length (encode p)) (unknowns n (set_to k i b)) (unknowns n k) (height p)
-    (omega (arith, unknowns-set n k i b (law.setting_of_lem k (Set i q b) w.0))) (size law p (set_to k i b) w.1))
+    (omega (arith, unknowns-set n k i b (law.setting_of_case k (Set i q b) w.0))) (size law p (set_to k i b) w.1))
 size {n} law (look_then i q p r) k w =
     let u = unknowns n (look_at k i false) in
-    let e : unknowns n k ≡ suc u = omega (arith, unknowns_look n k i false (law.setting_of_lem k (Look i q) w.0) (law.looks-at k i q w.0)) in
-    let f : unknowns n (look_at k i true) ≡ u = omega (arith, unknowns_look n k i true (law.setting_of_lem k (Look i q) w.0) (law.looks-at k i q w.0)) in
+    let e : unknowns n k ≡ suc u = omega (arith, unknowns_look n k i false (law.setting_of_case k (Look i q) w.0) (law.looks_at k i q w.0)) in
+    let f : unknowns n (look_at k i true) ≡ u = omega (arith, unknowns_look n k i true (law.setting_of_case k (Look i q) w.0) (law.looks_at k i q w.0)) in
     one_more (length (encode p ++ encode r)) (unknowns n k) (max (height p) (height r))
     (rw (length-append, e)
     (two-outcomes (length (encode p)) (length (encode r)) u (height p) (height r) (size law p (look_at k i false) w.1) (rw f at (size law r (look_at k i true) w.2))))

@@ -28,7 +28,7 @@ module _ {S : System} {Has : ℕ → Type 0} {table : ℕ → ℕ} (closed : Clo
   pub chosen : (k : ℕ) (a : Act) → Has k → Leads S table k (table k) a → ((c : Act) → Leads S table k (table k) c → byte_of a ≤ byte_of c) → Chosen S k a
   chosen k a b l small = record {
     rank = table k;
-    is-rank = ranks k b;
+    is_rank = ranks k b;
     lowers = lowers_in k (table k) a b l;
     smallest = λ c m. small c (lowers_out k (table k) c b m);
   }

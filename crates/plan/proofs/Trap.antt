@@ -42,7 +42,7 @@ module _ {n : ℕ} {S : System} (law : Lawful n S) (l : List ℕ) (t : T (trap n
       holds (may S k a) (back l k a) h
       (every_at n (caught S l k) a
       (and_right (not (S.goal k)) (every_act n (caught S l k)) (each_at (λ k. not (S.goal k) && every_act n (caught S l k)) l k t m))
-      (law.setting_of_lem k a h) (law.post_of_lem k a h))
+      (law.setting_of_case k a h) (law.post_of_case k a h))
 
   no_plan : (p : Plan) (k : ℕ) → T (elem k l) → Works S k p → ⊥
   no_plan stop k m w = both (S.goal k) w (unsettled k m)

@@ -60,8 +60,8 @@ module _ (n : ℕ) (formula : List ℕ) where
         alike (set_then i q b p) k a c works x y same =
             alike p (set_to k i b) (change a i b) (change c i b) works.1 (came_set n k i v a b x) (came_set n k i w c b y) (ap rest same)
         alike (look_then i q p r) k a c works x y same =
-            let l = law.setting_of_lem k (Look i q) works.0 in
-            let z = law.looks-at k i q works.0 in
+            let l = law.setting_of_case k (Look i q) works.0 in
+            let z = law.looks_at k i q works.0 in
             elim (decide (bit a i)) [
               | inl t ↦ (let e = T→true (bit a i) t in alike r (look_at k i true) a c works.2
                   (came_look n k i v a true l z e x) (came_look n k i w c true l z (same_reading i q p r a c same true e) y)
@@ -75,8 +75,8 @@ module _ (n : ℕ) (formula : List ℕ) where
       pub works_no_twins : (p : Plan) (k : ℕ) → Works S k p → Twins n formula k p → ⊥
       works_no_twins p k works t =
           t.differ (alike t.one t.other t.one_lt t.other_lt p k t.one t.other works
-          (record { fitting = t.one-fits; real = λ i l z. refl }) (record { fitting = t.other_fits; real = λ i l z. refl })
-          t.same-run)
+          (record { fitting = t.one_fits; real = λ i l z. refl }) (record { fitting = t.other_fits; real = λ i l z. refl })
+          t.same_run)
 
     -- a system whose goal is that the formula is settled, and nothing more
     module _ (exact : (k : ℕ) → S.goal k ≡ learn_settled n (digit 7 k) formula) where

@@ -21,7 +21,7 @@ use Rattle.knowledge_acts.proofs.Outcomes.{set_here, look_here}
 use Rattle.refusal.specs.declared.Why.{Why}
 use Rattle.plan.specs.declared.Permit.{Permit}
 use Rattle.plan.specs.declared.Permit.TheVariants.{Given, Denied, ChangesNothing}
-use Rattle.plan.specs.Plans.{System, given, may, Lawful, Outcome, after-set, after_look}
+use Rattle.plan.specs.Plans.{System, given, may, Lawful, Outcome, after_set_case, after_look}
 use Rattle.plan.specs.Without.{changes_nothing, unless_nothing, without}
 use Rattle.plan.proofs.Acts.{after_a_set}
 use Rattle.plan.proofs.Compare.{PermitsMore}
@@ -48,11 +48,11 @@ pub nothing_exactly : {n : ℕ} {S : System} (law : Lawful n S) (k : ℕ) (a : A
     → T (changes_nothing (digit 7 k) a) ↔ ((x : ℕ) → Outcome k a x → x ≡ k)
 unfolding changes_nothing
 nothing_exactly law k (Set i q b) m =
-    (λ t x. after_a_set (λ x. x ≡ k) ((nothing_set k i q b).0 t), λ f. (nothing_set k i q b).1 (f (set_to k i b) (after-set i q b)))
+    (λ t x. after_a_set (λ x. x ≡ k) ((nothing_set k i q b).0 t), λ f. (nothing_set k i q b).1 (f (set_to k i b) (after_set_case i q b)))
 nothing_exactly law k (Look i q) m = (
   λ t. absurd t,
   λ f. absurd (look_known false
-      (sym (look_here k i false) ∙ ap (λ (x : ℕ). digit 7 x i) (f (look_at k i false) (after_look i q false)) ∙ law.looks-at k i q m)),
+      (sym (look_here k i false) ∙ ap (λ (x : ℕ). digit 7 x i) (f (look_at k i false) (after_look i q false)) ∙ law.looks_at k i q m)),
 )
 
 -- ---- what is said of an act
@@ -98,9 +98,9 @@ module _ (S : System) where
 
   pub without_lawful : {n : ℕ} → Lawful n S → Lawful n (without S)
   without_lawful law = record {
-    setting_of_lem = λ k a t. law.setting_of_lem k a ((may_exactly k a).0 t).0;
-    post_of_lem = λ k a t. law.post_of_lem k a ((may_exactly k a).0 t).0;
-    looks-at = λ k i q t. law.looks-at k i q ((may_exactly k (Look i q)).0 t).0;
+    setting_of_case = λ k a t. law.setting_of_case k a ((may_exactly k a).0 t).0;
+    post_of_case = λ k a t. law.post_of_case k a ((may_exactly k a).0 t).0;
+    looks_at = λ k i q t. law.looks_at k i q ((may_exactly k (Look i q)).0 t).0;
   }
 
 -- what permits more permits more without such sets too

@@ -13,7 +13,7 @@ use Rattle.ground.proofs.Bools.{T_iff}
 use Rattle.knowledge_acts.specs.Acts.{set_to, look_at}
 use Rattle.knowledge_acts.specs.declared.act.Act.{Act}
 use Rattle.knowledge_acts.specs.declared.act.Act.TheVariants.{Set, Look}
-use Rattle.plan.specs.Plans.{System, Lawful, after-set, Plan, stop, set_then, look_then}
+use Rattle.plan.specs.Plans.{System, Lawful, after_set_case, Plan, stop, set_then, look_then}
 use Rattle.plan.specs.Ranks.{Reach, Cannot, IsRank, Lowers, Chosen, Written}
 use Rattle.plan.specs.Layers.{below}
 use Rattle.plan.specs.Legs.{can_from, with_goal, first_leg}
@@ -82,7 +82,7 @@ module _ (S : System) where
   lowers_something : (k r : ℕ) (a : Act) → IsRank S k r → Lowers S k r a → T (not (changes_nothing (digit 7 k) a))
   unfolding changes_nothing
   lowers_something k r (Set i q b) is l = not_T (changes_nothing (digit 7 k) (Set i q b)) (λ t.
-      let (s, low, less) = l.lower (set_to k i b) (after-set i q b) in
+      let (s, low, less) = l.lower (set_to k i b) (after_set_case i q b) in
       omega (arith, less, rank_unique S k is (subst (λ (x : ℕ). IsRank S x s) ((nothing_set k i q b).0 t) low)))
   lowers_something k r (Look i q) is l = tt
 
@@ -103,15 +103,15 @@ module _ (S : System) where
   chosen_same k a = (
     λ c. record {
       rank = c.rank;
-      is-rank = (rank_same k c.rank).0 c.is-rank;
-      lowers = lowers_in k c.rank a c.is-rank c.lowers;
+      is_rank = (rank_same k c.rank).0 c.is_rank;
+      lowers = lowers_in k c.rank a c.is_rank c.lowers;
       smallest = λ d l. c.smallest d (lowers_out k c.rank d l);
     },
     λ c. record {
       rank = c.rank;
-      is-rank = (rank_same k c.rank).1 c.is-rank;
+      is_rank = (rank_same k c.rank).1 c.is_rank;
       lowers = lowers_out k c.rank a c.lowers;
-      smallest = λ d l. c.smallest d (lowers_in k c.rank d ((rank_same k c.rank).1 c.is-rank) l);
+      smallest = λ d l. c.smallest d (lowers_in k c.rank d ((rank_same k c.rank).1 c.is_rank) l);
     },
   )
 

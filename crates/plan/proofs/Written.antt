@@ -14,7 +14,7 @@ use Rattle.knowledge_acts.specs.declared.act.Act.{Act}
 use Rattle.knowledge_acts.specs.declared.act.Act.TheVariants.{Set, Look}
 use Rattle.knowledge_acts.specs.declared.act.Named.{Named}
 use Rattle.knowledge_acts.specs.declared.act.Named.TheVariants.{One, Nothing}
-use Rattle.plan.specs.Plans.{System, Lawful, Outcome, after-set, after_look, Plan, stop, set_then, look_then, Works, height}
+use Rattle.plan.specs.Plans.{System, Lawful, Outcome, after_set_case, after_look, Plan, stop, set_then, look_then, Works, height}
 use Rattle.plan.specs.Ranks.{IsRank, Lowers, Chosen, Written}
 use Rattle.plan.proofs.Acts.{can_in, can-may, can-at}
 use Rattle.plan.specs.Layers.{can, below}
@@ -39,10 +39,10 @@ written_works S (look_then i q p r) k w =
 pub written-height : (S : System) (p : Plan) (k r : ℕ) → Written S k p → IsRank S k r → height p ≡ r
 written-height S stop k r w a = rank_unique S k w a
 written-height S (set_then i q b p) k r w a =
-    let o = w.0.lowers.lower (set_to k i b) (after-set i q b) in
+    let o = w.0.lowers.lower (set_to k i b) (after_set_case i q b) in
     omega (
       arith,
-      rank_unique S k w.0.is-rank a,
+      rank_unique S k w.0.is_rank a,
       o.2,
       written-height S p (set_to k i b) o.0 w.1 o.1,
       rank-least S k a (set_then i q b p) (written_works S (set_then i q b p) k w),
@@ -52,7 +52,7 @@ written-height S (look_then i q p s) k r w a =
     let u = w.0.lowers.lower (look_at k i true) (after_look i q true) in
     omega (
       arith,
-      rank_unique S k w.0.is-rank a,
+      rank_unique S k w.0.is_rank a,
       o.2,
       u.2,
       written-height S p (look_at k i false) o.0 w.1 o.1,
@@ -64,10 +64,10 @@ module _ {n : ℕ} {S : System} (law : Lawful n S) (few : n ≤ 7) where
   -- two acts chosen at a state are one
   one_choice : (k : ℕ) (a c : Act) → Chosen S k a → Chosen S k c → a ≡ c
   one_choice k a c x y =
-      let e = rank_unique S k x.is-rank y.is-rank in
+      let e = rank_unique S k x.is_rank y.is_rank in
       let m = x.lowers.allowed in
       let l = y.lowers.allowed in
-      byte_injective a c (omega (arith, law.setting_of_lem k a m)) (law.post_of_lem k a m) (omega (arith, law.setting_of_lem k c l)) (law.post_of_lem k c l)
+      byte_injective a c (omega (arith, law.setting_of_case k a m)) (law.post_of_case k a m) (omega (arith, law.setting_of_case k c l)) (law.post_of_case k c l)
       (le_antisymm (x.smallest c (rw e y.lowers)) (y.smallest a (rw e at x.lowers)))
 
   -- an act that may be done lowers a rank of at most 255 exactly where the layer of its outcomes says so
@@ -95,7 +95,7 @@ module _ {n : ℕ} {S : System} (law : Lawful n S) (few : n ≤ 7) where
   unfolding good
   good_in k r a t =
       let m = can-may S (below n S r) k a t in
-      rw (act_of_byte a (omega (arith, law.setting_of_lem k a m)) (law.post_of_lem k a m)) t
+      rw (act_of_byte a (omega (arith, law.setting_of_case k a m)) (law.post_of_case k a m)) t
 
   -- of the acts that lower the rank, the one with the smallest byte
   choose : (k r : ℕ) (a : Act) → IsRank S k r → r ≤ 255 → T (can S (below n S r) k a) → (c : Act) × Chosen S k c
@@ -105,7 +105,7 @@ module _ {n : ℕ} {S : System} (law : Lawful n S) (few : n ≤ 7) where
         g.0,
         record {
           rank = r;
-          is-rank = i;
+          is_rank = i;
           lowers = lowers_in k r g.0 g.2;
           smallest = λ c l. elim (lt_or_ge (byte_of c) f.0) [
             | inl m ↦ absurd (f.1.none_below (byte_of c) m (good_in k r c (lowers_out k r c h l)))
@@ -116,7 +116,7 @@ module _ {n : ℕ} {S : System} (law : Lawful n S) (few : n ≤ 7) where
 
   -- the act chosen, and the plans written from its outcomes
   act_written : (k : ℕ) (a : Act) → Chosen S k a → ((x : ℕ) → Outcome k a x → (p : Plan) × Written S x p) → (p : Plan) × Written S k p
-  act_written k (Set i q b) c f = let r = f (set_to k i b) (after-set i q b) in (set_then i q b r.0, (c, r.1))
+  act_written k (Set i q b) c f = let r = f (set_to k i b) (after_set_case i q b) in (set_then i q b r.0, (c, r.1))
   act_written k (Look i q) c f =
       let r = f (look_at k i false) (after_look i q false) in
       let s = f (look_at k i true) (after_look i q true) in
@@ -130,7 +130,7 @@ module _ {n : ℕ} {S : System} (law : Lawful n S) (few : n ≤ 7) where
       elim (layer_out law (suc r) k (complete law a.here.0 (suc (suc r)) k a.here.1 (omega (arith, a.here.2)))) [
         | inl g ↦ absurd (a.none_below 0 (omega arith) (stop, g, refl))
         | inr w ↦ (let c = choose k (suc r) w.0 (inl a) (omega arith) (can_in S (below n S (suc r)) k w.0 w.1 w.2) in
-            let e = rank_unique S k c.1.is-rank (inl a) in
+            let e = rank_unique S k c.1.is_rank (inl a) in
             act_written k c.0 c.1 (λ x o. let s = c.1.lowers.lower x o in
             written-within h x s.0 (omega (arith, s.2)) s.1 (omega (arith, s.2))))
       ]
@@ -140,13 +140,13 @@ module _ {n : ℕ} {S : System} (law : Lawful n S) (few : n ≤ 7) where
   written_exists k r a f = written-within (suc r) k r (omega arith) a f
 
   no_stop : (k x : ℕ) (a : Act) → Outcome k a x → Chosen S k a → IsRank S k 0 → ⊥
-  no_stop k x a o c z = omega (arith, (c.lowers.lower x o).2, rank_unique S k c.is-rank z)
+  no_stop k x a o c z = omega (arith, (c.lowers.lower x o).2, rank_unique S k c.is_rank z)
 
   pub written_unique : (p s : Plan) (k : ℕ) → Written S k p → Written S k s → p ≡ s
   written_unique stop stop k a b = refl
-  written_unique stop (set_then j m c s) k a b = absurd (no_stop k (set_to k j c) (Set j m c) (after-set j m c) b.0 a)
+  written_unique stop (set_then j m c s) k a b = absurd (no_stop k (set_to k j c) (Set j m c) (after_set_case j m c) b.0 a)
   written_unique stop (look_then j m s t) k a b = absurd (no_stop k (look_at k j true) (Look j m) (after_look j m true) b.0 a)
-  written_unique (set_then i q b p) stop k a c = absurd (no_stop k (set_to k i b) (Set i q b) (after-set i q b) a.0 c)
+  written_unique (set_then i q b p) stop k a c = absurd (no_stop k (set_to k i b) (Set i q b) (after_set_case i q b) a.0 c)
   written_unique (set_then i q b p) (set_then j m d s) k a c =
       let e = one_choice k (Set i q b) (Set j m d) a.0 c.0 in
       let ei : i ≡ j = cc e in

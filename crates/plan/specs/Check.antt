@@ -15,11 +15,11 @@ pub data Fault : Type 0 where
   -- 17 "byte names no act of this book and team"
   no_act : Fault
   -- 18 "act not permitted here, or look at a known setting", and why
-  not-permitted : Why → Fault
+  not_permitted : Why → Fault
   -- 32 a set to the value that the team knows is there: "32 with the index, after 18 at the same byte"
-  changes_nothing_lem : Fault
+  changes_nothing_case : Fault
   -- 19 "stop where the goal isn't settled"
-  not-settled : Fault
+  not_settled : Fault
   -- 20 "plan ends too soon", at its length
   too_soon : Fault
   -- 21 "bytes after a whole plan", at the first of them
@@ -44,8 +44,8 @@ outcomes k (Look i q) = look_at k i false ∷ look_at k i true ∷ []
 -- an act: is it of this book and team, is it permitted here, and does it change something: "17 before 18", and 32 "after 18"
 abbrev pub read_act : Bool → Permit → List ℕ → Reading
 read_act false permit new = fails no_act
-read_act true (Denied why) new = fails (not-permitted why)
-read_act true ChangesNothing new = fails changes_nothing_lem
+read_act true (Denied why) new = fails (not_permitted why)
+read_act true ChangesNothing new = fails changes_nothing_case
 read_act true Given new = goes_on new
 
 abbrev pub read_named : System → ℕ → Named → Reading
@@ -54,7 +54,7 @@ read_named S k (One a) = read_act (S.offers a) (S.permits k a) (outcomes k a)
 
 -- a stop: is the goal settled
 abbrev pub read_stop : Bool → Reading
-read_stop false = fails not-settled
+read_stop false = fails not_settled
 read_stop true = goes_on []
 
 -- a byte at the state k: "A stop is 0", any other names an act or nothing

@@ -27,13 +27,13 @@ may S k a = S.offers a && given (S.permits k a)
 
 -- a system over n settings and the posts 0 to 7: "look, where .. the digit is 0"
 pub record Lawful (n : ℕ) (S : System) : Type 0 where
-  pub setting_of_lem : (k : ℕ) (a : Act) → T (may S k a) → setting_of a < n
-  pub post_of_lem : (k : ℕ) (a : Act) → T (may S k a) → post_of a < 8
-  pub looks-at : (k i q : ℕ) → T (may S k (Look i q)) → digit 7 k i ≡ 0
+  pub setting_of_case : (k : ℕ) (a : Act) → T (may S k a) → setting_of a < n
+  pub post_of_case : (k : ℕ) (a : Act) → T (may S k a) → post_of a < 8
+  pub looks_at : (k i q : ℕ) → T (may S k (Look i q)) → digit 7 k i ≡ 0
 
 -- the states that an act can lead to: a set has one outcome, "A look has two outcomes"
 pub data Outcome (k : ℕ) : Act → ℕ → Type 0 where
-  after-set : (i q : ℕ) (b : Bool) → Outcome k (Set i q b) (set_to k i b)
+  after_set_case : (i q : ℕ) (b : Bool) → Outcome k (Set i q b) (set_to k i b)
   after_look : (i q : ℕ) (b : Bool) → Outcome k (Look i q) (look_at k i b)
 
 -- "A plan stops, or does a permitted act and goes on with a plan for each outcome": setting, post, value and what follows; or

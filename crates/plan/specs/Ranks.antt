@@ -26,7 +26,7 @@ pub record Lowers (S : System) (k r : ℕ) (a : Act) : Type 0 where
 -- "the smallest act byte whose outcomes all have a rank lower than the state's"
 pub record Chosen (S : System) (k : ℕ) (a : Act) : Type 0 where
   pub rank : ℕ
-  pub is-rank : IsRank S k rank
+  pub is_rank : IsRank S k rank
   pub lowers : Lowers S k rank a
   pub smallest : (c : Act) → Lowers S k rank c → byte_of a ≤ byte_of c
 

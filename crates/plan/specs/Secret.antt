@@ -13,7 +13,7 @@ pub record Twins (n : ℕ) (formula : List ℕ) (k : ℕ) (p : Plan) : Type 0 wh
   pub other : ℕ
   pub one_lt : one < 2 ^ n
   pub other_lt : other < 2 ^ n
-  pub one-fits : T (fits_start n (digit 7 k) one)
+  pub one_fits : T (fits_start n (digit 7 k) one)
   pub other_fits : T (fits_start n (digit 7 k) other)
   pub differ : truth formula one ≡ truth formula other → ⊥
-  pub same-run : run p one ≡ run p other
+  pub same_run : run p one ≡ run p other

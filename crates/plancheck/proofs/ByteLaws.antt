@@ -16,7 +16,7 @@ use Rattle.knowledge_acts.specs.declared.act.Named.TheVariants.{One, Nothing}
 use Rattle.plan.specs.declared.Permit.{Permit}
 use Rattle.plan.specs.declared.Permit.TheVariants.{Given, Denied, ChangesNothing}
 use Rattle.plan.specs.Plans.{System, given, may}
-use Rattle.plan.specs.Check.{Fault, no_act, not-permitted, changes_nothing_lem, not-settled, too_soon, left_over}
+use Rattle.plan.specs.Check.{Fault, no_act, not_permitted, changes_nothing_case, not_settled, too_soon, left_over}
 use Rattle.plan.specs.Check.{Reading, goes_on, fails, outcomes, read_act, read_named, read_stop, read_byte}
 use Rattle.plan.proofs.Check.{read-unsettled, read_nothing, read-other, read_forbidden, read_idle}
 
@@ -25,11 +25,11 @@ abbrev pub FaultAt : System → ℕ → ℕ → Fault → Type 0
 -- 17 "byte names no act of this book and team"
 FaultAt S k c no_act = (0 < c) × ((a : Act) → act_of c ≡ One a → T (S.offers a) → ⊥)
 -- 18 "act not permitted here, or look at a known setting", and why
-FaultAt S k c (not-permitted why) = (a : Act) × (act_of c ≡ One a) × T (S.offers a) × (S.permits k a ≡ Denied why)
+FaultAt S k c (not_permitted why) = (a : Act) × (act_of c ≡ One a) × T (S.offers a) × (S.permits k a ≡ Denied why)
 -- 32 a set to the value that the team knows is there
-FaultAt S k c changes_nothing_lem = (a : Act) × (act_of c ≡ One a) × T (S.offers a) × (S.permits k a ≡ ChangesNothing)
+FaultAt S k c changes_nothing_case = (a : Act) × (act_of c ≡ One a) × T (S.offers a) × (S.permits k a ≡ ChangesNothing)
 -- 19 "stop where the goal isn't settled"
-FaultAt S k c not-settled = (c ≡ 0) × T (not (S.goal k))
+FaultAt S k c not_settled = (c ≡ 0) × T (not (S.goal k))
 FaultAt S k c too_soon = ⊥
 FaultAt S k c left_over = ⊥
 
@@ -42,7 +42,7 @@ pub data Step (S : System) (k c : ℕ) : Reading → Type 0 where
 module _ (S : System) (k : ℕ) where
   step-stop : (g : Bool) → S.goal k ≡ g → Step S k 0 (read_stop g)
   step-stop true e = stops
-  step-stop false e = faults not-settled (refl, false→T e)
+  step-stop false e = faults not_settled (refl, false→T e)
 
   step-done : (c : ℕ) (a : Act) → T (may S k a) → Step S k c (goes_on (outcomes k a))
   step-done c (Set i q b) m = sets i q b m
@@ -51,8 +51,8 @@ module _ (S : System) (k : ℕ) where
   step_act : (c : ℕ) (a : Act) (o : Bool) (p : Permit) → 0 < c → act_of c ≡ One a → S.offers a ≡ o → S.permits k a ≡ p → Step S k c (read_act o p (outcomes k a))
   step_act c a false p h e f g =
       faults no_act (h, λ b d t. let same : b ≡ a = cc in both (S.offers a) (subst (λ (x : Act). T (S.offers x)) same t) (false→T f))
-  step_act c a true (Denied why) h e f g = faults (not-permitted why) (a, e, true→T f, g)
-  step_act c a true ChangesNothing h e f g = faults changes_nothing_lem (a, e, true→T f, g)
+  step_act c a true (Denied why) h e f g = faults (not_permitted why) (a, e, true→T f, g)
+  step_act c a true ChangesNothing h e f g = faults changes_nothing_case (a, e, true→T f, g)
   step_act c a true Given h e f g = step-done c a (and_in (S.offers a) (given (S.permits k a)) (true→T f) (true→T (ap given g)))
 
   step-named : (c : ℕ) (x : Named) → 0 < c → act_of c ≡ x → Step S k c (read_named S k x)
@@ -81,9 +81,9 @@ module _ (S : System) (k : ℕ) where
 
   fails_by : (c : ℕ) (f : Fault) → FaultAt S k c f → read_byte S k c ≡ fails f
   fails_by c no_act w = unnamed c (act_of c) w.0 refl w.1
-  fails_by c (not-permitted why) (a, e, o, p) = read_forbidden S k c a why (named_positive c a e) e o p
-  fails_by c changes_nothing_lem (a, e, o, p) = read_idle S k c a (named_positive c a e) e o p
-  fails_by c not-settled w = rw w.0 (read-unsettled S k w.1)
+  fails_by c (not_permitted why) (a, e, o, p) = read_forbidden S k c a why (named_positive c a e) e o p
+  fails_by c changes_nothing_case (a, e, o, p) = read_idle S k c a (named_positive c a e) e o p
+  fails_by c not_settled w = rw w.0 (read-unsettled S k w.1)
   fails_by c too_soon w = absurd w
   fails_by c left_over w = absurd w
 

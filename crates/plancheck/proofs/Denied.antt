@@ -17,7 +17,7 @@ use Rattle.knowledge.specs.Goal.{Goal}
 use Rattle.plan.specs.Plans.{System}
 use Rattle.plan.specs.declared.Permit.{Permit}
 use Rattle.plan.specs.declared.Permit.TheVariants.{Denied, ChangesNothing as NothingSaid}
-use Rattle.plan.specs.Check.{Fault, not-permitted, changes_nothing_lem, too_soon, left_over}
+use Rattle.plan.specs.Check.{Fault, not_permitted, changes_nothing_case, too_soon, left_over}
 use Rattle.plan.proofs.Faults.{Reads, Wrong}
 use Rattle.plan.proofs.Faults as Faults
 use Rattle.question.specs.Question.{system_of, start_of}
@@ -114,13 +114,13 @@ module _ {book : List ℕ} {q : Question} {goal : Goal} {n m : ℕ} (valid : Val
   pub denied_exact : (r : CheckAnswer) → Checks book q goal plan r → length plan ≤ 32640
       → (i : ℕ) (why : Why) → (r ≡ Refused (NotPermitted i why)) ↔ DeniedAt n book q goal plan i why
   denied_exact r answer short i why =
-      act_exact (not-permitted why) (Denied why) (λ d a. WhyNot n book q.held d a why)
+      act_exact (not_permitted why) (Denied why) (λ d a. WhyNot n book q.held d a why)
       (λ e. let z : ◌≡◌ {A = ℕ} 0 1 = cc in omega arith) (λ e. let z : ◌≡◌ {A = ℕ} 0 1 = cc in omega arith)
       (λ k c. (λ w. w, λ w. w)) (λ d a. why_exactly n book q.held d a why) r answer short i
 
   pub nothing_exact : (r : CheckAnswer) → Checks book q goal plan r → length plan ≤ 32640
       → (i : ℕ) → (r ≡ Refused (ChangesNothing i)) ↔ NothingAt n book q goal plan i
   nothing_exact r answer short i =
-      act_exact changes_nothing_lem NothingSaid (NothingHere n book q.held)
+      act_exact changes_nothing_case NothingSaid (NothingHere n book q.held)
       (λ e. let z : ◌≡◌ {A = ℕ} 0 1 = cc in omega arith) (λ e. let z : ◌≡◌ {A = ℕ} 0 1 = cc in omega arith)
       (λ k c. (λ w. w, λ w. w)) (λ d a. nothing_exactly n book q.held d a) r answer short i

@@ -23,7 +23,7 @@ use Rattle.knowledge.specs.Goal.{Goal, goal_of, learn_table, all_settled, goal_s
 use Rattle.plan.specs.Plans.{given, may}
 use Rattle.plan.specs.declared.Permit.TheVariants.{ChangesNothing}
 use Rattle.plan.proofs.Check.{judge-on, judge-fails, read_act_lem, read_idle, read-unsettled}
-use Rattle.plan.specs.Check.{changes_nothing_lem, not-settled, faulty, check}
+use Rattle.plan.specs.Check.{changes_nothing_case, not_settled, faulty, check}
 use Rattle.plan.specs.Without.{changes_nothing, unless_nothing}
 use Rattle.question.specs.Permitted.{by_rule, ruled, permitted}
 use Rattle.question.specs.Question.{system_of, start_of}
@@ -60,17 +60,17 @@ unfolding system_of goal_settled all_settled learn_table set_to known learn_sett
 then_stop book = tt
 
 pub p10-judged : (book : List ℕ) → rule book 0 0 set-rule ≡ always_true
-    → check (system_of 1 book p9_question p9-goal) (start_of p9_question) (1 ∷ 0 ∷ []) ≡ faulty not-settled 1
+    → check (system_of 1 book p9_question p9-goal) (start_of p9_question) (1 ∷ 0 ∷ []) ≡ faulty not_settled 1
 unfolding start_of sum_of first_at first_digit act_of digit bit
 p10-judged book e =
     judge-on (system_of 1 book p9_question p9-goal) 0 [] 0 1 (0 ∷ []) (set_to 0 0 false ∷ [])
     (read_act_lem (system_of 1 book p9_question p9-goal) 0 1 (Set 0 0 false) (lit< tt) refl (first-set book e))
-    ∙ judge-fails (system_of 1 book p9_question p9-goal) (set_to 0 0 false) [] 1 0 [] not-settled
+    ∙ judge-fails (system_of 1 book p9_question p9-goal) (set_to 0 0 false) [] 1 0 [] not_settled
     (read-unsettled (system_of 1 book p9_question p9-goal) (set_to 0 0 false) (then_stop book))
 
 pub p10 : {book : List ℕ} {m : ℕ} → ValidQuestion book p9_question p9-goal 1 m → rule book 0 0 set-rule ≡ always_true
     → Checks book p9_question p9-goal (1 ∷ 0 ∷ []) (Refused (NotSettled 1))
-p10 {book} {m} valid e = inr (not-settled, 1, refl, record { n = 1; m = m; valid = valid; short = lit≤ tt; judged = p10-judged book e })
+p10 {book} {m} valid e = inr (not_settled, 1, refl, record { n = 1; m = m; valid = valid; short = lit≤ tt; judged = p10-judged book e })
 
 -- the plan 1, 1, 0 sets `a` false a second time, where the team knows that it is: 32 at 1 (R-9)
 again : (book : List ℕ) → rule book 0 0 set-rule ≡ always_true → (system_of 1 book p9_question p9-goal).permits (set_to 0 0 false) (Set 0 0 false) ≡ ChangesNothing
@@ -78,14 +78,14 @@ unfolding system_of permitted ruled changes_nothing set_to judgement always fits
 again book e = ap (λ (t : List ℕ). unless_nothing true (by_rule (judgement 1 (now_side (digit 7 (set_to 0 0 false))) t))) e
 
 twice-judged : (book : List ℕ) → rule book 0 0 set-rule ≡ always_true
-    → check (system_of 1 book p9_question p9-goal) (start_of p9_question) (1 ∷ 1 ∷ 0 ∷ []) ≡ faulty changes_nothing_lem 1
+    → check (system_of 1 book p9_question p9-goal) (start_of p9_question) (1 ∷ 1 ∷ 0 ∷ []) ≡ faulty changes_nothing_case 1
 unfolding start_of sum_of first_at first_digit act_of digit bit system_of offered
 twice-judged book e =
     judge-on (system_of 1 book p9_question p9-goal) 0 [] 0 1 (1 ∷ 0 ∷ []) (set_to 0 0 false ∷ [])
     (read_act_lem (system_of 1 book p9_question p9-goal) 0 1 (Set 0 0 false) (lit< tt) refl (first-set book e))
-    ∙ judge-fails (system_of 1 book p9_question p9-goal) (set_to 0 0 false) [] 1 1 (0 ∷ []) changes_nothing_lem
+    ∙ judge-fails (system_of 1 book p9_question p9-goal) (set_to 0 0 false) [] 1 1 (0 ∷ []) changes_nothing_case
     (read_idle (system_of 1 book p9_question p9-goal) (set_to 0 0 false) 1 (Set 0 0 false) (lit< tt) refl tt (again book e))
 
 pub twice : {book : List ℕ} {m : ℕ} → ValidQuestion book p9_question p9-goal 1 m → rule book 0 0 set-rule ≡ always_true
     → Checks book p9_question p9-goal (1 ∷ 1 ∷ 0 ∷ []) (Refused (NothingChanged 1))
-twice {book} {m} valid e = inr (changes_nothing_lem, 1, refl, record { n = 1; m = m; valid = valid; short = lit≤ tt; judged = twice-judged book e })
+twice {book} {m} valid e = inr (changes_nothing_case, 1, refl, record { n = 1; m = m; valid = valid; short = lit≤ tt; judged = twice-judged book e })

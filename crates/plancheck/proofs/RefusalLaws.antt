@@ -9,14 +9,14 @@ use Rattle.refusal.specs.declared.Refusal.TheVariants.{PlanLength, NoAct, NotPer
 use Rattle.refusal.specs.declared.Why.{Why}
 use Rattle.refusal.specs.declared.Why.TheVariants.{KnownSetting, SurelyFalse, NotKnown, HeldSetting}
 use Rattle.refusal.specs.Refusals.{number, place, second}
-use Rattle.plan.specs.Check.{Fault, no_act, not-permitted, changes_nothing_lem, not-settled, too_soon, left_over, Verdict, faulty}
+use Rattle.plan.specs.Check.{Fault, no_act, not_permitted, changes_nothing_case, not_settled, too_soon, left_over, Verdict, faulty}
 use Rattle.plancheck.specs.Refusals.{refusal_of}
 
 pub fault-place : (f : Fault) (i : ℕ) → place (refusal_of f i) ≡ i
 fault-place no_act i = refl
-fault-place (not-permitted why) i = refl
-fault-place changes_nothing_lem i = refl
-fault-place not-settled i = refl
+fault-place (not_permitted why) i = refl
+fault-place changes_nothing_case i = refl
+fault-place not_settled i = refl
 fault-place too_soon i = refl
 fault-place left_over i = refl
 
@@ -28,9 +28,9 @@ reason x = cond (eqb x 1) KnownSetting (cond (eqb x 2) SurelyFalse (cond (eqb x 
 numbered : ℕ → ℕ → Fault
 numbered x y =
     cond (eqb x (number (NoAct 0))) no_act
-    (cond (eqb x (number (NotPermitted 0 NotKnown))) (not-permitted (reason y))
-    (cond (eqb x (number (ChangesNothing 0))) changes_nothing_lem
-    (cond (eqb x (number (NotSettled 0))) not-settled (cond (eqb x (number (TooSoon 0))) too_soon left_over))))
+    (cond (eqb x (number (NotPermitted 0 NotKnown))) (not_permitted (reason y))
+    (cond (eqb x (number (ChangesNothing 0))) changes_nothing_case
+    (cond (eqb x (number (NotSettled 0))) not_settled (cond (eqb x (number (TooSoon 0))) too_soon left_over))))
 
 found : Refusal → Verdict
 found r = faulty (numbered (number r) (second r)) (place r)
@@ -38,12 +38,12 @@ found r = faulty (numbered (number r) (second r)) (place r)
 found_back : (f : Fault) (i : ℕ) → found (refusal_of f i) ≡ faulty f i
 unfolding found numbered reason
 found_back no_act i = refl
-found_back (not-permitted KnownSetting) i = refl
-found_back (not-permitted SurelyFalse) i = refl
-found_back (not-permitted NotKnown) i = refl
-found_back (not-permitted HeldSetting) i = refl
-found_back changes_nothing_lem i = refl
-found_back not-settled i = refl
+found_back (not_permitted KnownSetting) i = refl
+found_back (not_permitted SurelyFalse) i = refl
+found_back (not_permitted NotKnown) i = refl
+found_back (not_permitted HeldSetting) i = refl
+found_back changes_nothing_case i = refl
+found_back not_settled i = refl
 found_back too_soon i = refl
 found_back left_over i = refl
 
@@ -54,8 +54,8 @@ fault-one f g i j e = sym (found_back f i) ∙ ap found e ∙ found_back g j
 
 pub fault-short : (f : Fault) (i : ℕ) → refusal_of f i ≡ PlanLength → ⊥
 fault-short no_act i e = omega (arith, ap number e)
-fault-short (not-permitted why) i e = omega (arith, ap number e)
-fault-short changes_nothing_lem i e = omega (arith, ap number e)
-fault-short not-settled i e = omega (arith, ap number e)
+fault-short (not_permitted why) i e = omega (arith, ap number e)
+fault-short changes_nothing_case i e = omega (arith, ap number e)
+fault-short not_settled i e = omega (arith, ap number e)
 fault-short too_soon i e = omega (arith, ap number e)
 fault-short left_over i e = omega (arith, ap number e)

@@ -1,6 +1,6 @@
 -- How large a refusal's place is: for those who pack it and the number into one number. A place is a block of the book, the index of a byte,
 -- or the plan's length.
-use mathlib.Core.Path.{◌≡◌, ap, ◌∙◌}
+use mathlib.Core.Path.{ap, ◌∙◌}
 use mathlib.Core.Logic.{inl, inr}
 use mathlib.Core.List.{List, [], ◌∷◌}
 use Prim.Native.Nat.{ℕ, ◌≤◌}

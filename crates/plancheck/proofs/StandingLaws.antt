@@ -65,15 +65,15 @@ module _ {n : ℕ} {S : System} (law : Lawful n S) (few : n ≤ 7) where
   -- the states after an act that may be done
   held-set : (k i q : ℕ) (b : Bool) (ks : List ℕ) → T (may S k (Set i q b)) → Held n k ks → Held n (set_to k i b) ks
   held-set k i q b ks m h = record {
-    here = set_below k i b 7 h.here (omega (arith, law.setting_of_lem k (Set i q b) m));
+    here = set_below k i b 7 h.here (omega (arith, law.setting_of_case k (Set i q b) m));
     there = h.there;
     pending = pending-set law k i q b ks m h.pending;
   }
 
   held_look : (k i q : ℕ) (ks : List ℕ) → T (may S k (Look i q)) → Held n k ks → Held n (look_at k i false) (look_at k i true ∷ ks)
   held_look k i q ks m h = record {
-    here = look_below k i false 7 h.here (omega (arith, law.setting_of_lem k (Look i q) m));
-    there = (look_below k i true 7 h.here (omega (arith, law.setting_of_lem k (Look i q) m)), h.there);
+    here = look_below k i false 7 h.here (omega (arith, law.setting_of_case k (Look i q) m));
+    there = (look_below k i true 7 h.here (omega (arith, law.setting_of_case k (Look i q) m)), h.there);
     pending = pending_look law k i q ks m h.pending;
   }
 

@@ -11,7 +11,7 @@ use Rattle.refusal.specs.declared.Refusal.TheVariants.{Malformed}
 use Rattle.print_answer.specs.Listed.{line, act_text}
 use Rattle.sheet_words.specs.Words.{split, newline}
 use Rattle.sheet_words.proofs.Split.{joined}
-use Rattle.plancheck_text.specs.Lines.{is_reach_line, is_plan_line, line_byte}
+use Rattle.plancheck_text.specs.Lines.{is_reach_line, is_plan_line}
 use Rattle.plancheck_text.specs.Meaning.{Meaning, refused, plan, stray_rest, stray_line, line_bytes, unless_stray, lines_meaning}
 use Rattle.plancheck_text.specs.Grammar.{LineOf, stops, acts, LinesOf, PlanTextOf}
 use Rattle.plancheck_text.proofs.ReadLines.{line-only, reach_only}

@@ -1,13 +1,12 @@
 -- What is printed is written as the grammar says: a number's decimal is one or more digits, and a plan's lines are a line a byte, by induction on the plan.
-use mathlib.Core.Path.{◌≡◌, refl, sym, ap, ◌∙◌, subst}
+use mathlib.Core.Path.{refl, sym, ◌∙◌, subst}
 use mathlib.Core.Logic.{⊎_elim}
-use mathlib.Core.List.{List, [], ◌∷◌, ◌++◌, append_assoc}
+use mathlib.Core.List.{List, ◌++◌, append_assoc}
 use Prim.Native.Nat.{ℕ, ◌+◌, ◌≤◌, ◌<◌}
 use native.Mathlib.Omega.{arith}
 use lib.ListN.{length, length-append}
 use Rattle.ground.specs.Text.{bytes}
 use Rattle.ground.proofs.Bools.{lt_or_ge}
-use Rattle.knowledge_acts.specs.Acts.{byte_of}
 use Rattle.knowledge_acts.specs.declared.act.Act.TheVariants.{Set, Look}
 use Rattle.plan.specs.Plans.{Plan, stop, set_then, look_then}
 use Rattle.plan.specs.Bytes.{encode}

@@ -1,9 +1,9 @@
 -- A line that is taken is written as the grammar says, for the byte that is read: its digits are a number, and each form spells the words of one act.
 use mathlib.Core.Path.{◌≡◌, refl, sym, ap, ap₂, ◌∙◌, subst}
-use mathlib.Core.Logic.{◌⊎◌, inl, inr, ⊎_elim}
+use mathlib.Core.Logic.{◌⊎◌, ⊎_elim}
 use mathlib.Core.Bool.{Bool, true, false, not, ◌&&◌, ◌||◌, cond}
 use mathlib.Core.List.{List, [], ◌∷◌, ◌++◌, append_assoc}
-use Prim.Native.Nat.{ℕ, zero, suc, ◌+◌, ◌-◌, ◌≤◌, ◌<◌}
+use Prim.Native.Nat.{ℕ, zero, suc, ◌+◌, ◌-◌, ◌<◌}
 use native.Mathlib.Omega.{arith}
 use lib.Dec.{T, ltb, eqb, ltb→lt, eqb→eq}
 use lib.ListN.{length, take, drop, take-append-drop}
@@ -20,7 +20,7 @@ use Rattle.sheet_words.proofs.NameForms.{between}
 use Rattle.plancheck_text.specs.Lines.{digit_count, is_number, is_reach_line, stands_for, has_form, is_stop, is_look, is_set, after_depth, is_plan_line, line_byte}
 use Rattle.plancheck_text.specs.Grammar.{Number, LineOf, stops, acts}
 use Rattle.plancheck_text.proofs.LineLaws.{digits-most, stands_by}
-use Rattle.plancheck_text.proofs.WrittenLines.{Taken, line_taken}
+use Rattle.plancheck_text.proofs.WrittenLines.{line_taken}
 
 -- ---- digits
 

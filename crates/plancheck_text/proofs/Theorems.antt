@@ -109,6 +109,10 @@ stray_first s r e =
 pub read_one : (m : Meaning) (x y : PlanTold) (old new other : List ℕ) → ReadsPlan m x old new → ReadsPlan m y old other → (x ≡ y) × (new ≡ other)
 read_one (refused r) (Refused why) (Refused cause) old new other p q = (ap Refused (p.0 ∙ sym q.0), p.1 ∙ sym q.1)
 read_one (plan b) (Read n) (Read k) old new other p q = (ap Read (p.count ∙ sym q.count), p.room ∙ sym q.room)
+read_one (refused r) (Read n) y old new other p q = elim p [ ]
+read_one (refused r) (Refused why) (Read k) old new other p q = elim q [ ]
+read_one (plan b) (Read n) (Refused cause) old new other p q = elim q [ ]
+read_one (plan b) (Refused why) y old new other p q = elim p [ ]
 
 pub has_form_unique : (κs : _) (a : _) (x y : _) (s : _) → has-form.Post κs a x s → has-form.Post κs a y s → x ≡ y
 has_form_unique κs a x y s p q = p ∙ sym q

@@ -43,10 +43,10 @@ encode_one p r a b e = shown-one p r (whole-shown p refl a) (whole-shown r e b)
 pub permitted-lettered : {n : ℕ} {S : System} (law : Lawful n S) → n ≤ 7 → (p : Plan) (k : ℕ) → Permitted S k p → Lettered p
 permitted-lettered law few stop k w = tt
 permitted-lettered law few (set_then i q b p) k w =
-    (omega (arith, law.setting_of_lem k (Set i q b) w.0), law.post_of_lem k (Set i q b) w.0, permitted-lettered law few p (set_to k i b) w.1)
+    (omega (arith, law.setting_of_case k (Set i q b) w.0), law.post_of_case k (Set i q b) w.0, permitted-lettered law few p (set_to k i b) w.1)
 permitted-lettered law few (look_then i q p r) k w = (
-  omega (arith, law.setting_of_lem k (Look i q) w.0),
-  law.post_of_lem k (Look i q) w.0,
+  omega (arith, law.setting_of_case k (Look i q) w.0),
+  law.post_of_case k (Look i q) w.0,
   permitted-lettered law few p (look_at k i false) w.1,
   permitted-lettered law few r (look_at k i true) w.2,
 )

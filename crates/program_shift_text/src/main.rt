@@ -1,4 +1,4 @@
-// The program of `shift_text SHIFT`: the text of the shift in the file that its word names, to standard output, or
+// The program of `shift-text SHIFT`: the text of the shift in the file that its word names, to standard output, or
 // `refused NUMBER PLACE`; what came of it goes to descriptor 3. A shift that is text already is read and printed anew,
 // so its comments and empty lines go.
 #![tactic(auto)]

@@ -1,13 +1,13 @@
 -- A question of two legs: which refusal it meets, from what the code found, that what `ask_two` gives is settled; and that its second leg is a valid
 -- question of its own, so that both legs' systems are lawful.
 use mathlib.Core.Path.{◌≡◌, refl, sym, ap, ap₂, subst}
-use mathlib.Core.List.{List, [], ◌∷◌}
+use mathlib.Core.List.{List}
 use Prim.Native.Nat.{ℕ}
 use Rattle.refusal.specs.declared.Refusal.{Refusal}
 use Rattle.refusal.specs.declared.Refusal.TheVariants.{Team, Goal as WrongGoal}
-use Rattle.refusal.specs.Order.{Row, when, First, Clear}
+use Rattle.refusal.specs.Order.{First, Clear}
 use Rattle.refusal.proofs.OrderLaws.{first-when, first_past, first-left, first-right, first_unique, first-clear, clear-append, clear-past, clear_none}
-use Rattle.book_sound.specs.Rows.{settings_of, posts_of}
+use Rattle.book_sound.specs.Rows.{posts_of}
 use Rattle.book_sound.proofs.SoundLaws.{sound-settings, sound-posts}
 use Rattle.book_sound.proofs.Theorems.{sound-one}
 use Rattle.knowledge.specs.Goal.{Goal}
@@ -47,12 +47,12 @@ module _ (book : List ℕ) (q : Question) (goal : Goal) (team2 : ℕ) (goal2 : G
   unfolding leg_rows
   legs_clear v =
       clear-append (question_clear v.first)
-      (clear-past (team_in v.first v.second-team)
-      (clear-past (subst (λ (n : ℕ). GoalFits n goal2) (sym (sound-settings v.first.sound)) v.second-goal) clear_none))
+      (clear-past (team_in v.first v.second_team)
+      (clear-past (subst (λ (n : ℕ). GoalFits n goal2) (sym (sound-settings v.first.sound)) v.second_goal) clear_none))
 
   -- the second leg is a valid question of its own
   pub second-valid : {n m : ℕ} → ValidLegs book q goal team2 goal2 n m → ValidQuestion book (second_question q team2) goal2 n m
-  second-valid v = record { sound = v.first.sound; team = v.second-team; known = v.first.known; held = v.first.held; goal = v.second-goal }
+  second-valid v = record { sound = v.first.sound; team = v.second_team; known = v.first.known; held = v.first.held; goal = v.second_goal }
 
   -- "Held settings are the same for both legs", and so are the rules: what is permitted is the same, by other posts
   pub same-permits : (n : ℕ) → (second_system n book q team2 goal2).permits ≡ (system_of n book q goal).permits

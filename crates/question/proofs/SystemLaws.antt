@@ -66,9 +66,9 @@ module _ (n : ℕ) (book : List ℕ) (q : Question) (goal : Goal) (byte : q.team
   -- whatever the team's byte is
   team-ruled : Lawful n (ruled_system n book q goal)
   team-ruled = record {
-    setting_of_lem = λ k a m. ltb→lt (setting_of a) n (and_left (ltb (setting_of a) n) (bit q.team (post_of a)) (offer k a m));
-    post_of_lem = λ k a m. bits-low 8 q.team byte (post_of a) (and_right (ltb (setting_of a) n) (bit q.team (post_of a)) (offer k a m));
-    looks-at = digit-nought;
+    setting_of_case = λ k a m. ltb→lt (setting_of a) n (and_left (ltb (setting_of a) n) (bit q.team (post_of a)) (offer k a m));
+    post_of_case = λ k a m. bits-low 8 q.team byte (post_of a) (and_right (ltb (setting_of a) n) (bit q.team (post_of a)) (offer k a m));
+    looks_at = digit-nought;
   }
 
   pub team_lawful : Lawful n (system_of n book q goal)

@@ -34,8 +34,8 @@ WorksForTwo book q goal team2 goal2 n p = WorksThen (system_of n book q goal) (s
 -- a question of two legs that refusals 6 to 12 and 31 let through, over a book of n settings and m posts
 pub record ValidLegs (book : List ℕ) (q : Question) (goal : Goal) (team2 : ℕ) (goal2 : Goal) (n m : ℕ) : Type 0 where
   pub first : ValidQuestion book q goal n m
-  pub second-team : TeamFits m team2
-  pub second-goal : GoalFits n goal2
+  pub second_team : TeamFits m team2
+  pub second_goal : GoalFits n goal2
 
 -- 10 and 12 of the second leg
 abbrev pub second_rows : List ℕ → ℕ → Goal → List Row

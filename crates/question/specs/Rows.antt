@@ -29,11 +29,11 @@ LearnWithin n learn = (j : ℕ) → j < learn_count learn → Within n (learn_ta
 
 -- 12: "make table not 16 bytes, learn tables not 0 to 4 times 16 bytes, or a bit past 2^n in either"
 pub record GoalFits (n : ℕ) (goal : Goal) : Type 0 where
-  pub make-bytes : length goal.make ≡ 16
-  pub learn-bytes : length goal.learn % 16 ≡ 0
-  pub learn-most : learn_count goal.learn ≤ 4
-  pub make-within : Within n goal.make
-  pub learn-within : LearnWithin n goal.learn
+  pub make_bytes : length goal.make ≡ 16
+  pub learn_bytes : length goal.learn % 16 ≡ 0
+  pub learn_most : learn_count goal.learn ≤ 4
+  pub make_within : Within n goal.make
+  pub learn_within : LearnWithin n goal.learn
 
 -- "the book's 6 to 9, then 10, 11", then 31, then 12
 unfoldable pub question_rows : List ℕ → Question → Goal → List Row

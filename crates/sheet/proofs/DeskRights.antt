@@ -49,7 +49,7 @@ same_place Set i q = omega arith
 module _ {sheet : Sheet} {d : Desk} (h : OnDesk sheet d) where
   pub rights_length : length (rights_in d) ≡ 256 * d.rules.settings
   unfolding rights_in
-  rights_length = length-take-le (256 * d.rules.settings) d.rules.rights (omega (arith, h.rules.rights_size, h.rules.settings-most))
+  rights_length = length-take-le (256 * d.rules.settings) d.rules.rights (omega (arith, h.rules.rights_size, h.rules.settings_most))
 
   module _ (right : Right) (i q : ℕ) (hi : i < d.rules.settings) (hq : q < 8) where
     desk_table : table (tables_of (rights_in d) i) q right ≡ table_in d.rules.rights (slot_of right i q)
@@ -60,14 +60,14 @@ module _ {sheet : Sheet} {d : Desk} (h : OnDesk sheet d) where
         let e : 256 * i + table_place q right ≡ 16 * slot_of right i q = same_place right i q in
         let l : length (tables_of (rights_in d) i) ≡ 256 = length-tables (rights_in d) i (omega (arith, rights_length)) in
         part_same (tables_of (rights_in d) i) rights (table_place q right) (16 * slot_of right i q) 16 (omega arith)
-        (omega (arith, h.rules.rights_size, h.rules.settings-most))
+        (omega (arith, h.rules.rights_size, h.rules.settings_most))
         (λ o k.
         get_d_part (rights_in d) (256 * i) 256 (table_place q right + o) (omega arith)
         ∙ get_or-take (256 * d.rules.settings) rights (256 * i + (table_place q right + o)) 0 (omega arith)
         ∙ ap (λ (x : ℕ). get_or rights x 0) (sym (add_assoc (256 * i) (table_place q right) o) ∙ ap (λ (x : ℕ). x + o) e))
 
     slot : Filled (in_size d.rules.settings d.rules.posts i q) d.rules.settings (rule_text sheet.rules right i q) (table_in d.rules.rights (slot_of right i q))
-    slot = h.rules.tables right i q (omega (arith, h.rules.settings-most)) hq
+    slot = h.rules.tables right i q (omega (arith, h.rules.settings_most)) hq
 
     desk_accepts : q < d.rules.posts → Accepts d.rules.settings (rule_text sheet.rules right i q) (table (tables_of (rights_in d) i) q right)
     desk_accepts l =
@@ -90,12 +90,12 @@ module _ {sheet : Sheet} {d : Desk} (h : OnDesk sheet d) where
         size = rights_length ∙ ap (λ (n : ℕ). 256 * n) n;
         rules = λ right i q hi hq.
             subst (λ (n : ℕ). Accepts n (rule_text sheet.rules right i q) (table (tables_of (rights_in d) i) q right)) n
-            (desk_accepts right i q (omega (arith, n)) (omega (arith, w.ruled.posts-most)) (omega (arith, m)));
+            (desk_accepts right i q (omega (arith, n)) (omega (arith, w.ruled.posts_most)) (omega (arith, m)));
         nobody = λ right i q hi l hq. desk_nobody right i q (omega (arith, n)) hq (omega (arith, m));
         made = subst (λ (n : ℕ). Accepts n sheet.asked.make d.asked.make) n h.asked.make;
         learnt = subst (λ (n : ℕ). TablesOf n sheet.asked.asks (take (16 * d.asked.asks) d.asked.learn)) n h.asked.learn;
         posts = h.asked.team;
-        settings-known = h.asked.known;
+        settings_known = h.asked.known;
         settings_true = h.asked.values;
-        settings-held = h.asked.held;
+        settings_held = h.asked.held;
       }

@@ -80,9 +80,9 @@ module _ {sheet : Sheet} {R R' : List ℕ} {q q' : Question} {goal goal' : Goal}
   same_question : q ≡ q'
   same_question =
       let t : q.team ≡ q'.team = mask_one q.team q'.team (λ p. a.posts p ∙ sym (b.posts p)) in
-      let k : q.known ≡ q'.known = mask_one q.known q'.known (λ i. a.settings-known i ∙ sym (b.settings-known i)) in
+      let k : q.known ≡ q'.known = mask_one q.known q'.known (λ i. a.settings_known i ∙ sym (b.settings_known i)) in
       let v : q.values ≡ q'.values = mask_one q.values q'.values (λ i. a.settings_true i ∙ sym (b.settings_true i)) in
-      let o : q.held ≡ q'.held = mask_one q.held q'.held (λ i. a.settings-held i ∙ sym (b.settings-held i)) in
+      let o : q.held ≡ q'.held = mask_one q.held q'.held (λ i. a.settings_held i ∙ sym (b.settings_held i)) in
       let e : ◌≡◌ {A = Question} (record { team = q.team; known = q.known; values = q.values; held = q.held })
       (record { team = q'.team; known = q'.known; values = q'.values; held = q'.held }) = cc in
       e

@@ -1,4 +1,4 @@
--- The question that a well_formed sheet asks is valid: its rights may be written as a book, and refusals 10 to 12 deny nothing of it. Name by name,
+-- The question that a well-formed sheet asks is valid: its rights may be written as a book, and refusals 10 to 12 deny nothing of it. Name by name,
 -- and table by table. So its plans are short.
 use mathlib.Core.Path.{◌≡◌, sym, ap, ◌∙◌, subst}
 use mathlib.Core.Logic.{inl, inr}
@@ -115,13 +115,13 @@ module _ {sheet : Sheet} {rights : List ℕ} {q : Question} {goal : Goal} (w : W
 
   asked-known : KnownFits sheet.size.settings q.known q.values
   asked-known = record {
-    settings = λ i t. setting-below sheet.size.settings sheet.asked.known i w.well_asked.known (subst T (a.settings-known i) t);
-    valued = λ i t. subst T (sym (a.settings-known i)) (true_known sheet.asked.known i (subst T (a.settings_true i) t));
+    settings = λ i t. setting-below sheet.size.settings sheet.asked.known i w.well_asked.known (subst T (a.settings_known i) t);
+    valued = λ i t. subst T (sym (a.settings_known i)) (true_known sheet.asked.known i (subst T (a.settings_true i) t));
   }
 
   asked-held : HeldFits sheet.size.settings q.held
   asked-held = record {
-    settings = λ i t. held_below sheet.size.settings sheet.asked.held i w.well_asked.held (subst T (a.settings-held i) t);
+    settings = λ i t. held_below sheet.size.settings sheet.asked.held i w.well_asked.held (subst T (a.settings_held i) t);
   }
 
   asked-goal : GoalFits sheet.size.settings goal
@@ -129,11 +129,11 @@ module _ {sheet : Sheet} {rights : List ℕ} {q : Question} {goal : Goal} (w : W
       let Fs = sheet.asked.asks in
       let size : length goal.learn ≡ 16 * length Fs = tables-length sheet.size.settings Fs goal.learn a.learnt in
       record {
-        make-bytes = a.made.table.sixteen;
-        learn-bytes = omega (arith, size);
-        learn-most = omega (arith, size, w.well_asked.asks-most);
-        make-within = a.made.table.within;
-        learn-within = λ j l. tables-within sheet.size.settings Fs goal.learn j a.learnt (omega (arith, size, l));
+        make_bytes = a.made.table.sixteen;
+        learn_bytes = omega (arith, size);
+        learn_most = omega (arith, size, w.well_asked.asks_most);
+        make_within = a.made.table.within;
+        learn_within = λ j l. tables-within sheet.size.settings Fs goal.learn j a.learnt (omega (arith, size, l));
       }
 
   asked-within : (right : Right) (i p : ℕ) → i < sheet.size.settings → p < 8 → Within sheet.size.settings (table (tables_of rights i) p right)
@@ -146,8 +146,8 @@ module _ {sheet : Sheet} {rights : List ℕ} {q : Question} {goal : Goal} (w : W
   pub asked_writable : Writable sheet.size.settings sheet.size.posts rights
   unfolding Zeros
   asked_writable = record {
-    settings = record { least = w.ruled.settings-least; most = w.ruled.settings-most };
-    posts = record { least = w.ruled.posts-least; most = w.ruled.posts-most };
+    settings = record { least = w.ruled.settings_least; most = w.ruled.settings_most };
+    posts = record { least = w.ruled.posts_least; most = w.ruled.posts_most };
     size = a.size;
     tables = λ i hi. record {
       nobody = λ p right l hp j from to. ap (λ (t : List ℕ). get_or t j 0) (a.nobody right i p hi l hp) ∙ zero_at 16 j;
@@ -167,7 +167,7 @@ module _ {sheet : Sheet} {rights : List ℕ} {q : Question} {goal : Goal} (w : W
   asked-most five k p x =
       let n : ℕ = sheet.size.settings in
       let S : System = system_of n (sheet_book sheet rights) q goal in
-      let few = w.ruled.settings-most in
+      let few = w.ruled.settings_most in
       let r = has-rank asked_lawful k in
       let low : r.0 < 255 = (rank_reach asked_lawful k r.0 few r.1).1 (p, written_works S p k x) in
       let most : r.0 ≤ 62 = omega (arith, rank_most asked_lawful k r.0 r.1 (λ e. omega arith), pow_mono {i = suc n} {j = 6} (omega arith)) in (

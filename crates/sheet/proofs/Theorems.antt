@@ -46,7 +46,7 @@ answer_unique s old r r' new new' a b = by_meaning (sheet_meaning s) refl a b
     by_meaning (refused x line) m p q = prints_unique p q
     by_meaning (stated sheet) m (R, q, goal, a, x) (R', q', goal', a', y) =
         let w : WellFormed sheet = (stated-written s sheet m).0 in
-        tells-one (asked_lawful w a) w.ruled.settings-most x (subst₂ (λ (S : System) (i : ℕ). PrintsFound S i old r' new') (same-system a' a) (same_start a' a) y)
+        tells-one (asked_lawful w a) w.ruled.settings_most x (subst₂ (λ (S : System) (i : ℕ). PrintsFound S i old r' new') (same-system a' a) (same_start a' a) y)
 
 -- ---- 28,234 bytes always suffice
 

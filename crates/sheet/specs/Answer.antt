@@ -32,9 +32,9 @@ pub record SheetAsks (sheet : Sheet) (rights : List ℕ) (q : Question) (goal : 
   pub made : Accepts sheet.size.settings sheet.asked.make goal.make
   pub learnt : TablesOf sheet.size.settings sheet.asked.asks goal.learn
   pub posts : (p : ℕ) → bit q.team p ≡ member p sheet.asked.team
-  pub settings-known : (i : ℕ) → bit q.known i ≡ member i (known_settings sheet.asked.known)
+  pub settings_known : (i : ℕ) → bit q.known i ≡ member i (known_settings sheet.asked.known)
   pub settings_true : (i : ℕ) → bit q.values i ≡ member i (known_true sheet.asked.known)
-  pub settings-held : (i : ℕ) → bit q.held i ≡ member i (held_settings sheet.asked.held)
+  pub settings_held : (i : ℕ) → bit q.held i ≡ member i (held_settings sheet.asked.held)
 
 -- the book of a sheet's size with these rights
 abbrev pub sheet_book : Sheet → List ℕ → List ℕ

@@ -35,7 +35,7 @@ module _ {book : List ℕ} {n m : ℕ} (sound : Sound book n m) (text : List ℕ
         by_meaning (asked a) s h = (a, s, h)
 
     pub stated-learnt : Learnt d
-    stated-learnt = (whole.2.learn-size, whole.2.asks-most)
+    stated-learnt = (whole.2.learn_size, whole.2.asks_most)
 
     pub stated-valid : ValidQuestion book (question_in d) (goal_in d) n m
     stated-valid = asked-valid (asked-fits n m 0 true text whole.0 whole.1) (desk_asks whole.2) sound

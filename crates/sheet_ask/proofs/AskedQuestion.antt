@@ -77,22 +77,22 @@ module _ {n m : ℕ} {a : Asked} (fits : AskedFits n m a) where
   goal-fits {goal} made learnt =
       let size : length goal.learn ≡ 16 * length a.asks = tables-length n a.asks goal.learn learnt in
       record {
-        make-bytes = made.table.sixteen;
-        learn-bytes = omega (arith, size);
-        learn-most = omega (arith, size, fits.asks-most);
-        make-within = made.table.within;
-        learn-within = λ j l. tables-within n a.asks goal.learn j learnt (omega (arith, size, l));
+        make_bytes = made.table.sixteen;
+        learn_bytes = omega (arith, size);
+        learn_most = omega (arith, size, fits.asks_most);
+        make_within = made.table.within;
+        learn_within = λ j l. tables-within n a.asks goal.learn j learnt (omega (arith, size, l));
       }
 
 module _ {n m : ℕ} {a : Asked} {q : Question} {goal : Goal} (fits : AskedFits n m a) (x : QuestionAsks n a q goal) where
   asked-known : KnownFits n q.known q.values
   asked-known = record {
-    settings = λ i t. fits.known i (subst T (x.settings-known i) t);
-    valued = λ i t. subst T (sym (x.settings-known i)) (true_known a.known i (subst T (x.settings_true i) t));
+    settings = λ i t. fits.known i (subst T (x.settings_known i) t);
+    valued = λ i t. subst T (sym (x.settings_known i)) (true_known a.known i (subst T (x.settings_true i) t));
   }
 
   asked-held : HeldFits n q.held
-  asked-held = record { settings = λ i t. fits.held i (subst T (x.settings-held i) t) }
+  asked-held = record { settings = λ i t. fits.held i (subst T (x.settings_held i) t) }
 
   pub asked-valid : {book : List ℕ} → Sound book n m → ValidQuestion book q goal n m
   asked-valid s = record { sound = s; team = team-fits fits x.posts; known = asked-known; held = asked-held; goal = goal-fits fits x.made x.learnt }
@@ -100,7 +100,7 @@ module _ {n m : ℕ} {a : Asked} {q : Question} {goal : Goal} (fits : AskedFits 
   -- with a second leg
   pub asked_legs : {b : Asked} {second : ℕ} {wanted : Goal} → AskedFits n m b → SecondAsks n b second wanted → {book : List ℕ} → Sound book n m
       → ValidLegs book q goal second wanted n m
-  asked_legs more y s = record { first = asked-valid s; second-team = team-fits more y.posts; second-goal = goal-fits more y.made y.learnt }
+  asked_legs more y s = record { first = asked-valid s; second_team = team-fits more y.posts; second_goal = goal-fits more y.made y.learnt }
 
 -- ---- it is one alone
 
@@ -115,9 +115,9 @@ module _ {n : ℕ} {a : Asked} {q q' : Question} {goal goal' : Goal} (x : Questi
   pub same_question : q ≡ q'
   same_question =
       let t : q.team ≡ q'.team = mask_one q.team q'.team (λ p. x.posts p ∙ sym (y.posts p)) in
-      let k : q.known ≡ q'.known = mask_one q.known q'.known (λ i. x.settings-known i ∙ sym (y.settings-known i)) in
+      let k : q.known ≡ q'.known = mask_one q.known q'.known (λ i. x.settings_known i ∙ sym (y.settings_known i)) in
       let v : q.values ≡ q'.values = mask_one q.values q'.values (λ i. x.settings_true i ∙ sym (y.settings_true i)) in
-      let o : q.held ≡ q'.held = mask_one q.held q'.held (λ i. x.settings-held i ∙ sym (y.settings-held i)) in
+      let o : q.held ≡ q'.held = mask_one q.held q'.held (λ i. x.settings_held i ∙ sym (y.settings_held i)) in
       let e : ◌≡◌ {A = Question} (record { team = q.team; known = q.known; values = q.values; held = q.held })
       (record { team = q'.team; known = q'.known; values = q'.values; held = q'.held }) = cc in
       e
@@ -137,7 +137,7 @@ module _ {n : ℕ} {b : Asked} {second second' : ℕ} {wanted wanted' : Goal} (x
 
 pub desk_asks : {n : ℕ} {a : Asked} {d : AskedDesk} → AskedOnDesk n a d → QuestionAsks n a (question_in d) (goal_in d)
 unfolding learn_in
-desk_asks h = record { made = h.make; learnt = h.learn; posts = h.team; settings-known = h.known; settings_true = h.values; settings-held = h.held }
+desk_asks h = record { made = h.make; learnt = h.learn; posts = h.team; settings_known = h.known; settings_true = h.values; settings_held = h.held }
 
 pub desk_second : {n : ℕ} {b : Asked} {d : AskedDesk} → AskedOnDesk n b d → SecondAsks n b d.team (goal_in d)
 unfolding learn_in

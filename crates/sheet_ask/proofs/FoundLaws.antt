@@ -10,7 +10,6 @@ use lib.Seq.{take_at, ext_get_or}
 use Rattle.ground.proofs.Bools.{lt_or_ge}
 use Rattle.ground.proofs.Search.{least_unique}
 use Rattle.refusal.specs.declared.Refusal.{Refusal}
-use Rattle.refusal.specs.declared.Refusal.TheVariants.{RankRoom}
 use Rattle.refusal.specs.declared.Numbers.{Numbers}
 use Rattle.refusal.specs.Refusals.{numbers, number, place}
 use Rattle.refusal.proofs.OrderLaws.{first_unique, first-clear}
@@ -26,7 +25,7 @@ use Rattle.plan.proofs.Accepted.{written-most}
 use Rattle.print_answer.specs.Listed.{Lettered}
 use Rattle.print_answer.specs.Printed.{refused_text, cannot_text, reach_text, Prints}
 use Rattle.print_answer.proofs.Theorems.{permitted-lettered, prints_unique}
-use Rattle.question.specs.Question.{system_of, start_of}
+use Rattle.question.specs.Question.{start_of}
 use Rattle.question.specs.Asks.{ValidQuestion}
 use Rattle.question.specs.declared.Question.{Question}
 use Rattle.question.proofs.SystemLaws.{lawful, few}
@@ -131,7 +130,7 @@ module _ {book : List ℕ} {q : Question} {goal : Goal} {n m : ℕ} (v : ValidQu
             | inl l ↦ inl (
               l,
               record {
-                ranks-kept = u.ranks-kept;
+                ranks_kept = u.ranks_kept;
                 printed = subst (λ (w : Refusal). Prints old (refused_text (number w) (place w)) r new) (first_unique u.first (short-table v ranks l)) f;
               },
             )

@@ -13,7 +13,7 @@ use Rattle.sheet_question.specs.Desk.{AskedOnDesk}
 use Rattle.sheet_question.specs.Reads.{within}
 use Rattle.sheet_question.specs.declared.desk.AskedDesk.{AskedDesk}
 use Rattle.sheet_question.proofs.ReadLaws.{within_same}
-use Rattle.sheet_legs.specs.Legs.{LegsMeaning, refused-at, one, two, legs_meaning}
+use Rattle.sheet_legs.specs.Legs.{LegsMeaning, refused_at, one, two, legs_meaning}
 use Rattle.sheet_legs.specs.Reads.{ReadsLegs}
 use Rattle.sheet_legs.specs.declared.LegsTold.{LegsTold}
 use Rattle.sheet_legs.specs.declared.LegsTold.TheVariants.{One, Two, Refused}
@@ -41,12 +41,12 @@ module _ {book : List ℕ} {n m : ℕ} (sound : Sound book n m) (text : List ℕ
     one-whole = by_meaning (legs_meaning n m text) refl (told_as f)
       where
         by_meaning : (o : LegsMeaning) → legs_meaning n m text ≡ o → ReadsLegs n o One d e → (a : Asked) × (legs_meaning n m text ≡ one a) × AskedOnDesk n a d
-        by_meaning (refused-at x line) s h = absurd h
+        by_meaning (refused_at x line) s h = absurd h
         by_meaning (one a) s h = (a, s, h.0)
         by_meaning (two a b) s h = absurd h
 
     pub one-learnt : Learnt d
-    one-learnt = (one-whole.2.learn-size, one-whole.2.asks-most)
+    one-learnt = (one-whole.2.learn_size, one-whole.2.asks_most)
 
     pub one-valid : ValidQuestion book (question_in d) (goal_in d) n m
     one-valid = asked-valid (subst (LegsFit n m) one-whole.1 (legs_fit n m text)) (desk_asks one-whole.2) sound
@@ -64,12 +64,12 @@ module _ {book : List ℕ} {n m : ℕ} (sound : Sound book n m) (text : List ℕ
       where
         by_meaning : (o : LegsMeaning) → legs_meaning n m text ≡ o → ReadsLegs n o Two d e
             → (a : Asked) × (b : Asked) × (legs_meaning n m text ≡ two a b) × AskedOnDesk n a d × AskedOnDesk n b e
-        by_meaning (refused-at x line) s h = absurd h
+        by_meaning (refused_at x line) s h = absurd h
         by_meaning (one a) s h = absurd h
         by_meaning (two a b) s h = (a, b, s, h.0, h.1)
 
     pub two-learnt : Learnt d × Learnt e
-    two-learnt = ((two-whole.3.learn-size, two-whole.3.asks-most), (two-whole.4.learn-size, two-whole.4.asks-most))
+    two-learnt = ((two-whole.3.learn_size, two-whole.3.asks_most), (two-whole.4.learn_size, two-whole.4.asks_most))
 
     pub two-valid : ValidLegs book (question_in d) (goal_in d) e.team (goal_in e) n m
     two-valid =
@@ -90,8 +90,8 @@ module _ {book : List ℕ} {n m : ℕ} (sound : Sound book n m) (text : List ℕ
   refused-prints ranks out r out' why line x f g p = by_meaning (legs_meaning n m text) (told_as f)
     where
       by_meaning : (o : LegsMeaning) → ReadsLegs n o (Refused why line) d e → PrintsLegs n book o ranks out r ranks out'
-      by_meaning (refused-at y at) h = record {
-        ranks-kept = refl;
+      by_meaning (refused_at y at) h = record {
+        ranks_kept = refl;
         printed = subst (λ (t : List ℕ). Prints out t r out') (ap₂ (λ (a b : ℕ). refused_text a b) (g ∙ ap number h.0) h.1) p;
       }
       by_meaning (one a) h = absurd h

@@ -1,6 +1,6 @@
 -- What is promised of what `ask` prints, about its contract: it is settled, both rooms included; it has at most 456,970 bytes; and what it is for a text of
 -- one leg and of two.
-use mathlib.Core.Path.{◌≡◌, refl, sym, ap, ◌∙◌, subst, subst₂}
+use mathlib.Core.Path.{◌≡◌, sym, ◌∙◌, subst, subst₂}
 use mathlib.Core.Logic.{◌⊎◌, inl, inr}
 use mathlib.Core.Bool.{true}
 use mathlib.Core.List.{List}
@@ -17,8 +17,7 @@ use Rattle.book_sound.proofs.SoundLaws.{sound-clear}
 use Rattle.book_sound.proofs.Theorems.{sound-one, book_place-small}
 use Rattle.knowledge.specs.Goal.{Goal}
 use Rattle.plan.specs.Plans.{System, Lawful, Plan, height}
-use Rattle.plan.specs.Ranks.{Reach}
-use Rattle.plan.specs.Legs.{WorksThen, ReachThen, first_leg}
+use Rattle.plan.specs.Legs.{WorksThen, ReachThen}
 use Rattle.plan.proofs.Legs.{then_works, works_then, reach_then, then_reach}
 use Rattle.plan.proofs.Written.{written_works, written-height}
 use Rattle.print_answer.specs.Printed.{reach_text, cannot_text, Prints}
@@ -32,7 +31,7 @@ use Rattle.question.proofs.LegLaws.{first_leg_lawful, second_lawful}
 use Rattle.sheet_question.specs.Asked.{Asked}
 use Rattle.sheet_question.specs.Question.{QuestionMeaning, refused, asked, question_meaning}
 use Rattle.sheet_words.specs.Words.{split, newline}
-use Rattle.sheet_legs.specs.Legs.{Cut, whole, cut_lines, LegsMeaning, refused-at, one, two, one_leg, legs_meaning}
+use Rattle.sheet_legs.specs.Legs.{whole, cut_lines, LegsMeaning, refused_at, one, two, one_leg, legs_meaning}
 use Rattle.sheet_legs.proofs.CutLaws.{no_then, one-asked}
 use Rattle.sheet_legs.proofs.Whole.{LegsFit, legs_fit, LegsMost, legs_most}
 use Rattle.sheet_ask.specs.Asks.{QuestionAsks, SecondAsks, PrintsFound, PrintsRefused, PrintsAsked, PrintsQuestion, PrintsTwo, PrintsLegs, AsksBook}
@@ -47,7 +46,7 @@ abbrev Same : ℕ → ℕ → List ℕ → List ℕ → List ℕ → List ℕ �
 Same r s x y u v = (r ≡ s) × (x ≡ y) × (u ≡ v)
 
 refused-one : {code at : ℕ} {ranks out x y u v : List ℕ} {r s : ℕ} → PrintsRefused code at ranks out r x u → PrintsRefused code at ranks out s y v → Same r s x y u v
-refused-one a b = let z = prints_unique a.printed b.printed in (z.0, a.ranks-kept ∙ sym b.ranks-kept, z.1)
+refused-one a b = let z = prints_unique a.printed b.printed in (z.0, a.ranks_kept ∙ sym b.ranks_kept, z.1)
 
 -- what is printed for an answer is short
 found-most : {n : ℕ} {S : System} (law : Lawful n S) (small : n ≤ 7) (k : ℕ) {out u : List ℕ} {r : ℕ} → PrintsFound S k out r u → r ≤ 456970
@@ -94,7 +93,7 @@ module _ {book : List ℕ} {n m : ℕ} (sound : Sound book n m) (text : List ℕ
   legs_printed-one ranks out x y u w r s a b = by_meaning (legs_meaning n m text) (legs_fit n m text) a b
     where
       by_meaning : (o : LegsMeaning) → LegsFit n m o → PrintsLegs n book o ranks out r x u → PrintsLegs n book o ranks out s y w → (r ≡ s) × (x ≡ y) × (u ≡ w)
-      by_meaning (refused-at why line) fit p t = refused-one p t
+      by_meaning (refused_at why line) fit p t = refused-one p t
       by_meaning (one a) fit (q, goal, k, p) (q', goal', l, t) =
           printed-one (asked-valid fit k sound) p
           (subst₂ (λ (c : Question) (g : Goal). PrintsAsked n book c g ranks out s y w) (same_question l k) (same-goal l k) t)
@@ -107,7 +106,7 @@ module _ {book : List ℕ} {n m : ℕ} (sound : Sound book n m) (text : List ℕ
   legs_printed-most ranks out x u r p = by_meaning (legs_meaning n m text) (legs_fit n m text) (legs_most n m text) p
     where
       by_meaning : (o : LegsMeaning) → LegsFit n m o → LegsMost 65538 o → PrintsLegs n book o ranks out r x u → r ≤ 456970
-      by_meaning (refused-at why line) fit l a = omega (arith, a.printed.count, refused-length (number why) line (omega (arith, number_small why)) (omega (arith, l)))
+      by_meaning (refused_at why line) fit l a = omega (arith, a.printed.count, refused-length (number why) line (omega (arith, number_small why)) (omega (arith, l)))
       by_meaning (one a) fit l (q, goal, k, p) = printed-most (asked-valid fit k sound) p
       by_meaning (two a b) fit l (q, goal, second, wanted, k, i, p) = two-printed-most (asked_legs fit.0 k fit.1 i sound) p
 

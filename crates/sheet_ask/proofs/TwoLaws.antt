@@ -1,6 +1,6 @@
 -- What the finder answers to valid legs with room for the ranks of both: it refuses nothing; what it found can be printed; and with the second leg's ranks
 -- behind the first's, one table holds both.
-use mathlib.Core.Path.{◌≡◌, sym, ap, ◌∙◌, subst}
+use mathlib.Core.Path.{◌≡◌, sym, ◌∙◌, subst}
 use mathlib.Core.Logic.{inl, inr}
 use mathlib.Core.List.{List}
 use Prim.Native.Nat.{ℕ, ◌+◌, ◌-◌, ◌*◌, ◌^◌, ◌≤◌, ◌<◌}
@@ -92,12 +92,12 @@ module _ {n count : ℕ} {book : List ℕ} {first second : AskedDesk} (ranks ran
           → Met n
       by_case (inl u) =
           first-clear u.first (two-clear book (question_in first) (goal_in first) second.team (goal_in second) (rooms_of ranks ranks2 plan) fit.valid
-          (record { first-room = omega (arith, fit.room); second-room = room2 }))
+          (record { first_room = omega (arith, fit.room); second_room = room2 }))
       by_case (inr (k, l, w, room, a)) = subst Met (sound-one w.first.sound fit.valid.first.sound).0 a
 
   pub two-found : {new : List ℕ} → new ≡ sets ranks' count (take count (drop 0 ranks2')) → FoundBoth n book first second ranks plan answer new plan'
   two-found {new} e = record {
-    filled = both_filled met.first-ranks met.second-ranks fit.room room2
+    filled = both_filled met.first_ranks met.second_ranks fit.room room2
         (subst (λ (k : ℕ). new ≡ sets ranks' k (take k (drop 0 ranks2'))) fit.counted e);
     answers = met.answers;
   }

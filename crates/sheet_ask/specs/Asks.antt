@@ -22,16 +22,16 @@ use Rattle.sheet_words.specs.Words.{member}
 use Rattle.sheet_question.specs.Asked.{Asked, known_settings, known_true, held_settings}
 use Rattle.sheet_question.specs.Desk.{TablesOf}
 use Rattle.sheet_question.specs.Question.{QuestionMeaning, refused, asked}
-use Rattle.sheet_legs.specs.Legs.{LegsMeaning, refused-at, one, two, legs_meaning}
+use Rattle.sheet_legs.specs.Legs.{LegsMeaning, refused_at, one, two, legs_meaning}
 
 -- the question that is asked over n settings: "Every rule and goal is worked on as a table", and a mask has a bit for each post or setting that is named
 pub record QuestionAsks (n : ℕ) (a : Asked) (q : Question) (goal : Goal) : Type 0 where
   pub made : Accepts n a.make goal.make
   pub learnt : TablesOf n a.asks goal.learn
   pub posts : (p : ℕ) → bit q.team p ≡ member p a.team
-  pub settings-known : (i : ℕ) → bit q.known i ≡ member i (known_settings a.known)
+  pub settings_known : (i : ℕ) → bit q.known i ≡ member i (known_settings a.known)
   pub settings_true : (i : ℕ) → bit q.values i ≡ member i (known_true a.known)
-  pub settings-held : (i : ℕ) → bit q.held i ≡ member i (held_settings a.held)
+  pub settings_held : (i : ℕ) → bit q.held i ≡ member i (held_settings a.held)
 
 -- the second leg that is asked: a team and a goal of its own
 pub record SecondAsks (n : ℕ) (b : Asked) (second : ℕ) (wanted : Goal) : Type 0 where
@@ -48,7 +48,7 @@ PrintsFound S start old r new =
 
 -- a refusal is printed, and the rank table is left as it was
 pub record PrintsRefused (code at : ℕ) (ranks out : List ℕ) (r : ℕ) (ranks' out' : List ℕ) : Type 0 where
-  pub ranks-kept : ranks' ≡ ranks
+  pub ranks_kept : ranks' ≡ ranks
   pub printed : Prints out (refused_text code at) r out'
 
 -- a question over a book of n settings: 13, "rank table under 7^n bytes"; or the answer, and "the first 7^n bytes of the rank table hold all ranks"
@@ -83,7 +83,7 @@ PrintsTwo n book q goal second wanted ranks out r ranks' out' =
 
 -- by what a text of one leg or two means
 abbrev pub PrintsLegs : ℕ → List ℕ → LegsMeaning → List ℕ → List ℕ → ℕ → List ℕ → List ℕ → Type 0
-PrintsLegs n book (refused-at why line) ranks out r ranks' out' = PrintsRefused (number why) line ranks out r ranks' out'
+PrintsLegs n book (refused_at why line) ranks out r ranks' out' = PrintsRefused (number why) line ranks out r ranks' out'
 PrintsLegs n book (one a) ranks out r ranks' out' = PrintsQuestion n book (asked a) ranks out r ranks' out'
 PrintsLegs n book (two a b) ranks out r ranks' out' =
     (q : Question) × (goal : Goal) × (second : ℕ) × (wanted : Goal) × QuestionAsks n a q goal × SecondAsks n b second wanted

@@ -52,7 +52,7 @@ rights_in d = take (256 * d.settings) d.rights
 module _ {rules : Rules} {d : RulesDesk} (h : OnDesk rules d) where
   pub rights_length : length (rights_in d) ≡ 256 * d.settings
   unfolding rights_in
-  rights_length = length-take-le (256 * d.settings) d.rights (omega (arith, h.rights_size, h.settings-most))
+  rights_length = length-take-le (256 * d.settings) d.rights (omega (arith, h.rights_size, h.settings_most))
 
   module _ (right : Right) (i q : ℕ) (hi : i < d.settings) (hq : q < 8) where
     desk_table : table (tables_of (rights_in d) i) q right ≡ table_in d.rights (slot_of right i q)
@@ -63,14 +63,14 @@ module _ {rules : Rules} {d : RulesDesk} (h : OnDesk rules d) where
         let e : 256 * i + table_place q right ≡ 16 * slot_of right i q = same_place right i q in
         let l : length (tables_of (rights_in d) i) ≡ 256 = length-tables (rights_in d) i (omega (arith, rights_length)) in
         part_same (tables_of (rights_in d) i) rights (table_place q right) (16 * slot_of right i q) 16 (omega arith)
-        (omega (arith, h.rights_size, h.settings-most))
+        (omega (arith, h.rights_size, h.settings_most))
         (λ o k.
         get_d_part (rights_in d) (256 * i) 256 (table_place q right + o) (omega arith)
         ∙ get_or-take (256 * d.settings) rights (256 * i + (table_place q right + o)) 0 (omega arith)
         ∙ ap (λ (x : ℕ). get_or rights x 0) (sym (add_assoc (256 * i) (table_place q right) o) ∙ ap (λ (x : ℕ). x + o) e))
 
     slot : Filled (in_size d.settings d.posts i q) d.settings (rule_text rules.rules right i q) (table_in d.rights (slot_of right i q))
-    slot = h.tables right i q (omega (arith, h.settings-most)) hq
+    slot = h.tables right i q (omega (arith, h.settings_most)) hq
 
     desk_accepts : q < d.posts → Accepts d.settings (rule_text rules.rules right i q) (table (tables_of (rights_in d) i) q right)
     desk_accepts l =
@@ -92,17 +92,17 @@ module _ {rules : Rules} {d : RulesDesk} (h : OnDesk rules d) where
         size = rights_length ∙ ap (λ (n : ℕ). 256 * n) n;
         tables = λ right i q hi hq.
             subst (λ (n : ℕ). Accepts n (rule_text rules.rules right i q) (table (tables_of (rights_in d) i) q right)) n
-            (desk_accepts right i q (omega (arith, n)) (omega (arith, m, h.posts-most)) (omega (arith, m)));
+            (desk_accepts right i q (omega (arith, n)) (omega (arith, m, h.posts_most)) (omega (arith, m)));
         nobody = λ right i q hi l hq. desk_nobody right i q (omega (arith, n)) hq (omega (arith, m));
       }
 
   pub desk_fits : Fits 7 rules.size
   desk_fits = record {
-    settings-least = omega (arith, h.settings, h.settings-least);
-    settings-most = omega (arith, h.settings, h.settings-most);
-    settings-taken = omega (arith, h.settings, h.settings-most);
-    posts-least = omega (arith, h.posts, h.posts-least);
-    posts-most = omega (arith, h.posts, h.posts-most);
+    settings_least = omega (arith, h.settings, h.settings_least);
+    settings_most = omega (arith, h.settings, h.settings_most);
+    settings-taken = omega (arith, h.settings, h.settings_most);
+    posts_least = omega (arith, h.posts, h.posts_least);
+    posts_most = omega (arith, h.posts, h.posts_most);
   }
 
 -- the rights of rules may be written
@@ -117,8 +117,8 @@ module _ {rules : Rules} {rights : List ℕ} (f : Fits 7 rules.size) (a : RulesR
   pub rights_writable : Writable rules.size.settings rules.size.posts rights
   unfolding Zeros
   rights_writable = record {
-    settings = record { least = f.settings-least; most = f.settings-most };
-    posts = record { least = f.posts-least; most = f.posts-most };
+    settings = record { least = f.settings_least; most = f.settings_most };
+    posts = record { least = f.posts_least; most = f.posts_most };
     size = a.size;
     tables = λ i hi. record {
       nobody = λ q right l hq j from to. ap (λ (t : List ℕ). get_or t j 0) (a.nobody right i q hi l hq) ∙ zero_at 16 j;

@@ -75,6 +75,8 @@ makes_of_one rules room (Refused why line) (Refused else at) x y (e, f, g, h) (i
 pub makes_one : (o : Meaning) (room : List ℕ) (a b : MakeAnswer) (x y : List ℕ) → MakesBook o room a x → MakesBook o room b y → (a ≡ b) × (x ≡ y)
 makes_one (refused r at) room (Refused why line) (Refused else place) x y (e, f, g) (h, i, j) = (ap₂ Refused (e ∙ sym h) (f ∙ sym i), g ∙ sym j)
 makes_one (stated rules) room a b x y h k = makes_of_one rules room a b x y h k
+makes_one (refused r at) room (Made _) b x y h k = elim h [ ]
+makes_one (refused r at) room (Refused why line) (Made _) x y h k = elim k [ ]
 
 -- ---- 25 is never given: not by the lines, and the room's refusal is 15
 
@@ -119,7 +121,7 @@ line-most s room a why line after e m =
 -- and so is a book's length
 length-within : (o : Meaning) (room : List ℕ) (size : ℕ) (after : List ℕ) → MeaningGoes o → MakesBook o room (Made size) after → size ≤ 4096
 length-within (refused r at) room size after goes m = absurd m
-length-within (stated rules) room size after goes m = omega (arith, m.0, goes.settings-most)
+length-within (stated rules) room size after goes m = omega (arith, m.0, goes.settings_most)
 
 pub length_most : (s room : List ℕ) (a : MakeAnswer) (size : ℕ) (after : List ℕ) → a ≡ Made size → MakesBook (rules_meaning s) room a after → size ≤ 4096
 length_most s room a size after e m =

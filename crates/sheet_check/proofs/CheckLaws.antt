@@ -93,7 +93,7 @@ module _ {book : List ℕ} {n m : ℕ} (sound : Sound book n m) (s : List ℕ) (
           by_meaning (Question.asked a) h = (a, refl, h)
 
       pub stated-learnt : Learnt d
-      stated-learnt = (stated.2.learn-size, stated.2.asks-most)
+      stated-learnt = (stated.2.learn_size, stated.2.asks_most)
 
       pub question_asked : (r : CheckTold) → ChecksText book (question_in d) (goal_in d) (plan_text_meaning plan) r → ChecksQuestion n book (question_meaning 0 true n m s) plan r
       question_asked r c =

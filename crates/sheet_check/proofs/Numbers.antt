@@ -20,7 +20,7 @@ use Rattle.formula.specs.declared.Answer.{Answer}
 use Rattle.formula.specs.declared.Answer.TheVariants.{Accepted, Refused as Wrong}
 use Rattle.book_sound.specs.Rows.{book_rows}
 use Rattle.knowledge.specs.Goal.{Goal}
-use Rattle.plan.specs.Check.{Fault, no_act, not-permitted, changes_nothing_lem, not-settled, too_soon, left_over}
+use Rattle.plan.specs.Check.{Fault, no_act, not_permitted, changes_nothing_case, not_settled, too_soon, left_over}
 use Rattle.question.specs.Asks.{ValidQuestion}
 use Rattle.question.specs.declared.Question.{Question}
 use Rattle.question.proofs.RowLaws.{question_clear}
@@ -158,9 +158,9 @@ OfPlan why = ((16 ≤ number why) × (number why ≤ 21)) ⊎ (number why ≡ 32
 
 fault-number : (f : Fault) (i : ℕ) → OfPlan (refusal_of f i)
 fault-number no_act i = inl (omega arith, omega arith)
-fault-number (not-permitted why) i = inl (omega arith, omega arith)
-fault-number changes_nothing_lem i = inr refl
-fault-number not-settled i = inl (omega arith, omega arith)
+fault-number (not_permitted why) i = inl (omega arith, omega arith)
+fault-number changes_nothing_case i = inr refl
+fault-number not_settled i = inl (omega arith, omega arith)
 fault-number too_soon i = inl (omega arith, omega arith)
 fault-number left_over i = inl (omega arith, omega arith)
 

@@ -2,30 +2,30 @@
 -- it asks as ever: in each state the line `then` is a fault, so a text that asks has none.
 use mathlib.Core.Path.{◌≡◌, refl, sym, ap, ap₂, ◌∙◌, subst}
 use mathlib.Core.Logic.{inl, inr}
-use mathlib.Core.Bool.{Bool, true, false, ◌&&◌, cond}
+use mathlib.Core.Bool.{Bool, true, false, cond}
 use mathlib.Core.List.{List, [], ◌∷◌, ◌++◌, append_assoc}
 use Prim.Native.Nat.{ℕ, suc, ◌+◌, ◌-◌, ◌≤◌, ◌<◌}
 use native.Mathlib.Omega.{arith}
-use lib.Dec.{T, eqb, ltb, eqb→eq}
+use lib.Dec.{T, eqb, eqb→eq}
 use lib.ListN.{length, take, drop, length-append, length-drop}
 use lib.Seq.{take-append-add, length-take-le}
 use borrow.Author.Tests.{le-ltb, lt-ltb}
 use Rattle.ground.specs.Text.{bytes}
-use Rattle.ground.proofs.Bools.{lt_or_ge, and_left, and_right, true→T, false→T, both, decide, T→true, T→false}
+use Rattle.ground.proofs.Bools.{lt_or_ge, and_left, and_right, true→T}
 use Rattle.refusal.specs.declared.Refusal.{Refusal}
 use Rattle.refusal.specs.declared.Refusal.TheVariants.{Malformed, SheetLength}
 use Rattle.sheet_words.specs.Words.{split, newline, begins, passed_over}
 use Rattle.sheet_words.specs.Steps.{fault, next}
-use Rattle.sheet_words.proofs.Split.{some_piece, Clear, AllClear, joined, marked, marked-some, joined_split, split-clear, split-marked}
+use Rattle.sheet_words.proofs.Split.{some_piece, Clear, AllClear, joined, marked-some, joined_split, split-clear, split-marked}
 use Rattle.sheet_words.proofs.Pieces.{part, PieceEnd}
 use Rattle.sheet_question.specs.Asked.{Asked, nothing_asked}
 use Rattle.sheet_question.specs.Forms.{is_names, is_team, is_known, is_held}
 use Rattle.sheet_question.specs.LineSteps.{AskedStep, team_step, known_step, held_step, make_step, ask_step, held_or_make, due_step, line_step}
-use Rattle.sheet_question.specs.Question.{QuestionMeaning, refused, asked, asked_from, question_meaning}
+use Rattle.sheet_question.specs.Question.{refused, asked, asked_from, question_meaning}
 use Rattle.sheet_question.specs.declared.desk.Due.{Due}
 use Rattle.sheet_question.specs.declared.desk.Due.TheVariants.{Team, Known, Held, Make, Asks}
 use Rattle.sheet_question.proofs.ReadLaws.{after, asked-after, not-long, too_long}
-use Rattle.sheet_legs.specs.Legs.{is_then, Cut, whole, parted, ahead, cut_lines, LegsMeaning, refused-at, one, two, one_leg, legs_of, legs_meaning}
+use Rattle.sheet_legs.specs.Legs.{is_then, Cut, whole, parted, ahead, cut_lines, refused_at, one, one_leg, legs_of, legs_meaning}
 
 -- ---- the cut, one line more in front
 
@@ -183,13 +183,13 @@ module _ (n m : ℕ) where
 -- ---- the whole
 
 module _ (n m : ℕ) (s : List ℕ) where
-  pub legs_too_long : 65536 < length s → legs_meaning n m s ≡ refused-at SheetLength 0
+  pub legs_too_long : 65536 < length s → legs_meaning n m s ≡ refused_at SheetLength 0
   unfolding legs_meaning
-  legs_too_long h = ap (λ (b : Bool). cond b (refused-at SheetLength 0) (legs_of n m (split newline s) (cut_lines (split newline s)))) (lt-ltb 65536 (length s) h)
+  legs_too_long h = ap (λ (b : Bool). cond b (refused_at SheetLength 0) (legs_of n m (split newline s) (cut_lines (split newline s)))) (lt-ltb 65536 (length s) h)
 
   pub legs_not-long : length s ≤ 65536 → legs_meaning n m s ≡ legs_of n m (split newline s) (cut_lines (split newline s))
   unfolding legs_meaning
-  legs_not-long h = ap (λ (b : Bool). cond b (refused-at SheetLength 0) (legs_of n m (split newline s) (cut_lines (split newline s)))) (le-ltb 65536 (length s) h)
+  legs_not-long h = ap (λ (b : Bool). cond b (refused_at SheetLength 0) (legs_of n m (split newline s) (cut_lines (split newline s)))) (le-ltb 65536 (length s) h)
 
   -- a text without a line `then` means what it means with one leg
   pub no_then : cut_lines (split newline s) ≡ whole → legs_meaning n m s ≡ one_leg (question_meaning 0 true n m s)

@@ -20,7 +20,7 @@ use Rattle.sheet_question.specs.declared.QuestionTold.TheVariants.{Stated}
 use Rattle.sheet_question.specs.declared.QuestionTold.TheVariants.{Refused as NotAsked}
 use Rattle.sheet_question.proofs.ReadLaws.{not-long}
 use Rattle.sheet_question.proofs.SecondLaws.{second-not-long}
-use Rattle.sheet_legs.specs.Legs.{Cut, cut_lines, LegsMeaning, refused-at, one, two, one_leg, first_then, legs_of, legs_meaning}
+use Rattle.sheet_legs.specs.Legs.{LegsMeaning, refused_at, one, two, first_then, legs_of, legs_meaning}
 use Rattle.sheet_legs.specs.Reads.{CutsAt, ReadsLegs}
 use Rattle.sheet_legs.specs.declared.LegsTold.{LegsTold}
 use Rattle.sheet_legs.specs.declared.LegsTold.TheVariants.{One, Two, Refused}
@@ -47,7 +47,7 @@ module _ (n : ℕ) (o : QuestionMeaning) {t : QuestionTold} (d : AskedDesk) (rea
 -- ---- what is read of the text
 
 module _ (n : ℕ) {o : LegsMeaning} (d e : AskedDesk) where
-  pub legs_refused : {t : LegsTold} (why : Refusal) (line : ℕ) → 1 ≤ n → n ≤ 7 → o ≡ refused-at why line
+  pub legs_refused : {t : LegsTold} (why : Refusal) (line : ℕ) → 1 ≤ n → n ≤ 7 → o ≡ refused_at why line
       → (t ≡ Refused why line) × ((n : ℕ) → 1 ≤ n → n ≤ 7 → AskedOnDesk n nothing_asked d × AskedOnDesk n nothing_asked e) → ReadsLegs n o t d e
   legs_refused {t} why line l m f (g, h) =
       subst₂ (λ (x : LegsMeaning) (y : LegsTold). ReadsLegs n x y d e) (sym f) (sym g) (refl, refl, (h n l m).0, (h n l m).1)

@@ -1,6 +1,6 @@
 -- What is promised of a question text with one leg or two: what each leg names is there, lines go no further than the text, and `read_legs` gives one
 -- thing alone.
-use mathlib.Core.Path.{◌≡◌, refl, sym, ap, ap₂, ◌∙◌, subst}
+use mathlib.Core.Path.{◌≡◌, refl, sym, ap₂, ◌∙◌, subst}
 use mathlib.Core.Logic.{inl, inr}
 use mathlib.Core.Bool.{Bool, true, false}
 use mathlib.Core.List.{List, [], ◌∷◌}
@@ -19,7 +19,7 @@ use Rattle.sheet_question.proofs.Fits.{AskedFits, MeaningFits, begun_first, fits
 use Rattle.sheet_question.proofs.SecondFits.{second_fits, second-most}
 use Rattle.sheet_question.proofs.Counted.{LineMost, lines-most}
 use Rattle.sheet_question.proofs.Unique.{asked-one}
-use Rattle.sheet_legs.specs.Legs.{is_then, Cut, whole, parted, ahead, cut_lines, LegsMeaning, refused-at, one, two, one_leg, first_then, legs_of, legs_meaning}
+use Rattle.sheet_legs.specs.Legs.{is_then, Cut, whole, parted, ahead, cut_lines, LegsMeaning, refused_at, one, two, one_leg, first_then, legs_of, legs_meaning}
 use Rattle.sheet_legs.specs.Reads.{ReadsLegs}
 use Rattle.sheet_legs.specs.declared.LegsTold.{LegsTold}
 use Rattle.sheet_legs.specs.declared.LegsTold.TheVariants.{One, Two, Refused}
@@ -28,7 +28,7 @@ use Rattle.sheet_legs.proofs.CutLaws.{then_or, cut_after, legs_too_long, legs_no
 -- ---- what each leg names is there
 
 abbrev pub LegsFit : ℕ → ℕ → LegsMeaning → Type 0
-LegsFit n m (refused-at r line) = Unit
+LegsFit n m (refused_at r line) = Unit
 LegsFit n m (one a) = AskedFits n m a
 LegsFit n m (two a b) = AskedFits n m a × AskedFits n m b
 
@@ -77,7 +77,7 @@ cut_counts (line ∷ another ∷ more) =
     by_test later false = ahead_counts line (length (another ∷ more)) (cut_lines (another ∷ more)) later
 
 abbrev pub LegsMost : ℕ → LegsMeaning → Type 0
-LegsMost most (refused-at r line) = line ≤ most
+LegsMost most (refused_at r line) = line ≤ most
 LegsMost most (one a) = Unit
 LegsMost most (two a b) = Unit
 
@@ -101,7 +101,7 @@ module _ (n m : ℕ) where
       (second-most n m (suc (length first)) second)
 
   up : (k l : ℕ) (o : LegsMeaning) → k ≤ l → LegsMost k o → LegsMost l o
-  up k l (refused-at r line) h p = omega (arith, h, p)
+  up k l (refused_at r line) h p = omega (arith, h, p)
   up k l (one a) h p = tt
   up k l (two a b) h p = tt
 
@@ -117,14 +117,14 @@ module _ (n m : ℕ) where
 -- ---- one result alone
 
 pub legs_unique : (n : ℕ) (o : LegsMeaning) (x y : LegsTold) (a b c d : AskedDesk) → ReadsLegs n o x a b → ReadsLegs n o y c d → (x ≡ y) × (a ≡ c) × (b ≡ d)
-legs_unique n (refused-at r line) (Refused why at) (Refused else to) a b c d (e, f, h, k) (g, i, l, p) =
+legs_unique n (refused_at r line) (Refused why at) (Refused else to) a b c d (e, f, h, k) (g, i, l, p) =
     (ap₂ Refused (e ∙ sym g) (f ∙ sym i), asked-one n nothing_asked a c h l, asked-one n nothing_asked b d k p)
 legs_unique n (one v) One One a b c d (h, k) (l, p) = (refl, asked-one n v a c h l, asked-one n nothing_asked b d k p)
 legs_unique n (two v w) Two Two a b c d (h, k) (l, p) = (refl, asked-one n v a c h l, asked-one n w b d k p)
-legs_unique n (refused-at r line) One y a b c d x6 _ = elim x6 [ ]
-legs_unique n (refused-at r line) Two y a b c d x7 _ = elim x7 [ ]
-legs_unique n (refused-at r line) (Refused why at) One a b c d _ x11 = elim x11 [ ]
-legs_unique n (refused-at r line) (Refused why at) Two a b c d _ x12 = elim x12 [ ]
+legs_unique n (refused_at r line) One y a b c d x6 _ = elim x6 [ ]
+legs_unique n (refused_at r line) Two y a b c d x7 _ = elim x7 [ ]
+legs_unique n (refused_at r line) (Refused why at) One a b c d _ x11 = elim x11 [ ]
+legs_unique n (refused_at r line) (Refused why at) Two a b c d _ x12 = elim x12 [ ]
 legs_unique n (one v) One Two a b c d _ x10 = elim x10 [ ]
 legs_unique n (one v) One (Refused else to) a b c d _ x11 = elim x11 [ ]
 legs_unique n (one v) Two y a b c d x8 _ = elim x8 [ ]

@@ -32,18 +32,18 @@ cut_lines (line ∷ another ∷ more) = elim (is_then line) [ true ↦ parted ([
 
 -- a refusal and its line, which is what is printed as its place; or what is asked, with one leg or with two
 pub data LegsMeaning : Type 0 where
-  refused-at : Refusal → (line : ℕ) → LegsMeaning
+  refused_at : Refusal → (line : ℕ) → LegsMeaning
   one : Asked → LegsMeaning
   two : (first second : Asked) → LegsMeaning
 
 abbrev pub one_leg : QuestionMeaning → LegsMeaning
-one_leg (refused r line) = refused-at r line
+one_leg (refused r line) = refused_at r line
 one_leg (asked a) = one a
 
 -- the first leg's refusal comes before the second's
 abbrev pub first_then : QuestionMeaning → QuestionMeaning → LegsMeaning
-first_then (refused r line) second = refused-at r line
-first_then (asked a) (refused r line) = refused-at r line
+first_then (refused r line) second = refused_at r line
+first_then (asked a) (refused r line) = refused_at r line
 first_then (asked a) (asked b) = two a b
 
 -- by where the text is cut: a first leg of so many pieces has its last one, the empty one, in the place of the line `then`. So a first leg that is not
@@ -54,4 +54,4 @@ legs_of n m pieces (parted first second) = first_then (asked_from true n m 1 Tea
 
 -- "at most 65,536 bytes (else 24)", the whole text, before all else
 unfoldable pub legs_meaning : ℕ → ℕ → List ℕ → LegsMeaning
-legs_meaning n m text = cond (ltb 65536 (length text)) (refused-at SheetLength 0) (legs_of n m (split newline text) (cut_lines (split newline text)))
+legs_meaning n m text = cond (ltb 65536 (length text)) (refused_at SheetLength 0) (legs_of n m (split newline text) (cut_lines (split newline text)))

@@ -4,7 +4,7 @@ use Rattle.sheet_words.specs.Words.{split, newline}
 use Rattle.sheet_question.specs.Asked.{nothing_asked}
 use Rattle.sheet_question.specs.Desk.{AskedOnDesk}
 use Rattle.sheet_question.specs.declared.desk.AskedDesk.{AskedDesk}
-use Rattle.sheet_legs.specs.Legs.{whole, parted, cut_lines, LegsMeaning, refused-at, one, two}
+use Rattle.sheet_legs.specs.Legs.{whole, parted, cut_lines, LegsMeaning, refused_at, one, two}
 use Rattle.sheet_legs.specs.declared.LegsTold.{LegsTold}
 use Rattle.sheet_legs.specs.declared.LegsTold.TheVariants.{One, Two, Refused}
 use Rattle.sheet_legs.specs.declared.ThenLine.{ThenLine}
@@ -12,9 +12,9 @@ use Rattle.sheet_legs.specs.declared.ThenLine.TheVariants.{Nowhere, At}
 
 -- the first refusal, with nothing on the desks; or what is asked, over n settings, each leg on its desk
 abbrev pub ReadsLegs : ℕ → LegsMeaning → LegsTold → AskedDesk → AskedDesk → Type 0
-ReadsLegs n (refused-at r line) (Refused why at) d e = (why ≡ r) × (at ≡ line) × AskedOnDesk n nothing_asked d × AskedOnDesk n nothing_asked e
-ReadsLegs n (refused-at r line) One d e = ⊥
-ReadsLegs n (refused-at r line) Two d e = ⊥
+ReadsLegs n (refused_at r line) (Refused why at) d e = (why ≡ r) × (at ≡ line) × AskedOnDesk n nothing_asked d × AskedOnDesk n nothing_asked e
+ReadsLegs n (refused_at r line) One d e = ⊥
+ReadsLegs n (refused_at r line) Two d e = ⊥
 ReadsLegs n (one a) (Refused why at) d e = ⊥
 ReadsLegs n (one a) One d e = AskedOnDesk n a d × AskedOnDesk n nothing_asked e
 ReadsLegs n (one a) Two d e = ⊥

@@ -1,5 +1,5 @@
 -- From what was read to what is said: one law for each return, by what the question text means.
-use mathlib.Core.Path.{◌≡◌, refl, sym, ap, ap₂, subst}
+use mathlib.Core.Path.{◌≡◌, sym, ap₂, subst}
 use mathlib.Core.Bool.{true}
 use mathlib.Core.List.{List}
 use Prim.Native.Nat.{ℕ}
@@ -11,15 +11,13 @@ use Rattle.finder_plain.specs.Finds.{FindsPlain}
 use Rattle.finder_plain.specs.declared.finding.PlainAnswer.{PlainAnswer}
 use Rattle.finder_plain.specs.declared.finding.PlainAnswer.TheVariants.{Reach as Found, Cannot as NotFound, Refused as NotAnswered}
 use Rattle.finder_plain.proofs.Theorems.{own_reach, own_cannot, valid-answered}
-use Rattle.sheet_question.specs.Asked.{Asked}
-use Rattle.sheet_question.specs.Desk.{AskedOnDesk}
 use Rattle.sheet_question.specs.Question.{QuestionMeaning, question_meaning}
 use Rattle.sheet_question.specs.Question as Question
 use Rattle.sheet_question.specs.Reads.{within, ReadsQuestion}
 use Rattle.sheet_question.specs.declared.desk.AskedDesk.{AskedDesk}
 use Rattle.sheet_question.specs.declared.QuestionTold.{QuestionTold}
 use Rattle.sheet_question.specs.declared.QuestionTold.TheVariants.{Stated, Refused as NotAsked}
-use Rattle.sheet_ask.specs.Inner.{Learnt, question_in, goal_in}
+use Rattle.sheet_ask.specs.Inner.{question_in, goal_in}
 use Rattle.sheet_ask.proofs.AskedQuestion.{desk_asks}
 use Rattle.sheet_ask.proofs.AskLaws as Ask
 use Rattle.sheet_plain.specs.Asks.{SaysPlainly, SaysOfText}

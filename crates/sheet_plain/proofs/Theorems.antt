@@ -1,7 +1,7 @@
 -- What is promised of what the plain finder says of a question text: it is one thing alone; and of a text of one leg it is what `ask` prints of the same
 -- book and text, by the first finder: the same reach or cannot, the same height, the same refusals. So the two of `both` are never apart.
 use mathlib.Core.Path.{◌≡◌, refl, sym, ap, ◌∙◌, subst, subst₂}
-use mathlib.Core.Logic.{◌⊎◌, inl, inr}
+use mathlib.Core.Logic.{inl, inr}
 use mathlib.Core.Bool.{true}
 use mathlib.Core.List.{List}
 use Prim.Native.Nat.{ℕ, ◌^◌, ◌≤◌}
@@ -9,23 +9,20 @@ use native.Mathlib.Nat.{pow-le-pow_right}
 use native.Mathlib.Omega.{arith}
 use lib.Dec.{lit<}
 use lib.ListN.{length}
-use Rattle.ground.specs.Search.{Least}
 use Rattle.ground.proofs.Search.{least_unique}
 use Rattle.refusal.specs.Refusals.{number, place}
 use Rattle.refusal.proofs.OrderLaws.{first_unique, first-clear}
-use Rattle.book_sound.specs.Sound.{Sound}
 use Rattle.book_sound.proofs.SoundLaws.{sound-clear}
 use Rattle.book_sound.proofs.Theorems.{sound-one}
 use Rattle.knowledge.specs.Goal.{Goal}
 use Rattle.plan.specs.Plans.{System}
-use Rattle.plan.specs.Ranks.{Reach as ReachIn, Cannot as CannotFrom}
-use Rattle.print_answer.specs.Printed.{reach_text, refused_text, cannot_text, Prints}
+use Rattle.print_answer.specs.Printed.{reach_text, refused_text, Prints}
 use Rattle.question.specs.Question.{system_of, start_of}
 use Rattle.question.specs.declared.Question.{Question}
 use Rattle.sheet_words.specs.Words.{split, newline}
 use Rattle.sheet_question.specs.Question.{QuestionMeaning, refused, asked, question_meaning}
 use Rattle.sheet_legs.specs.Legs.{whole, cut_lines}
-use Rattle.sheet_ask.specs.Asks.{QuestionAsks, PrintsFound, PrintsAsked, PrintsQuestion, AsksBook}
+use Rattle.sheet_ask.specs.Asks.{PrintsFound, PrintsAsked, PrintsQuestion, AsksBook}
 use Rattle.sheet_ask.proofs.AskedQuestion.{same-goal, same_question}
 use Rattle.sheet_ask.proofs.Theorems.{ask_told}
 use Rattle.sheet_plain.specs.Asks.{SaysPlainly, SaysOfText, AsksPlainly, PrintsAs}

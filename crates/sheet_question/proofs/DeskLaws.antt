@@ -52,10 +52,10 @@ module _ (n : ℕ) (a : Asked) (d : AskedDesk) (o : AskedOnDesk n a d) where
     held = o.held;
     make = o.make;
     asks = o.asks;
-    asks-most = o.asks-most;
-    learn-size = o.learn-size;
+    asks_most = o.asks_most;
+    learn_size = o.learn_size;
     learn = o.learn;
-    learn-rest = o.learn-rest;
+    learn_rest = o.learn_rest;
   }
 
   pub holds-known : (line : List ℕ) (mask values : ℕ) → ((i : ℕ) → bit mask i ≡ member i (known_settings (known_of line)))
@@ -68,10 +68,10 @@ module _ (n : ℕ) (a : Asked) (d : AskedDesk) (o : AskedOnDesk n a d) where
     held = o.held;
     make = o.make;
     asks = o.asks;
-    asks-most = o.asks-most;
-    learn-size = o.learn-size;
+    asks_most = o.asks_most;
+    learn_size = o.learn_size;
     learn = o.learn;
-    learn-rest = o.learn-rest;
+    learn_rest = o.learn_rest;
   }
 
   pub holds-held : (line : List ℕ) (mask : ℕ) → ((i : ℕ) → bit mask i ≡ member i (held_of line)) → AskedOnDesk n (with_held a line) (held_desk d mask)
@@ -83,10 +83,10 @@ module _ (n : ℕ) (a : Asked) (d : AskedDesk) (o : AskedOnDesk n a d) where
     held = m;
     make = o.make;
     asks = o.asks;
-    asks-most = o.asks-most;
-    learn-size = o.learn-size;
+    asks_most = o.asks_most;
+    learn_size = o.learn_size;
     learn = o.learn;
-    learn-rest = o.learn-rest;
+    learn_rest = o.learn_rest;
   }
 
   pub holds-make : (F t : List ℕ) → Accepts n F t → AskedOnDesk n (with_make a F) (make_desk d t)
@@ -98,10 +98,10 @@ module _ (n : ℕ) (a : Asked) (d : AskedDesk) (o : AskedOnDesk n a d) where
     held = o.held;
     make = x;
     asks = o.asks;
-    asks-most = o.asks-most;
-    learn-size = o.learn-size;
+    asks_most = o.asks_most;
+    learn_size = o.learn_size;
     learn = o.learn;
-    learn-rest = o.learn-rest;
+    learn_rest = o.learn_rest;
   }
 
   module _ (F t : List ℕ) (few : d.asks < 4) (sixteen : length t ≡ 16) (x : Accepts n F t) where
@@ -110,9 +110,9 @@ module _ (n : ℕ) (a : Asked) (d : AskedDesk) (o : AskedOnDesk n a d) where
 
     learn-more : take (16 * (count + 1)) (sets d.learn (16 * count) t) ≡ take (16 * count) d.learn ++ t
     learn-more =
-        ap (take (16 * (count + 1))) (sets-eq t d.learn (16 * count) (omega (arith, o.learn-size, sixteen)))
+        ap (take (16 * (count + 1))) (sets-eq t d.learn (16 * count) (omega (arith, o.learn_size, sixteen)))
         ∙ take_at (take (16 * count) d.learn ++ t) (drop (16 * count + length t) d.learn) (16 * (count + 1))
-        (length-append (take (16 * count) d.learn) t ∙ omega (arith, length-take-le (16 * count) d.learn (omega (arith, o.learn-size)), sixteen))
+        (length-append (take (16 * count) d.learn) t ∙ omega (arith, length-take-le (16 * count) d.learn (omega (arith, o.learn_size)), sixteen))
 
     pub holds_ask : AskedOnDesk n (with_ask a F) (learn_desk d t)
     unfolding with_ask learn_desk
@@ -123,8 +123,8 @@ module _ (n : ℕ) (a : Asked) (d : AskedDesk) (o : AskedOnDesk n a d) where
       held = o.held;
       make = o.make;
       asks = sym (length-append a.asks (F ∷ []) ∙ omega (arith, o.asks));
-      asks-most = omega arith;
-      learn-size = length-sets d.learn (16 * count) t ∙ o.learn-size;
+      asks_most = omega arith;
+      learn_size = length-sets d.learn (16 * count) t ∙ o.learn_size;
       learn = subst (TablesOf n (a.asks ++ (F ∷ []))) (sym learn-more) (tables_snoc n a.asks F (take (16 * count) d.learn) t o.learn x);
-      learn-rest = λ j l. get_d_sets-other d.learn (16 * count) t j (inr (omega (arith, sixteen))) ∙ o.learn-rest j (omega arith);
+      learn_rest = λ j l. get_d_sets-other d.learn (16 * count) t j (inr (omega (arith, sixteen))) ∙ o.learn_rest j (omega arith);
     }

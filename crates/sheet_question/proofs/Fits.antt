@@ -36,7 +36,7 @@ pub record AskedFits (n m : ℕ) (a : Asked) : Type 0 where
   pub team : (q : ℕ) → T (member q a.team) → q < m
   pub known : (i : ℕ) → T (member i (known_settings a.known)) → i < n
   pub held : (i : ℕ) → T (member i (held_settings a.held)) → i < n
-  pub asks-most : length a.asks ≤ 4
+  pub asks_most : length a.asks ≤ 4
 
 -- ---- a line of names
 
@@ -193,7 +193,7 @@ module _ (n m : ℕ) where
   fits_end L Known a rest h = tt
   fits_end L Held a rest h = tt
   fits_end L Make a rest h = tt
-  fits_end L Asks a [] h = record { someone = h.1.0; team = h.1.1; known = h.2; held = h.0.1; asks-most = h.0.0 }
+  fits_end L Asks a [] h = record { someone = h.1.0; team = h.1.1; known = h.2; held = h.0.1; asks_most = h.0.0 }
   fits_end L Asks a (c ∷ rest) h = tt
 
   fits_after : (passes : Bool) (L : ℕ) (pieces : List (List ℕ)) (x : AskedStep) → ((d : Due) (b : Asked) → SoFar n m d b → MeaningFits (asked_from passes n m (suc L) d b pieces))

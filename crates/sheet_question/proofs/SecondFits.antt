@@ -1,18 +1,17 @@
 -- What a second leg names is there: a post at least, posts of the m alone, and no settings. And how far its lines go. Line by line.
-use mathlib.Core.Path.{◌≡◌, sym, subst}
+use mathlib.Core.Path.{sym, subst}
 use mathlib.Core.Bool.{Bool, true, false, not}
 use mathlib.Core.List.{List, [], ◌∷◌}
-use Prim.Native.Nat.{ℕ, suc, ◌+◌, ◌<◌}
+use Prim.Native.Nat.{ℕ, suc, ◌+◌}
 use native.Mathlib.Omega.{arith}
 use lib.Dec.{T}
 use lib.ListN.{length}
 use Rattle.refusal.specs.declared.Refusal.TheVariants.{Malformed, Twice}
 use Rattle.sheet_words.specs.Words.{passed_over, member, twice}
 use Rattle.sheet_words.specs.Steps.{fault, next, unless}
-use Rattle.sheet_question.specs.Asked.{Asked, nothing_asked, known_settings}
+use Rattle.sheet_question.specs.Asked.{nothing_asked, known_settings}
 use Rattle.sheet_question.specs.Forms.{is_team, team_of}
 use Rattle.sheet_question.specs.LineSteps.{AskedStep, with_team, team_step}
-use Rattle.sheet_question.specs.Question.{QuestionMeaning}
 use Rattle.sheet_question.specs.Second.{from_team, second_from}
 use Rattle.sheet_question.specs.declared.desk.Due.TheVariants.{Known, Make}
 use Rattle.sheet_question.proofs.SecondLaws.{over_or, second-after}

@@ -45,9 +45,9 @@ module _ (n : ℕ) (asked : Asked) (a b : AskedDesk) (h : AskedOnDesk n asked a)
   same-learnt = tables-one n asked.asks _ _ h.learn (subst (λ (x : ℕ). TablesOf n asked.asks (take (16 * x) b.learn)) same-asks k.learn)
 
   same-learn : a.learn ≡ b.learn
-  same-learn = ext_get_or 0 a.learn b.learn (h.learn-size ∙ sym k.learn-size) (λ j l. elim (lt_or_ge j (16 * a.asks)) [
+  same-learn = ext_get_or 0 a.learn b.learn (h.learn_size ∙ sym k.learn_size) (λ j l. elim (lt_or_ge j (16 * a.asks)) [
     | inl m ↦ sym (get_or-take (16 * a.asks) a.learn j 0 m) ∙ ap (λ (t : List ℕ). get_or t j 0) same-learnt ∙ get_or-take (16 * a.asks) b.learn j 0 m
-    | inr m ↦ h.learn-rest j m ∙ sym (k.learn-rest j (omega (arith, same-asks)))
+    | inr m ↦ h.learn_rest j m ∙ sym (k.learn_rest j (omega (arith, same-asks)))
   ])
 
   pub asked-one : a ≡ b
@@ -71,8 +71,8 @@ turn_one n (fault r) (No why) (No else) a b e f = (ap No (e ∙ sym f), λ due z
 turn_one n (next (due, v)) (Next d) (Next c) a b (e, h) (f, k) = (ap Next (e ∙ sym f), λ x z. asked-one n v a b h k)
 turn_one n (fault r) (Next d) y a b e f = elim e [ ]
 turn_one n (fault r) (No why) (Next c) a b e f = elim f [ ]
-turn_one n (next (due , v)) (Next d) (No else) a b e f = elim f [ ]
-turn_one n (next (due , v)) (No why) y a b e f = elim e [ ]
+turn_one n (next (due, v)) (Next d) (No else) a b e f = elim f [ ]
+turn_one n (next (due, v)) (No why) y a b e f = elim e [ ]
 
 -- ---- what is read
 

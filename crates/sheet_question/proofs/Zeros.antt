@@ -46,8 +46,8 @@ nothing_on_desk n h k = record {
   held = bit_of_zero;
   make = nought_accepts n h k;
   asks = refl;
-  asks-most = omega arith;
-  learn-size = length-replicate {A = ℕ} 64 0;
+  asks_most = omega arith;
+  learn_size = length-replicate {A = ℕ} 64 0;
   learn = refl;
-  learn-rest = λ j l. zero_at 64 j;
+  learn_rest = λ j l. zero_at 64 j;
 }

@@ -23,10 +23,10 @@ pub record AskedOnDesk (n : ℕ) (asked : Asked) (d : AskedDesk) : Type 0 where
   pub held : (i : ℕ) → bit d.held i ≡ member i (held_settings asked.held)
   pub make : Accepts n asked.make d.make
   pub asks : d.asks ≡ length asked.asks
-  pub asks-most : d.asks ≤ 4
-  pub learn-size : length d.learn ≡ 64
+  pub asks_most : d.asks ≤ 4
+  pub learn_size : length d.learn ≡ 64
   pub learn : TablesOf n asked.asks (take (16 * d.asks) d.learn)
-  pub learn-rest : (j : ℕ) → 16 * d.asks ≤ j → get_or d.learn j 0 ≡ 0
+  pub learn_rest : (j : ℕ) → 16 * d.asks ≤ j → get_or d.learn j 0 ≡ 0
 
 -- what a line does, on the desk
 abbrev pub Steps : ℕ → AskedStep → Taken → AskedDesk → Type 0

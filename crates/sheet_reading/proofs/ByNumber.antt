@@ -22,8 +22,8 @@ use Rattle.sheet_reading.proofs.OnePass.{size_step, first_line, after}
 use Rattle.sheet_reading.specs.Grammar.{ended, size_text, rule_lines, rules_text, asked_text, sheet_text}
 use Rattle.sheet_reading.specs.Place.{all_ended, first_lines, MalformedAt}
 use Rattle.sheet_question.specs.Asked.{HeldLine, left_out, holding}
-use Rattle.sheet_reading.specs.Faults.{Line, size-line, right-line, ask_line, held_in, lines_of, NamesTwice, FormulaRefused, SizeAbove}
-use Rattle.sheet_reading.specs.Faults.{above, again, in-formula, LineFault, Reaches, FaultAt, RefusedSheet, too_long, malformed, at-fault}
+use Rattle.sheet_reading.specs.Faults.{Line, size_line, right_line, ask_line, held_in, lines_of, NamesTwice, FormulaRefused, SizeAbove}
+use Rattle.sheet_reading.specs.Faults.{above, again, in-formula, LineFault, Reaches, FaultAt, RefusedSheet, too_long, malformed, at_fault}
 use Rattle.sheet_reading.proofs.LineForms.{size-read, size-clear}
 use Rattle.sheet_reading.proofs.LineByLine.{split-ended, first-split}
 use Rattle.sheet_reading.proofs.Lines.{first-lines, same_lines}
@@ -35,7 +35,7 @@ use Rattle.sheet_reading.proofs.RefusedExactly.{refused_exactly}
 reaches_so : {s : List ℕ} {L : ℕ} {P Q : ℕ → List Line → Line → Type 0} → ((n : ℕ) (before : List Line) (line : Line) → P n before line → Q n before line)
     → Reaches s L P → Reaches s L Q
 reaches_so g f = record {
-  line-ends = f.line-ends;
+  line_ends = f.line_ends;
   begun = f.begun;
   none_before = f.none_before;
   here = record {
@@ -52,7 +52,7 @@ reaches_so g f = record {
 fault_of : {s : List ℕ} {r : Refusal} {L : ℕ} → (number r ≡ 22 → ⊥) → (number r ≡ 24 → ⊥) → RefusedSheet s r L → (length s ≤ 32768) × FaultAt s L r
 fault_of a b (too_long over) = absurd (b refl)
 fault_of a b (malformed fits m none) = absurd (a refl)
-fault_of a b (at-fault fits f) = (fits, f)
+fault_of a b (at_fault fits f) = (fits, f)
 
 module _ (s : List ℕ) where
   -- 24
@@ -61,16 +61,16 @@ module _ (s : List ℕ) where
     where
       over : RefusedSheet s SheetLength 0 → 32768 < length s
       over (too_long h) = h
-      over (at-fault fits f) = absurd (omega (arith, f.here.place))
+      over (at_fault fits f) = absurd (omega (arith, f.here.place))
 
   -- 22 at line L
   pub malformed_exactly : (L : ℕ) → (sheet_meaning s ≡ refused (Malformed L) L)
       ↔ ((length s ≤ 32768) × MalformedAt s L × ((K : ℕ) (r : Refusal) → K < L → FaultAt s K r → ⊥))
-  malformed_exactly L = (λ e. there ((refused_exactly s (Malformed L) L).0 e), λ (fits, m, none). (refused_exactly s (Malformed L) L).1 (malformed fits m none))
+  malformed_exactly L = (λ e. there refl ((refused_exactly s (Malformed L) L).0 e), λ (fits, m, none). (refused_exactly s (Malformed L) L).1 (malformed fits m none))
     where
-      there : RefusedSheet s (Malformed L) L → (length s ≤ 32768) × MalformedAt s L × ((K : ℕ) (r : Refusal) → K < L → FaultAt s K r → ⊥)
-      there (malformed fits m none) = (fits, m, none)
-      there (at-fault fits f) = absurd (elim (fault-number f.begun.sheet.size.settings L f.here.before f.here.holds) [
+      there : {k l : ℕ} → k ≡ l → RefusedSheet s (Malformed k) l → (length s ≤ 32768) × MalformedAt s l × ((K : ℕ) (r : Refusal) → K < l → FaultAt s K r → ⊥)
+      there e (malformed fits m none) = (fits, m, none)
+      there {l = l} e (at_fault fits f) = absurd (elim (fault-number f.begun.sheet.size.settings l f.here.before f.here.holds) [
         | inl h ↦ omega (arith, h)
         | inr (inl h) ↦ omega (arith, h)
         | inr (inr h) ↦ omega (arith, h)
@@ -81,7 +81,7 @@ module _ (s : List ℕ) where
   twice_exactly L = (
     λ e. let (fits, f) = fault_of (λ z. omega (arith, z)) (λ z. omega (arith, z)) ((refused_exactly s (Twice L) L).0 e) in
         (fits, reaches_so (λ n before line x. again-only n L before x refl) f),
-    λ (fits, f). (refused_exactly s (Twice L) L).1 (at-fault fits (reaches_so (λ n before line x. again x) f)),
+    λ (fits, f). (refused_exactly s (Twice L) L).1 (at_fault fits (reaches_so (λ n before line x. again x) f)),
   )
 
   -- a formula's number, with its line
@@ -90,7 +90,7 @@ module _ (s : List ℕ) where
   formula_exactly r L small = (
     λ e. let (fits, f) = fault_of (λ z. omega (arith, z, small)) (λ z. omega (arith, z, small)) ((refused_exactly s r L).0 e) in
         (fits, reaches_so (λ n before line x. formula_only n L before x small) f),
-    λ (fits, f). (refused_exactly s r L).1 (at-fault fits (reaches_so (λ n before line x. in-formula x.0 x.1) f)),
+    λ (fits, f). (refused_exactly s r L).1 (at_fault fits (reaches_so (λ n before line x. in-formula x.0 x.1) f)),
   )
 
 -- ---- 25
@@ -105,7 +105,7 @@ module _ (w : Sheet) where
   abbrev OwnSize : Line → Type 0
   OwnSize line = SizeAbove line → 5 < w.size.settings
 
-  rights_own : (rules : List Rule) (more : List Line) → Every OwnSize more → Every OwnSize (map right-line rules ++ more)
+  rights_own : (rules : List Rule) (more : List Line) → Every OwnSize more → Every OwnSize (map right_line rules ++ more)
   rights_own [] more h = h
   rights_own (r ∷ rules) more h = (λ x. absurd x, rights_own rules more h)
 
@@ -129,7 +129,7 @@ module _ (w : Sheet) where
 
   size-fault : 5 < w.size.settings → LineFault w 1 SheetSettings
   unfolding lines_of
-  size-fault h = record { before = []; line = size-line w.size; behind = _; lines = refl; place = refl; holds = above h }
+  size-fault h = record { before = []; line = size_line w.size; behind = _; lines = refl; place = refl; holds = above h }
 
 -- 25: the first line is `size N M` with N above 5, and nothing else is looked at
 pub settings_exactly : (s : List ℕ) (L : ℕ) → (sheet_meaning s ≡ refused SheetSettings L)
@@ -154,7 +154,7 @@ settings_exactly s L = (there, back)
         ∙ split-ended text (rule_lines w.rules ++ asked_text w.asked) (size-clear w.size.settings w.size.posts)))
         ∙ ap (λ (t : List ℕ). take 1 (split newline t)) f.begun.written
         ∙ ap (λ (K : ℕ). take 1 (split newline (all_ended (take K (split newline s)) ++ f.begun.rest))) first
-        ∙ same_lines s f.begun.rest 1 (omega (arith, f.line-ends)) in
+        ∙ same_lines s f.begun.rest 1 (omega (arith, f.line_ends)) in
         let rest : List ℕ = joined newline (drop 1 (split newline s)) in (
           first,
           fits,
@@ -163,10 +163,10 @@ settings_exactly s L = (there, back)
             w.size.posts,
             rest,
             high,
-            f.begun.well_formed.ruled.settings-most,
-            f.begun.well_formed.ruled.posts-least,
-            f.begun.well_formed.ruled.posts-most,
-            first-lines s 1 (omega (arith, f.line-ends, first))
+            f.begun.well_formed.ruled.settings_most,
+            f.begun.well_formed.ruled.posts_least,
+            f.begun.well_formed.ruled.posts_most,
+            first-lines s 1 (omega (arith, f.line_ends, first))
                 ∙ ap (λ (p : List (List ℕ)). all_ended p ++ rest) (sym same) ∙ ap (λ (t : List ℕ). t ++ rest) (append-nil (ended text)),
           ),
         )

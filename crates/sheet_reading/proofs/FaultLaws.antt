@@ -17,7 +17,7 @@ use Rattle.formula.specs.declared.Answer.TheVariants.{Accepted, Refused}
 use Rattle.formula.proofs.Computed.{Told, formula_told, read_computed}
 use Rattle.sheet_rules.proofs.FormulaLaws.{formula_number}
 use Rattle.sheet_reading.specs.Sheet.{Sheet}
-use Rattle.sheet_reading.specs.Faults.{Line, size-line, right-line, make-line, ask_line, lines_of}
+use Rattle.sheet_reading.specs.Faults.{Line, size_line, right_line, make_line_case, ask_line, lines_of}
 use Rattle.sheet_reading.specs.Faults.{NamesTwice, FormulaRefused, SizeAbove, Fault, above, again, in-formula, LineFault}
 
 -- ---- a formula's refusal is the computed one
@@ -35,15 +35,31 @@ accepted-none n F e r f = let d = first-refused n F r f in let z : ◌≡◌ {A 
 
 module _ (n L : ℕ) (before : List Line) where
   above_once : (line : Line) → SizeAbove line → NamesTwice before line → ⊥
-  above_once (size-line size) a t = t
+  above_once (size_line size) a t = t
+  above_once (right_line _) a t = elim a [ ]
+  above_once (Rattle.sheet_reading.specs.Faults.team-line _) a t = elim a [ ]
+  above_once (Rattle.sheet_reading.specs.Faults.known-line _) a t = elim a [ ]
+  above_once (Rattle.sheet_reading.specs.Faults.held-line _) a t = elim a [ ]
+  above_once (make_line_case _) a t = elim a [ ]
+  above_once (ask_line _) a t = elim a [ ]
 
   above_formula : (line : Line) (r : Refusal) → SizeAbove line → FormulaRefused n line r → ⊥
-  above_formula (size-line size) r a f = f
+  above_formula (size_line size) r a f = f
+  above_formula (right_line _) r a f = elim a [ ]
+  above_formula (Rattle.sheet_reading.specs.Faults.team-line _) r a f = elim a [ ]
+  above_formula (Rattle.sheet_reading.specs.Faults.known-line _) r a f = elim a [ ]
+  above_formula (Rattle.sheet_reading.specs.Faults.held-line _) r a f = elim a [ ]
+  above_formula (make_line_case _) r a f = elim a [ ]
+  above_formula (ask_line _) r a f = elim a [ ]
 
   formula_one : (line : Line) (r x : Refusal) → FormulaRefused n line r → FormulaRefused n line x → r ≡ x
-  formula_one (right-line q) r x f g = first_unique f g
-  formula_one (make-line F) r x f g = first_unique f g
+  formula_one (right_line q) r x f g = first_unique f g
+  formula_one (make_line_case F) r x f g = first_unique f g
   formula_one (ask_line F) r x f g = first_unique f g
+  formula_one (size_line _) r x f g = elim f [ ]
+  formula_one (Rattle.sheet_reading.specs.Faults.team-line _) r x f g = elim f [ ]
+  formula_one (Rattle.sheet_reading.specs.Faults.known-line _) r x f g = elim f [ ]
+  formula_one (Rattle.sheet_reading.specs.Faults.held-line _) r x f g = elim f [ ]
 
   fault-one : {line : Line} {r x : Refusal} → Fault n L before line r → Fault n L before line x → r ≡ x
   fault-one (above a) (above b) = refl
@@ -57,9 +73,13 @@ module _ (n L : ℕ) (before : List Line) where
   fault-one {line} {r} {x} (in-formula a f) (in-formula b g) = formula_one line r x f g
 
   formula_small : (line : Line) (r : Refusal) → FormulaRefused n line r → number r ≤ 5
-  formula_small (right-line q) r f = formula_number n q.text r (first-refused n q.text r f)
-  formula_small (make-line F) r f = formula_number n F r (first-refused n F r f)
+  formula_small (right_line q) r f = formula_number n q.text r (first-refused n q.text r f)
+  formula_small (make_line_case F) r f = formula_number n F r (first-refused n F r f)
   formula_small (ask_line F) r f = formula_number n F r (first-refused n F r f)
+  formula_small (size_line _) r f = elim f [ ]
+  formula_small (Rattle.sheet_reading.specs.Faults.team-line _) r f = elim f [ ]
+  formula_small (Rattle.sheet_reading.specs.Faults.known-line _) r f = elim f [ ]
+  formula_small (Rattle.sheet_reading.specs.Faults.held-line _) r f = elim f [ ]
 
   -- its number tells which
   pub fault-number : {line : Line} {r : Refusal} → Fault n L before line r → (number r ≤ 5) ⊎ ((number r ≡ 23) ⊎ (number r ≡ 25))

@@ -38,7 +38,7 @@ size_good line =
     good_form 1 (ended line) (is_size line) (unless (leb n 5) SheetSettings (next (Team, sized n m))) (λ h.
     let form = size-written line h in
     let good : Good 1 (ended line) (next (Team, sized n m)) = (
-      (record { settings-least = form.0.0; settings-most = form.0.1; posts-least = form.0.2; posts-most = form.0.3; rules = tt }, refl, refl),
+      (record { settings_least = form.0.0; settings_most = form.0.1; posts_least = form.0.2; posts_most = form.0.3; rules = tt }, refl, refl),
       append-nil (ended (size_text n m)) ∙ ap ended (sym form.1),
     ) in
     good_unless 1 (ended line) (leb n 5) SheetSettings (next (Team, sized n m)) (λ e. omega (arith, e)) (good_begins 1 (ended line) Team (sized n m) good) good)
@@ -68,10 +68,10 @@ rule_good L v right line b i h =
     let good : Good L s (next (Team, with_rule v r)) = (
       (
         record {
-          settings-least = b.0.settings-least;
-          settings-most = b.0.settings-most;
-          posts-least = b.0.posts-least;
-          posts-most = b.0.posts-most;
+          settings_least = b.0.settings_least;
+          settings_most = b.0.settings_most;
+          posts_least = b.0.posts_least;
+          posts_most = b.0.posts_most;
           rules = rules_fit_snoc v.size.settings v.size.posts v.rules r b.0.rules (form.0, form.1, in-drop (length (word right) + 4) line i);
         },
         b.1,
@@ -181,7 +181,7 @@ ask_good L v line b i =
           held = b.well_asked.held;
           make = b.well_asked.make;
           asks = asks_fit_snoc v.asked.asks F b.well_asked.asks (in-drop 4 line i);
-          asks-most = rw (length-append v.asked.asks (F ∷ [])) (omega arith);
+          asks_most = rw (length-append v.asked.asks (F ∷ [])) (omega arith);
         };
       },
       ap (◌++◌ before)

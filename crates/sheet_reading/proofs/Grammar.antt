@@ -1,4 +1,4 @@
--- A well_formed sheet is taken as what it is, or refused with a refusal that is not 22: what is left are 23, 24, 25 and a formula's refusal.
+-- A well-formed sheet is taken as what it is, or refused with a refusal that is not 22: what is left are 23, 24, 25 and a formula's refusal.
 use mathlib.Core.Path.{◌≡◌, refl, sym, ap, subst}
 use mathlib.Core.Logic.{◌⊎◌, inl, inr}
 use mathlib.Core.Bool.{Bool, true, false, cond}
@@ -18,7 +18,7 @@ use Rattle.sheet_reading.proofs.TwoParts.{sheet-meaning}
 use Rattle.sheet_reading.proofs.FaultLaws.{first_formed}
 use Rattle.sheet_reading.proofs.Judged.{Judged, lines-judged}
 
--- what a well_formed sheet may come to
+-- what a well-formed sheet may come to
 abbrev pub Fine : Sheet → Meaning → Type 0
 Fine w (refused r line) = number r ≡ 22 → ⊥
 Fine w (stated v) = v ≡ w

@@ -1,4 +1,4 @@
--- A well_formed sheet is taken as what it is, or refused for the first fault of its lines: each line passes the test of its form and reads back,
+-- A well-formed sheet is taken as what it is, or refused for the first fault of its lines: each line passes the test of its form and reads back,
 -- and the tests that are left find exactly the faults that Faults tells.
 use mathlib.Core.Path.{◌≡◌, refl, sym, ap, ◌∙◌, subst}
 use mathlib.Core.Logic.{inl, inr}
@@ -33,7 +33,7 @@ use Rattle.sheet_reading.proofs.OnePass.{held_step, make_step, held_or_make, ask
 use Rattle.sheet_question.specs.declared.desk.Due.TheVariants.{Team, Known, Held, Make, Asks}
 use Rattle.sheet_reading.specs.Grammar.{ended, size_text, word, rule_line, rule_lines, team_line, known_line, held_line, held_text, make_line, ask_lines}
 use Rattle.sheet_reading.specs.Grammar.{rules_text, asked_text, sheet_text, RulesFit, HeldFit, AsksFit, WellFormed}
-use Rattle.sheet_reading.specs.Faults.{Line, size-line, right-line, team-line, known-line, held-line, make-line, ask_line, held_in, lines_of}
+use Rattle.sheet_reading.specs.Faults.{Line, size_line, right_line, team_line_case, known_line_case, held_line_case, make_line_case, ask_line, held_in, lines_of}
 use Rattle.sheet_reading.specs.Faults.{NamesTwice, FormulaRefused, Fault, above, again, in-formula, LineFault}
 use Rattle.sheet_reading.proofs.Named.{repeats_out, repeats_in, stated_out, stated_in}
 use Rattle.sheet_reading.proofs.FaultLaws.{refused-first, accepted-none, FirstFault, Turn, first_turn, faulty, onward, all-clean}
@@ -41,7 +41,7 @@ use Rattle.sheet_reading.proofs.LineForms.{clear-append, size-read, size-clear, 
 use Rattle.sheet_reading.proofs.NameLines.{team-read, team-clear, known_read, known-clear, held-read, held-clear}
 use Rattle.sheet_reading.proofs.LineByLine.{line_clear, lines_split, first-split}
 
--- ---- what becomes of a well_formed sheet
+-- ---- what becomes of a well-formed sheet
 
 abbrev pub Judged : Sheet → Meaning → Type 0
 Judged w (refused r L) = FirstFault w L r
@@ -49,6 +49,7 @@ Judged w (stated v) = (v ≡ w) × ((K : ℕ) (x : Refusal) → LineFault w K x 
 
 not-not : (b : Bool) → T (not (not b)) → T b
 not-not true h = tt
+not-not false h = elim h [ ]
 
 not-most : (n : ℕ) → T (not (leb n 5)) → 5 < n
 not-most n h = elim (lt_or_ge 5 n) [ inl l ↦ l | inr l ↦ both (leb n 5) (le→leb n 5 l) h ]
@@ -107,7 +108,7 @@ module _ (w : Sheet) (h : WellFormed w) where
   unfolding ask_lines split lines ask_step begins with_ask
   asks-judged [] done L before i e t = (ap (asking w) (sym (append-nil done) ∙ e), all-clean t)
   asks-judged (F ∷ Fs) done L before i e t =
-      let fewer : length done < 4 = omega (arith, h.well_asked.asks-most, ap length e, length-append done (F ∷ Fs)) in
+      let fewer : length done < 4 = omega (arith, h.well_asked.asks_most, ap length e, length-append done (F ∷ Fs)) in
       let line : List ℕ = bytes "ask " ++ F in
       subst (Judged w) (sym (lines_split L Asks (asking w done) line (ask_lines Fs) (clear-append 10 (bytes "ask ") F (omega arith) (line_clear F i.0))))
       (rw (T→true (ltb (length done) 4) (lt→ltb (length done) 4 fewer))
@@ -116,7 +117,7 @@ module _ (w : Sheet) (h : WellFormed w) where
 
   -- the lines from `make` on
   abbrev making : List Line
-  making = make-line w.asked.make ∷ map ask_line w.asked.asks
+  making = make_line_case w.asked.make ∷ map ask_line w.asked.asks
 
   abbrev make_text : List ℕ
   make_text = ended (make_line w.asked.make) ++ ask_lines w.asked.asks
@@ -128,7 +129,7 @@ module _ (w : Sheet) (h : WellFormed w) where
   make-judged x e L before t =
       subst (λ (x : HeldLine). Judged w (after L (split newline (ask_lines w.asked.asks)) (make_step L (knowing w x) (make_line w.asked.make)))) e
       (judged_formula t (split newline (ask_lines w.asked.asks)) w.asked.make (next (Asks, asking w [])) (λ r f. f) (λ x. x) (λ none.
-      asks-judged w.asked.asks [] (suc L) (before ++ make-line w.asked.make ∷ []) h.well_asked.asks refl (onward t (λ x. x) (λ x. x) none)))
+      asks-judged w.asked.asks [] (suc L) (before ++ make_line_case w.asked.make ∷ []) h.well_asked.asks refl (onward t (λ x. x) (λ x. x) none)))
 
   make-clear : Clear 10 (make_line w.asked.make)
   unfolding make_line
@@ -141,12 +142,12 @@ module _ (w : Sheet) (h : WellFormed w) where
   held-judged left_out e fit L before t =
       subst (Judged w) (sym (lines_split L Held (knowing w left_out) (make_line w.asked.make) (ask_lines w.asked.asks) make-clear)) (make-judged left_out e L before t)
   held-judged (holding names) e fit L before t =
-      let form = held-read w.size.settings h.ruled.settings-most names fit in
+      let form = held-read w.size.settings h.ruled.settings_most names fit in
       subst (Judged w) (sym (lines_split L Held (knowing w left_out) (held_line names) make_text (held-clear names)))
       (rw (T→true (is_held w.size.settings (held_line names)) form.0, form.1)
       (judged-names t (split newline make_text) (twice (λ i. false) names) (next (Make, knowing w (holding names))) (repeats_out names) (repeats_in names) (λ once.
       subst (Judged w) (sym (lines_split (suc L) Make (knowing w (holding names)) (make_line w.asked.make) (ask_lines w.asked.asks) make-clear))
-      (make-judged (holding names) e (suc L) (before ++ held-line names ∷ []) (onward t (λ x. x) once (λ r x. x))))))
+      (make-judged (holding names) e (suc L) (before ++ held_line_case names ∷ []) (onward t (λ x. x) once (λ r x. x))))))
 
   -- the lines from `held` on
   abbrev later : List Line
@@ -155,36 +156,36 @@ module _ (w : Sheet) (h : WellFormed w) where
   abbrev later_text : List ℕ
   later_text = held_text w.asked.held ++ make_text
 
-  known-judged : (L : ℕ) (before : List Line) → Turn w L before (known-line w.asked.known ∷ later)
+  known-judged : (L : ℕ) (before : List Line) → Turn w L before (known_line_case w.asked.known ∷ later)
       → Judged w (lines L Known (teamed w) (split newline (ended (known_line w.asked.known) ++ later_text)))
   unfolding known_step with_known
   known-judged L before t =
       let names : List ℕ = known_settings w.asked.known in
-      let form = known_read w.size.settings h.ruled.settings-most w.asked.known h.well_asked.known in
+      let form = known_read w.size.settings h.ruled.settings_most w.asked.known h.well_asked.known in
       subst (Judged w) (sym (lines_split L Known (teamed w) (known_line w.asked.known) later_text (known-clear w.asked.known)))
       (rw (T→true (is_known w.size.settings (known_line w.asked.known)) form.0, form.1)
       (judged-names t (split newline later_text) (twice (λ i. false) names) (next (Held, knowing w left_out)) (repeats_out names) (repeats_in names) (λ once.
-      held-judged w.asked.held refl h.well_asked.held (suc L) (before ++ known-line w.asked.known ∷ []) (onward t (λ x. x) once (λ r x. x)))))
+      held-judged w.asked.held refl h.well_asked.held (suc L) (before ++ known_line_case w.asked.known ∷ []) (onward t (λ x. x) once (λ r x. x)))))
 
-  team-judged : (L : ℕ) (before : List Line) → Turn w L before (team-line w.asked.team ∷ known-line w.asked.known ∷ later)
+  team-judged : (L : ℕ) (before : List Line) → Turn w L before (team_line_case w.asked.team ∷ known_line_case w.asked.known ∷ later)
       → Judged w
       (lines L Team (ruled w w.rules) (split newline (ended (team_line w.asked.team) ++ (ended (known_line w.asked.known) ++ later_text))))
   unfolding rights_step is_rule begins team_line team_step with_team
   team-judged L before t =
       let rest : List ℕ = ended (known_line w.asked.known) ++ later_text in
       let names : List ℕ = w.asked.team in
-      let form = team-read w.size.posts h.ruled.posts-most w.asked.team h.well_asked.someone h.well_asked.team in
+      let form = team-read w.size.posts h.ruled.posts_most w.asked.team h.well_asked.someone h.well_asked.team in
       subst (Judged w) (sym (lines_split L Team (ruled w w.rules) (team_line w.asked.team) rest (team-clear w.asked.team)))
       (rw (T→true (is_team w.size.posts (team_line w.asked.team)) form.0, form.1)
       (judged-names t (split newline rest) (twice (λ i. false) names) (next (Known, teamed w)) (repeats_out names) (repeats_in names) (λ once.
-      known-judged (suc L) (before ++ team-line w.asked.team ∷ []) (onward t (λ x. x) once (λ r x. x)))))
+      known-judged (suc L) (before ++ team_line_case w.asked.team ∷ []) (onward t (λ x. x) once (λ r x. x)))))
 
   -- the lines before a right: the size and the rights that are stated
   abbrev stating : List Rule → List Line
-  stating done = size-line w.size ∷ map right-line done
+  stating done = size_line w.size ∷ map right_line done
 
   rules-judged : (rs done : List Rule) (L : ℕ) (rest : List ℕ) (behind : List Line) → RulesFit w.size.settings w.size.posts rs → done ++ rs ≡ w.rules →
-      Turn w L (stating done) (map right-line rs ++ behind) →
+      Turn w L (stating done) (map right_line rs ++ behind) →
       ((K : ℕ) → Turn w K (stating w.rules) behind → Judged w (lines K Team (ruled w w.rules) (split newline rest))) →
       Judged w (lines L Team (ruled w done) (split newline (rule_lines rs ++ rest)))
   unfolding rule_lines rule_step with_rule
@@ -204,7 +205,7 @@ module _ (w : Sheet) (h : WellFormed w) where
       (λ k. inr (stated_out r done k)) (λ k. elim k [ inl x ↦ absurd x | inr x ↦ stated_in r done x ]) (λ once.
       judged_formula t (split newline others) r.text (next (Team, with_rule v r)) (λ x k. k) once (λ none.
       rules-judged rs (done ++ r ∷ []) (suc L) rest behind i.1 (append_assoc done (r ∷ []) rs ∙ e)
-      (subst (λ (b : List Line). Turn w (suc L) (size-line w.size ∷ b) (map right-line rs ++ behind)) (sym (map-append right-line done (r ∷ [])))
+      (subst (λ (b : List Line). Turn w (suc L) (size_line w.size ∷ b) (map right_line rs ++ behind)) (sym (map-append right_line done (r ∷ [])))
       (onward t (λ x. x) once none))
       f)))
 
@@ -213,10 +214,10 @@ module _ (w : Sheet) (h : WellFormed w) where
   unfolding size_step sized sheet_text rules_text asked_text lines_of
   lines-judged =
       let line : List ℕ = size_text w.size.settings w.size.posts in
-      let form = size-read w.size.settings w.size.posts (h.ruled.settings-least, h.ruled.settings-most, h.ruled.posts-least, h.ruled.posts-most) in
+      let form = size-read w.size.settings w.size.posts (h.ruled.settings_least, h.ruled.settings_most, h.ruled.posts_least, h.ruled.posts_most) in
       let rest : List ℕ = asked_text w.asked in
       let whole : List ℕ = rule_lines w.rules ++ rest in
-      let behind : List Line = team-line w.asked.team ∷ known-line w.asked.known ∷ later in
+      let behind : List Line = team_line_case w.asked.team ∷ known_line_case w.asked.known ∷ later in
       subst (Judged w)
       (sym (ap (λ (s : List ℕ). first_line (split newline s)) (append_assoc (ended line) (rule_lines w.rules) rest) ∙ first-split line whole (size-clear w.size.settings w.size.posts)))
       (rw (T→true (is_size line) form.0, form.1, form.2)

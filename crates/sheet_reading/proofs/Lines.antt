@@ -13,7 +13,7 @@ use Rattle.sheet_question.specs.Asked.{HeldLine, left_out, holding}
 use Rattle.sheet_reading.specs.Sheet.{Sheet}
 use Rattle.sheet_reading.specs.Grammar.{ended, rule_line, rule_lines, team_line, known_line, held_line, held_text, make_line, ask_lines, rules_text, asked_text, sheet_text}
 use Rattle.sheet_reading.specs.Place.{all_ended, first_lines}
-use Rattle.sheet_reading.specs.Faults.{Line, size-line, right-line, team-line, known-line, make-line, ask_line, line_text, held_in, lines_of}
+use Rattle.sheet_reading.specs.Faults.{Line, size_line, right_line, team_line_case, known_line_case, make_line_case, ask_line, line_text, held_in, lines_of}
 use Rattle.sheet_reading.proofs.LineByLine.{split-ended}
 
 pub ended-append : (p q : List (List ℕ)) → all_ended (p ++ q) ≡ all_ended p ++ all_ended q
@@ -59,7 +59,7 @@ same_lines s rest L h =
 
 -- ---- a sheet's text is its lines, each with its byte 10
 
-rules-text : (rules : List Rule) → rule_lines rules ≡ all_ended (map line_text (map right-line rules))
+rules-text : (rules : List Rule) → rule_lines rules ≡ all_ended (map line_text (map right_line rules))
 unfolding rule_lines all_ended line_text
 rules-text [] = refl
 rules-text (r ∷ rules) = ap (◌++◌ (ended (rule_line r))) (rules-text rules)
@@ -82,12 +82,12 @@ pub sheet-lines : (w : Sheet) → sheet_text w ≡ all_ended (map line_text (lin
 unfolding sheet_text rules_text asked_text lines_of line_text all_ended
 sheet-lines w =
     let a = w.asked in
-    let making : List Line = make-line a.make ∷ map ask_line a.asks in
-    let asking : List Line = team-line a.team ∷ known-line a.known ∷ held_in a.held ++ making in
-    let head : List ℕ = ended (line_text (size-line w.size)) in
+    let making : List Line = make_line_case a.make ∷ map ask_line a.asks in
+    let asking : List Line = team_line_case a.team ∷ known_line_case a.known ∷ held_in a.held ++ making in
+    let head : List ℕ = ended (line_text (size_line w.size)) in
     let make : ended (make_line a.make) ++ ask_lines a.asks ≡ all_ended (map line_text making) = ap (◌++◌ (ended (make_line a.make))) (asks-text a.asks) in
     append_assoc head (rule_lines w.rules) (asked_text a)
     ∙ ap (◌++◌ head)
     (ap₂ ◌++◌ (rules-text w.rules)
     (ap (λ (t : List ℕ). ended (team_line a.team) ++ (ended (known_line a.known) ++ t)) (ap₂ ◌++◌ (held-text a.held) make ∙ sym (lines-append (held_in a.held) making)))
-    ∙ sym (lines-append (map right-line w.rules) asking))
+    ∙ sym (lines-append (map right_line w.rules) asking))

@@ -1,4 +1,4 @@
--- The place of 22 is the grammar's: the lines before the refused one begin a well_formed sheet and the lines up to it begin none, since a sheet
+-- The place of 22 is the grammar's: the lines before the refused one begin a well-formed sheet and the lines up to it begin none, since a sheet
 -- that began with them would be refused with 22 itself.
 use mathlib.Core.Path.{◌≡◌, refl, sym, ap, ◌∙◌, subst}
 use mathlib.Core.Logic.{◌⊎◌, inl, inr}
@@ -19,7 +19,7 @@ use Rattle.sheet_words.proofs.Split.{joined, some_piece}
 use Rattle.sheet_reading.specs.Reading.{Meaning, refused, stated, sheet_meaning}
 use Rattle.sheet_reading.proofs.OnePass.{first_line}
 use Rattle.sheet_reading.specs.Grammar.{sheet_text}
-use Rattle.sheet_reading.specs.Place.{BeginsSheet, IsSheet, all_ended, first_lines, Breaks, MalformedAt, at-line, at_end}
+use Rattle.sheet_reading.specs.Place.{BeginsSheet, IsSheet, all_ended, first_lines, Breaks, MalformedAt, at_line, at_end}
 use Rattle.sheet_reading.proofs.TwoParts.{sheet-meaning}
 use Rattle.sheet_reading.proofs.Lines.{ended-append, first-lines}
 use Rattle.sheet_reading.proofs.SoFar.{begins_less}
@@ -62,7 +62,7 @@ refusal s r L e = elim (lt_or_ge 32768 (length s)) [
 
 -- ---- the place of 22
 
--- no well_formed sheet begins with the lines up to the one that is 22
+-- no well-formed sheet begins with the lines up to the one that is 22
 begins-none : (s : List ℕ) (L : ℕ) → RefusedAt s (Malformed L) L → L < length (split newline s) → BeginsSheet (first_lines L s) → ⊥
 unfolding first_lines
 begins-none s L a l b =
@@ -81,7 +81,7 @@ malformed-line s L e = elim (refusal s (Malformed L) L e) [ inl h ↦ absurd (om
     by_place a =
         let before : (K : ℕ) → K < L → Breaks s K → ⊥ = λ K l k. k.1 (fewer_lines s K a.taken (omega (arith, a.place)) a.begun) in
         elim (lt_or_ge L (length (split newline s))) [
-          | inl l ↦ at-line (record { here = (l, begins-none s L a l); none_below = before })
+          | inl l ↦ at_line (record { here = (l, begins-none s L a l); none_below = before })
           | inr l ↦ (let end : length (split newline s) ≡ L = omega (arith, a.place, a.inside) in
               subst (MalformedAt s) end (at_end (λ K k. before K (omega (arith, k.0)) k) (λ w. twenty_two-never w.sheet w.well_formed (Malformed L) L refl (ap sheet_meaning w.written ∙ e))))
         ]
@@ -89,15 +89,15 @@ malformed-line s L e = elim (refusal s (Malformed L) L e) [ inl h ↦ absurd (om
 -- ---- and every sheet with such a place is refused there, or at an earlier line
 
 malformed_unique : {s : List ℕ} {K L : ℕ} → MalformedAt s K → MalformedAt s L → K ≡ L
-malformed_unique (at-line a) (at-line b) = least_unique a b
-malformed_unique (at-line {L = K} a) (at_end f g) = absurd (f K a.here)
-malformed_unique (at_end f g) (at-line {L = L} b) = absurd (f L b.here)
+malformed_unique (at_line a) (at_line b) = least_unique a b
+malformed_unique (at_line {L = K} a) (at_end f g) = absurd (f K a.here)
+malformed_unique (at_end f g) (at_line {L = L} b) = absurd (f L b.here)
 malformed_unique (at_end f g) (at_end h k) = refl
 
--- a well_formed sheet has none
+-- a well-formed sheet has none
 sheet-sound : {s : List ℕ} {L : ℕ} → MalformedAt s L → IsSheet s → ⊥
 unfolding first_lines
-sheet-sound {s} (at-line {L = L} a) w =
+sheet-sound {s} (at_line {L = L} a) w =
     a.here.1 (record {
       sheet = w.sheet;
       well_formed = w.well_formed;
@@ -108,7 +108,7 @@ sheet-sound (at_end f g) w = g w
 
 -- a place where the form is right comes before it
 formed_before : {s : List ℕ} {L : ℕ} → MalformedAt s L → (K : ℕ) → K < length (split newline s) → BeginsSheet (first_lines K s) → K < L
-formed_before {s} (at-line {L = L} a) K l b = elim (lt_or_ge K L) [ inl h ↦ h | inr h ↦ absurd (a.here.1 (fewer_lines s L K h b)) ]
+formed_before {s} (at_line {L = L} a) K l b = elim (lt_or_ge K L) [ inl h ↦ h | inr h ↦ absurd (a.here.1 (fewer_lines s L K h b)) ]
 formed_before (at_end f g) K l b = l
 
 -- a refusal with the number 22 names its own line

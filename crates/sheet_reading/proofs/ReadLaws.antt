@@ -89,10 +89,10 @@ module _ (s : List ℕ) (h : length s ≤ 32768) where
     question = question_meaning lines false (within 7 d.settings) (within 8 d.posts) (take (length s - at) (drop at s))
 
     nearest_settings : within 7 d.settings ≡ e.rules.size.settings
-    nearest_settings = within_same 7 d.settings e.holds.settings-most e.holds.settings-least ∙ e.holds.settings
+    nearest_settings = within_same 7 d.settings e.holds.settings_most e.holds.settings_least ∙ e.holds.settings
 
     nearest_posts : within 8 d.posts ≡ e.rules.size.posts
-    nearest_posts = within_same 8 d.posts e.holds.posts-most e.holds.posts-least ∙ e.holds.posts
+    nearest_posts = within_same 8 d.posts e.holds.posts_most e.holds.posts_least ∙ e.holds.posts
 
     by_question : sheet_meaning s ≡ with_question e.rules question
     by_question =

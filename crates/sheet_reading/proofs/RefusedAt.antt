@@ -1,4 +1,4 @@
--- Where a sheet is refused: the lines before that line begin a well_formed sheet, and the lines up to it are refused so whatever follows them. By
+-- Where a sheet is refused: the lines before that line begin a well-formed sheet, and the lines up to it are refused so whatever follows them. By
 -- recursion over the lines.
 use mathlib.Core.Path.{◌≡◌, refl, sym, ap, ◌∙◌, subst}
 use mathlib.Core.Logic.{◌⊎◌, inl, inr, ⊎_elim}
@@ -109,7 +109,7 @@ pub empty_begins : BeginsSheet []
 unfolding sized
 empty_begins =
     begins_less [] (so_far Team (sized 1 1))
-    (so_far_begins Team (sized 1 1) ((record { settings-least = omega arith; settings-most = omega arith; posts-least = omega arith; posts-most = omega arith; rules = tt }, refl, refl)))
+    (so_far_begins Team (sized 1 1) ((record { settings_least = omega arith; settings_most = omega arith; posts_least = omega arith; posts_most = omega arith; rules = tt }, refl, refl)))
 
 first_placed : (line : List ℕ) (more : List (List ℕ)) → AllClear newline (line ∷ more) → Placed [] (line ∷ more) (λ s. first_line (split newline s)) 1 (first_line (line ∷ more))
 unfolding first_line

@@ -1,4 +1,4 @@
--- A sheet is refused exactly as the grammar tells: a well_formed sheet that begins with its lines up to the refused one is refused there too, with the
+-- A sheet is refused exactly as the grammar tells: a well-formed sheet that begins with its lines up to the refused one is refused there too, with the
 -- same refusal; and a sheet that begins as such a one does has the same lines up to there.
 use mathlib.Core.Path.{◌≡◌, refl, sym, ap, ◌∙◌, subst}
 use mathlib.Core.Logic.{inl, inr, ◌↔◌}
@@ -16,7 +16,7 @@ use Rattle.sheet_reading.specs.Reading.{Meaning, refused, stated, sheet_meaning}
 use Rattle.sheet_reading.proofs.OnePass.{first_line}
 use Rattle.sheet_reading.specs.Grammar.{sheet_text, WellFormed}
 use Rattle.sheet_reading.specs.Place.{BeginsSheet, all_ended, first_lines}
-use Rattle.sheet_reading.specs.Faults.{LineFault, FaultAt, RefusedSheet, too_long, malformed, at-fault}
+use Rattle.sheet_reading.specs.Faults.{LineFault, FaultAt, RefusedSheet, too_long, malformed, at_fault}
 use Rattle.sheet_reading.proofs.FaultLaws.{FirstFault, first_formed, first_one}
 use Rattle.sheet_reading.proofs.Judged.{Judged, lines-judged}
 use Rattle.sheet_reading.proofs.Lines.{first-lines, same_lines}
@@ -24,7 +24,7 @@ use Rattle.sheet_reading.proofs.Taken.{stated-written}
 use Rattle.sheet_reading.proofs.RefusedAt.{Placed, sheet_placed}
 use Rattle.sheet_reading.proofs.Place.{RefusedAt, refusal, meaning-long, meaning-lines, malformed-line, malformed-refused}
 
--- ---- a well_formed sheet, but for its length
+-- ---- a well-formed sheet, but for its length
 
 module _ (w : Sheet) (h : WellFormed w) where
   -- its first fault is its refusal
@@ -65,8 +65,8 @@ fault-refused s L r fits f = meaning-lines s fits ∙ at_place placed
         let rest : List ℕ = joined newline (drop L (split newline s)) in
         let same : take (suc a.taken) (split newline (sheet_text w)) ≡ take L (split newline s) =
         ap (λ (k : ℕ). take k (split newline (sheet_text w))) up_to ∙ ap (λ (t : List ℕ). take L (split newline t)) f.begun.written
-        ∙ same_lines s f.begun.rest L (omega (arith, f.line-ends)) in
-        ap (λ (t : List ℕ). first_line (split newline t)) (first-lines s L f.line-ends ∙ ap (λ (p : List (List ℕ)). all_ended p ++ rest) (sym same))
+        ∙ same_lines s f.begun.rest L (omega (arith, f.line_ends)) in
+        ap (λ (t : List ℕ). first_line (split newline t)) (first-lines s L f.line_ends ∙ ap (λ (p : List (List ℕ)). all_ended p ++ rest) (sym same))
         ∙ a.same (elim a.formed [ inl is ↦ absurd (first_formed first (ap number is)) | inr form ↦ form.1 ]) rest
 
 -- ---- and a refusal is 24, 22, or a line's fault
@@ -82,7 +82,7 @@ refused_by s r L e = elim (refusal s r L e) [
     | inl is ↦ subst (λ (x : Refusal). RefusedSheet s x L) (sym is)
         (malformed fits (malformed-line s L (e ∙ ap (λ (x : Refusal). refused x L) is))
         (λ K x l f. let same = one-refusal s (fault-refused s K x fits f) e in omega (arith, l, same.1)))
-    | inr (other, ends, begun) ↦ at-fault fits (fault-at fits a ends begun)
+    | inr (other, ends, begun) ↦ at_fault fits (fault-at fits a ends begun)
   ]
 ]
   where
@@ -94,7 +94,7 @@ refused_by s r L e = elim (refusal s r L e) [
         ap (λ (t : List ℕ). first_line (split newline t)) b.written ∙ a.same ends b.rest in
         let first : FirstFault b.sheet L r = subst (Judged b.sheet) again (lines-judged b.sheet b.well_formed) in
         record {
-          line-ends = omega (arith, ends, up_to);
+          line_ends = omega (arith, ends, up_to);
           begun = record {
             sheet = b.sheet;
             well_formed = b.well_formed;
@@ -107,7 +107,7 @@ refused_by s r L e = elim (refusal s r L e) [
 
 by_refused : (s : List ℕ) (r : Refusal) (L : ℕ) → RefusedSheet s r L → sheet_meaning s ≡ refused r L
 by_refused s r L (too_long over) = meaning-long s over
-by_refused s r L (at-fault fits f) = fault-refused s L r fits f
+by_refused s r L (at_fault fits f) = fault-refused s L r fits f
 by_refused s r L (malformed fits m none) = elim (malformed-refused s L m) [
   | inl e ↦ e
   | inr (x, p, e, other, l) ↦ absurd (earlier x p other l (refused_by s x p e))
@@ -116,7 +116,7 @@ by_refused s r L (malformed fits m none) = elim (malformed-refused s L m) [
     earlier : (x : Refusal) (p : ℕ) → (number x ≡ 22 → ⊥) → p < L → RefusedSheet s x p → ⊥
     earlier x p other l (too_long over) = omega (arith, over, fits)
     earlier x p other l (malformed a b c) = other refl
-    earlier x p other l (at-fault a f) = none p x l f
+    earlier x p other l (at_fault a f) = none p x l f
 
 -- A SHEET IS REFUSED EXACTLY AS THE GRAMMAR TELLS
 pub refused_exactly : (s : List ℕ) (r : Refusal) (L : ℕ) → (sheet_meaning s ≡ refused r L) ↔ RefusedSheet s r L

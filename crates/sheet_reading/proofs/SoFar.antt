@@ -1,4 +1,4 @@
--- The text of the lines so far, by what is due, and what they say: from each such place a well_formed sheet goes on, with a team of one, `known`
+-- The text of the lines so far, by what is due, and what they say: from each such place a well-formed sheet goes on, with a team of one, `known`
 -- alone, no line `held` and `make 0`.
 use mathlib.Core.Path.{◌≡◌, refl, sym, ap, ◌∙◌, subst}
 use mathlib.Core.Logic.{◌⊎◌, inl, inr}
@@ -49,7 +49,7 @@ so_far Asks v = (to_held v ++ ended (make_line v.asked.make)) ++ ask_lines v.ask
 
 -- ---- and what they say
 
--- well_formed rules, and nothing held or to learn yet
+-- well-formed rules, and nothing held or to learn yet
 abbrev pub Begun : Sheet → Type 0
 Begun v = WellRuled v.size v.rules × (v.asked.asks ≡ []) × (v.asked.held ≡ left_out)
 
@@ -93,7 +93,7 @@ made v F so i = record {
     held = so.held;
     make = i;
     asks = subst AsksFit (sym so.no_asks) tt;
-    asks-most = rw so.no_asks (omega arith);
+    asks_most = rw so.no_asks (omega arith);
   };
 }
 
@@ -101,7 +101,7 @@ pub whole : (v : Sheet) → sheet_text v ≡ so_far Asks v
 unfolding sheet_text asked_text to_held to_known to_team to_rights
 whole v = sym (simp append_assoc)
 
--- ---- a well_formed sheet goes on
+-- ---- a well-formed sheet goes on
 
 pub begins_less : (p q : List ℕ) → BeginsSheet (p ++ q) → BeginsSheet p
 begins_less p q b = record { sheet = b.sheet; well_formed = b.well_formed; rest = q ++ b.rest; written = b.written ∙ append_assoc p q b.rest }
@@ -129,7 +129,7 @@ rights_begin : (v : Sheet) → WellSoFar Team v → BeginsSheet (to_rights v)
 unfolding to_team to_rights
 rights_begin v h =
     begins_less (to_rights v) (ended (team_line (0 ∷ [])))
-    (known-begins (asked_as v (team_as v.asked (0 ∷ []))) (h, omega arith, (h.0.posts-least, tt)))
+    (known-begins (asked_as v (team_as v.asked (0 ∷ []))) (h, omega arith, (h.0.posts_least, tt)))
 
 pub so_far_begins : (due : Due) (v : Sheet) → WellSoFar due v → BeginsSheet (so_far due v)
 so_far_begins Team v h = rights_begin v h

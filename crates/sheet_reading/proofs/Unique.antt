@@ -23,3 +23,7 @@ desk_one sheet a b h k =
 pub read_one : (o : Meaning) (x y : SheetTold) (a b : Desk) → ReadsSheet o x a → ReadsSheet o y b → (x ≡ y) × (a ≡ b)
 read_one (refused r line) (Refused why at) (Refused else to) a b (e, f, h) (i, j, k) = (ap₂ Refused (e ∙ sym i) (f ∙ sym j), desk_one (sized 1 1) a b h k)
 read_one (stated v) Stated Stated a b h k = (refl, desk_one v a b h k)
+read_one (refused r line) Stated y a b h k = elim h [ ]
+read_one (refused r line) (Refused why at) Stated a b h k = elim k [ ]
+read_one (stated v) Stated (Refused else to) a b h k = elim k [ ]
+read_one (stated v) (Refused why at) y a b h k = elim h [ ]

@@ -1,5 +1,5 @@
 -- When a sheet is refused and where, told by the grammar alone: "First 24; then line by line 22, 23, the formula's number; 25 directly after line 1."
--- Place has 22. The other numbers of a line are told of a well_formed sheet that begins with the lines up to it.
+-- Place has 22. The other numbers of a line are told of a well-formed sheet that begins with the lines up to it.
 use Rattle.std.specs.Prelude.{◌≡◌, ◌⊎◌, List, [], ◌∷◌, ◌++◌, map, ℕ, suc, ◌≤◌, ◌<◌, length}
 use Rattle.ground.specs.Text.{bytes}
 use Rattle.refusal.specs.declared.Refusal.{Refusal}
@@ -17,47 +17,47 @@ use Rattle.sheet_reading.specs.Place.{BeginsSheet, first_lines, MalformedAt}
 
 -- a line, by what it says
 pub data Line : Type 0 where
-  size-line : Size → Line
-  right-line : Rule → Line
-  team-line : List ℕ → Line
-  known-line : List Known → Line
-  held-line : List ℕ → Line
-  make-line : List ℕ → Line
+  size_line : Size → Line
+  right_line : Rule → Line
+  team_line_case : List ℕ → Line
+  known_line_case : List Known → Line
+  held_line_case : List ℕ → Line
+  make_line_case : List ℕ → Line
   ask_line : List ℕ → Line
 
 -- how it is written
 unfoldable pub line_text : Line → List ℕ
-line_text (size-line size) = size_text size.settings size.posts
-line_text (right-line r) = rule_line r
-line_text (team-line posts) = team_line posts
-line_text (known-line ks) = known_line ks
-line_text (held-line settings) = held_line settings
-line_text (make-line F) = make_line F
+line_text (size_line size) = size_text size.settings size.posts
+line_text (right_line r) = rule_line r
+line_text (team_line_case posts) = team_line posts
+line_text (known_line_case ks) = known_line ks
+line_text (held_line_case settings) = held_line settings
+line_text (make_line_case F) = make_line F
 line_text (ask_line F) = bytes "ask " ++ F
 
 -- the line `held`, where it is there
 unfoldable pub held_in : HeldLine → List Line
 held_in left_out = []
-held_in (holding settings) = held-line settings ∷ []
+held_in (holding settings) = held_line_case settings ∷ []
 
 -- the lines of a sheet, in order; `sheet_text` is these, each with its byte 10 (proofs/Lines `sheet-lines`)
 unfoldable pub lines_of : Sheet → List Line
 lines_of w =
-    size-line w.size
-    ∷ map right-line w.rules
-    ++ (team-line w.asked.team ∷ known-line w.asked.known ∷ held_in w.asked.held
-    ++ make-line w.asked.make ∷ map ask_line w.asked.asks)
+    size_line w.size
+    ∷ map right_line w.rules
+    ++ (team_line_case w.asked.team ∷ known_line_case w.asked.known ∷ held_in w.asked.held
+    ++ make_line_case w.asked.make ∷ map ask_line w.asked.asks)
 
--- ---- what may be wrong with a well_formed line, after the lines `before`
+-- ---- what may be wrong with a well-formed line, after the lines `before`
 
 -- the line states the right that r states
 abbrev pub LineStates : Rule → Line → Type 0
-LineStates r (size-line size) = ⊥
-LineStates r (right-line q) = (q.right ≡ r.right) × (q.setting ≡ r.setting) × (q.post ≡ r.post)
-LineStates r (team-line posts) = ⊥
-LineStates r (known-line ks) = ⊥
-LineStates r (held-line settings) = ⊥
-LineStates r (make-line F) = ⊥
+LineStates r (size_line size) = ⊥
+LineStates r (right_line q) = (q.right ≡ r.right) × (q.setting ≡ r.setting) × (q.post ≡ r.post)
+LineStates r (team_line_case posts) = ⊥
+LineStates r (known_line_case ks) = ⊥
+LineStates r (held_line_case settings) = ⊥
+LineStates r (make_line_case F) = ⊥
 LineStates r (ask_line F) = ⊥
 
 -- one of the lines does
@@ -76,32 +76,32 @@ Repeats (x ∷ xs) = OneOf x xs ⊎ Repeats xs
 
 -- "23 right, post or setting named twice"
 abbrev pub NamesTwice : List Line → Line → Type 0
-NamesTwice before (size-line size) = ⊥
-NamesTwice before (right-line r) = StatedIn r before
-NamesTwice before (team-line posts) = Repeats posts
-NamesTwice before (known-line ks) = Repeats (known_settings ks)
-NamesTwice before (held-line settings) = Repeats settings
-NamesTwice before (make-line F) = ⊥
+NamesTwice before (size_line size) = ⊥
+NamesTwice before (right_line r) = StatedIn r before
+NamesTwice before (team_line_case posts) = Repeats posts
+NamesTwice before (known_line_case ks) = Repeats (known_settings ks)
+NamesTwice before (held_line_case settings) = Repeats settings
+NamesTwice before (make_line_case F) = ⊥
 NamesTwice before (ask_line F) = ⊥
 
 -- "the formula's number": what the reader of formulas refuses the line's formula with, over n settings
 abbrev pub FormulaRefused : ℕ → Line → Refusal → Type 0
-FormulaRefused n (size-line size) r = ⊥
-FormulaRefused n (right-line q) r = First (formula_rows n q.text) r
-FormulaRefused n (team-line posts) r = ⊥
-FormulaRefused n (known-line ks) r = ⊥
-FormulaRefused n (held-line settings) r = ⊥
-FormulaRefused n (make-line F) r = First (formula_rows n F) r
+FormulaRefused n (size_line size) r = ⊥
+FormulaRefused n (right_line q) r = First (formula_rows n q.text) r
+FormulaRefused n (team_line_case posts) r = ⊥
+FormulaRefused n (known_line_case ks) r = ⊥
+FormulaRefused n (held_line_case settings) r = ⊥
+FormulaRefused n (make_line_case F) r = First (formula_rows n F) r
 FormulaRefused n (ask_line F) r = First (formula_rows n F) r
 
 -- "25 n above 5"
 abbrev pub SizeAbove : Line → Type 0
-SizeAbove (size-line size) = 5 < size.settings
-SizeAbove (right-line r) = ⊥
-SizeAbove (team-line posts) = ⊥
-SizeAbove (known-line ks) = ⊥
-SizeAbove (held-line settings) = ⊥
-SizeAbove (make-line F) = ⊥
+SizeAbove (size_line size) = 5 < size.settings
+SizeAbove (right_line r) = ⊥
+SizeAbove (team_line_case posts) = ⊥
+SizeAbove (known_line_case ks) = ⊥
+SizeAbove (held_line_case settings) = ⊥
+SizeAbove (make_line_case F) = ⊥
 SizeAbove (ask_line F) = ⊥
 
 -- line number L is refused with r: "23, the formula's number", in this order; and 25
@@ -125,10 +125,10 @@ LineFault w L r = AtLine w L (λ before line. Fault w.size.settings L before lin
 
 -- ---- the sheet s is refused
 
--- line L of s is reached, and P holds there: the line ends in byte 10, the lines up to it begin a well_formed sheet, and no line before it is refused.
+-- line L of s is reached, and P holds there: the line ends in byte 10, the lines up to it begin a well-formed sheet, and no line before it is refused.
 -- P is told the settings of the sheet's size, what the lines before say, and what the line says.
 pub record Reaches (s : List ℕ) (L : ℕ) (P : ℕ → List Line → Line → Type 0) : Type 0 where
-  pub line-ends : L < length (split newline s)
+  pub line_ends : L < length (split newline s)
   pub begun : BeginsSheet (first_lines L s)
   pub none_before : (K : ℕ) (x : Refusal) → K < L → LineFault begun.sheet K x → ⊥
   pub here : AtLine begun.sheet L (P begun.sheet.size.settings)
@@ -141,4 +141,4 @@ FaultAt s L r = Reaches s L (λ n before line. Fault n L before line r)
 pub data RefusedSheet (s : List ℕ) : Refusal → ℕ → Type 0 where
   too_long : 32768 < length s → RefusedSheet s SheetLength 0
   malformed : {L : ℕ} → length s ≤ 32768 → MalformedAt s L → ((K : ℕ) (r : Refusal) → K < L → FaultAt s K r → ⊥) → RefusedSheet s (Malformed L) L
-  at-fault : {L : ℕ} {r : Refusal} → length s ≤ 32768 → FaultAt s L r → RefusedSheet s r L
+  at_fault : {L : ℕ} {r : Refusal} → length s ≤ 32768 → FaultAt s L r → RefusedSheet s r L

@@ -1,4 +1,4 @@
--- The grammar of well_formed sheets: how each line is written, and what it may say. A sheet that is written so is never 22, whatever else is
+-- The grammar of well-formed sheets: how each line is written, and what it may say. A sheet that is written so is never 22, whatever else is
 -- wrong with it (proofs/Grammar).
 use Rattle.std.specs.Prelude.{◌≡◌, cond, List, [], ◌∷◌, ◌++◌, ℕ, ◌+◌, ◌≤◌, ◌<◌, length}
 use Rattle.ground.specs.Text.{byte, bytes}
@@ -104,12 +104,12 @@ abbrev pub AsksFit : List (List ℕ) → Type 0
 AsksFit [] = Unit
 AsksFit (F ∷ Fs) = InLine F × AsksFit Fs
 
--- what well_formed rules may say: "N outside 1 to 7, M outside 1 to 8 [..] are 22"
+-- what well-formed rules may say: "N outside 1 to 7, M outside 1 to 8 [..] are 22"
 pub record WellRuled (size : Size) (rs : List Rule) : Type 0 where
-  pub settings-least : 1 ≤ size.settings
-  pub settings-most : size.settings ≤ 7
-  pub posts-least : 1 ≤ size.posts
-  pub posts-most : size.posts ≤ 8
+  pub settings_least : 1 ≤ size.settings
+  pub settings_most : size.settings ≤ 7
+  pub posts_least : 1 ≤ size.posts
+  pub posts_most : size.posts ≤ 8
   pub rules : RulesFit size.settings size.posts rs
 
 -- and what may be asked of them: "(one or more)", "up to four"
@@ -120,9 +120,9 @@ pub record WellAsked (size : Size) (a : Asked) : Type 0 where
   pub held : HeldFit size.settings a.held
   pub make : InLine a.make
   pub asks : AsksFit a.asks
-  pub asks-most : length a.asks ≤ 4
+  pub asks_most : length a.asks ≤ 4
 
--- a well_formed sheet
+-- a well-formed sheet
 pub record WellFormed (sheet : Sheet) : Type 0 where
   pub ruled : WellRuled sheet.size sheet.rules
   pub well_asked : WellAsked sheet.size sheet.asked

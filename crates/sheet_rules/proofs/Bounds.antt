@@ -31,11 +31,11 @@ use Rattle.sheet_rules.proofs.ReadLaws.{rules-line, rules_end, too_long, from_fi
 
 -- a size that may be taken
 pub record Fits (most : ℕ) (size : Size) : Type 0 where
-  pub settings-least : 1 ≤ size.settings
-  pub settings-most : size.settings ≤ 7
+  pub settings_least : 1 ≤ size.settings
+  pub settings_most : size.settings ≤ 7
   pub settings-taken : size.settings ≤ most
-  pub posts-least : 1 ≤ size.posts
-  pub posts-most : size.posts ≤ 8
+  pub posts_least : 1 ≤ size.posts
+  pub posts_most : size.posts ≤ 8
 
 -- a reading from line L on of some pieces, where sizes up to `most` are taken
 abbrev pub Goes : ℕ → ℕ → List (List ℕ) → Reading → Type 0
@@ -71,7 +71,7 @@ size-digits line e = let z = size_bounds line e in (omega (arith, z.0), omega (a
 
 module _ (most n m : ℕ) (h : 1 ≤ n) (k : n ≤ 7) (l : 1 ≤ m) (o : m ≤ 8) where
   by_most : (b : Bool) → leb n most ≡ b → Step_goes most (unless b SheetSettings (next (sized n m)))
-  by_most true e = record { settings-least = h; settings-most = k; settings-taken = leb→le n most (true→T e); posts-least = l; posts-most = o }
+  by_most true e = record { settings_least = h; settings_most = k; settings-taken = leb→le n most (true→T e); posts_least = l; posts_most = o }
   by_most false e = λ few f. (let z : true ≡ false = sym (le-leb n most (omega arith)) ∙ e in let y : ◌≡◌ {A = ℕ} 0 1 = cc in omega arith)
 
 size_goes : (most L : ℕ) (line : List ℕ) → Step_goes most (size_step most L line)

@@ -97,7 +97,7 @@ module _ (rules : List Rule) (d : RulesDesk) (size : Size) (h : RulesOnDesk size
 
   small : own < 112
   unfolding own
-  small = slot_small r.right r.setting r.post (omega (arith, setting, h.settings-most)) (omega (arith, post, h.posts-most))
+  small = slot_small r.right r.setting r.post (omega (arith, setting, h.settings_most)) (omega (arith, post, h.posts_most))
 
   room : 16 * own + length t ≤ length d.rights
   room = omega (arith, small, h.rights_size, sixteen)
@@ -110,7 +110,7 @@ module _ (rules : List Rule) (d : RulesDesk) (size : Size) (h : RulesOnDesk size
 
   apart : (right : Right) (i q : ℕ) → q < 8 → T (not (concerns r right i q)) → own ≡ slot_of right i q → ⊥
   unfolding own
-  apart right i q y c e = both (concerns r right i q) (slot_concerns r right i q (omega (arith, post, h.posts-most)) y e) c
+  apart right i q y c e = both (concerns r right i q) (slot_concerns r right i q (omega (arith, post, h.posts_most)) y e) c
 
   other-table : (right : Right) (i q : ℕ) → i < 7 → q < 8 → T (not (concerns r right i q))
       → table_in (sets d.rights (16 * own) t) (slot_of right i q) ≡ table_in d.rights (slot_of right i q)
@@ -125,7 +125,7 @@ module _ (rules : List Rule) (d : RulesDesk) (size : Size) (h : RulesOnDesk size
   unfolding own
   marks-after right i q x y = elim (decide (concerns r right i q)) [
     | inl c ↦ ap (λ (k : ℕ). get_or (set d.stated own 1) k 0) (slot_same r right i q c)
-        ∙ get_or-set_same d.stated own 1 0 (subst (λ (k : ℕ). own < k) (sym h.stated-size) small)
+        ∙ get_or-set_same d.stated own 1 0 (subst (λ (k : ℕ). own < k) (sym h.stated_size) small)
         ∙ ap mark_of (sym (stated-after right i q true (T→true (concerns r right i q) c) ∙ or_true (is_stated rules right i q)))
     | inr c ↦ get_or-set_other d.stated own (slot_of right i q) 1 0 (λ e. apart right i q y c (sym e))
         ∙ h.marks right i q x y
@@ -157,12 +157,12 @@ module _ (rules : List Rule) (d : RulesDesk) (size : Size) (h : RulesOnDesk size
   rules-after = record {
     settings = h.settings;
     posts = h.posts;
-    settings-least = h.settings-least;
-    settings-most = h.settings-most;
-    posts-least = h.posts-least;
-    posts-most = h.posts-most;
+    settings_least = h.settings_least;
+    settings_most = h.settings_most;
+    posts_least = h.posts_least;
+    posts_most = h.posts_most;
     rights_size = length-sets d.rights (16 * own) t ∙ h.rights_size;
-    stated-size = length-set d.stated own 1 ∙ h.stated-size;
+    stated_size = length-set d.stated own 1 ∙ h.stated_size;
     marks = marks-after;
     tables = tables_after;
   }

@@ -123,7 +123,7 @@ at_right n m looks sets Set i q l =
 module _ (n m : ℕ) (h : 1 ≤ n) (k : n ≤ 7) (l : 1 ≤ m) (o : m ≤ 8) (rights : List ℕ) (u : Unstated n m rights) where
   filled-right : (right : Right) → Accepts n (unstated right) (of_kind right u.looks u.sets)
   filled-right Look = u.look_table
-  filled-right Set = u.set-table
+  filled-right Set = u.set_table
 
   filled : (right : Right) (inside : Bool) (t : List ℕ) → t ≡ cond inside (of_kind right u.looks u.sets) (replicate 16 0) → Filled inside n (unstated right) t
   filled right true t e = subst (Accepts n (unstated right)) (sym e) (filled-right right)
@@ -134,12 +134,12 @@ module _ (n m : ℕ) (h : 1 ≤ n) (k : n ≤ 7) (l : 1 ≤ m) (o : m ≤ 8) (ri
   sized-rules = record {
     settings = refl;
     posts = refl;
-    settings-least = h;
-    settings-most = k;
-    posts-least = l;
-    posts-most = o;
+    settings_least = h;
+    settings_most = k;
+    posts_least = l;
+    posts_most = o;
     rights_size = u.laid.size;
-    stated-size = length-replicate {A = ℕ} 112 0;
+    stated_size = length-replicate {A = ℕ} 112 0;
     marks = λ right i q a b. zero_at 112 (slot_of right i q);
     tables = λ right i q a b.
         filled right (in_size n m i q) (table_in rights (slot_of right i q))

@@ -49,13 +49,13 @@ module _ (rules : Rules) (d : RulesDesk) (h : OnDesk rules d) (right : Right) (w
   own_mark : get_or d.stated slot 0 ≡ mark_of (is_stated rules.rules right i q)
   own_mark =
       ap (λ (k : ℕ). get_or d.stated k 0) is
-      ∙ h.marks right i q (omega (arith, setting-fits, h.settings-most)) (omega (arith, post-fits, h.posts-most))
+      ∙ h.marks right i q (omega (arith, setting-fits, h.settings_most)) (omega (arith, post-fits, h.posts_most))
 
   -- it is one of 112
   pub slot_fits : slot < 112
   slot_fits =
       subst (λ (k : ℕ). k < 112) (sym is)
-      (slot_small right i q (omega (arith, setting-fits, h.settings-most)) (omega (arith, post-fits, h.posts-most)))
+      (slot_small right i q (omega (arith, setting-fits, h.settings_most)) (omega (arith, post-fits, h.posts_most)))
 
   of_rule : is_stated rules.rules right i q ≡ is_stated rules.rules the_rule.right the_rule.setting the_rule.post
   unfolding the_rule rule_of

@@ -80,7 +80,7 @@ module _ (size : Size) (rules : List Rule) (a b : RulesDesk) (h : RulesOnDesk si
       ∙ ap (λ (x : ℕ). get_or b.rights x 0) e)
 
   same-marks : a.stated ≡ b.stated
-  same-marks = ext_get_or 0 a.stated b.stated (h.stated-size ∙ sym k.stated-size) (λ s l. (same_slot s (omega (arith, h.stated-size))).0)
+  same-marks = ext_get_or 0 a.stated b.stated (h.stated_size ∙ sym k.stated_size) (λ s l. (same_slot s (omega (arith, h.stated_size))).0)
 
   pub rules-one : a ≡ b
   rules-one =

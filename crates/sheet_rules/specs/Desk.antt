@@ -30,12 +30,12 @@ in_size n m i q = ltb i n && ltb q m
 pub record RulesOnDesk (size : Size) (rules : List Rule) (d : RulesDesk) : Type 0 where
   pub settings : d.settings ≡ size.settings
   pub posts : d.posts ≡ size.posts
-  pub settings-least : 1 ≤ d.settings
-  pub settings-most : d.settings ≤ 7
-  pub posts-least : 1 ≤ d.posts
-  pub posts-most : d.posts ≤ 8
+  pub settings_least : 1 ≤ d.settings
+  pub settings_most : d.settings ≤ 7
+  pub posts_least : 1 ≤ d.posts
+  pub posts_most : d.posts ≤ 8
   pub rights_size : length d.rights ≡ 1792
-  pub stated-size : length d.stated ≡ 112
+  pub stated_size : length d.stated ≡ 112
   pub marks : (right : Right) (i q : ℕ) → i < 7 → q < 8 → get_or d.stated (slot_of right i q) 0 ≡ mark_of (is_stated rules right i q)
   pub tables : (right : Right) (i q : ℕ) → i < 7 → q < 8
       → Filled (in_size d.settings d.posts i q) d.settings (rule_text rules right i q) (table_in d.rights (slot_of right i q))

@@ -28,7 +28,7 @@ pub record Unstated (n m : ℕ) (rights : List ℕ) : Type 0 where
   pub looks : List ℕ
   pub sets : List ℕ
   pub look_table : Accepts n (unstated Look) looks
-  pub set-table : Accepts n (unstated Set) sets
+  pub set_table : Accepts n (unstated Set) sets
   pub laid : Laid n m looks sets 112 rights
 
 -- the desk with one right more, whose place is the slot

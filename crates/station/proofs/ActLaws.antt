@@ -1,13 +1,13 @@
 -- One act on true settings: a changed setting is a digit of the valuation in base 2, and a rule is read where it stands in the book.
-use mathlib.Core.Path.{◌≡◌, refl, sym, ap, ◌∙◌}
-use mathlib.Core.Bool.{Bool, true, false}
+use mathlib.Core.Path.{◌≡◌, ap, ◌∙◌}
+use mathlib.Core.Bool.{true, false}
 use mathlib.Core.List.{List}
-use Prim.Native.Nat.{ℕ, suc, ◌+◌, ◌*◌, ◌-◌, ◌/◌, ◌%◌, ◌^◌, ◌≤◌, ◌<◌}
+use Prim.Native.Nat.{ℕ, ◌+◌, ◌*◌, ◌-◌, ◌/◌, ◌%◌, ◌^◌, ◌≤◌, ◌<◌}
 use native.Mathlib.Omega.{arith}
 use lib.ListN.{length, take, drop, length-take}
-use lib.Pow.{pow_mono, pow_pos}
+use lib.Pow.{pow_mono}
 use native.Mathlib.Nat.{min-le_left, one-mul, mod-eq_of_lt}
-use Rattle.ground.specs.Digits.{digit, put, bit}
+use Rattle.ground.specs.Digits.{digit}
 use Rattle.ground.specs.Table.{truth}
 use Rattle.ground.proofs.Digits.{put-sum}
 use Rattle.ground.proofs.Table.{truth_out}

@@ -1,13 +1,12 @@
 -- What each fault is, as the request lists it: the causes of 27, and that 29 is of looks alone.
-use mathlib.Core.Path.{◌≡◌, refl, sym, ap, ◌∙◌, subst}
-use mathlib.Core.Logic.{◌⊎◌, inl, inr, ◌↔◌}
-use mathlib.Core.Bool.{Bool, true, false}
+use mathlib.Core.Path.{◌≡◌, refl, sym, ap, ◌∙◌}
+use mathlib.Core.Logic.{inl, inr}
 use mathlib.Core.List.{List}
-use Prim.Native.Nat.{ℕ, zero, suc, ◌-◌, ◌/◌, ◌%◌, ◌^◌, ◌≤◌, ◌<◌}
+use Prim.Native.Nat.{ℕ, ◌-◌, ◌/◌, ◌%◌, ◌^◌, ◌≤◌, ◌<◌}
 use native.Mathlib.Nat.{mod-lt}
 use native.Mathlib.Omega.{arith}
 use lib.Dec.{T}
-use borrow.Author.Tests.{lt-ltb, le-ltb, le-leb, lt-leb}
+use borrow.Author.Tests.{lt-ltb, le-leb, lt-leb}
 use Rattle.ground.proofs.Bits.{below_2}
 use Rattle.ground.proofs.Bools.{lt_or_ge}
 use Rattle.knowledge_acts.specs.Acts.{setting_of, post_of, of_kind, act_of}
@@ -16,9 +15,9 @@ use Rattle.knowledge_acts.specs.declared.act.Act.TheVariants.{Set, Look}
 use Rattle.knowledge_acts.specs.declared.act.Named.{Named}
 use Rattle.knowledge_acts.specs.declared.act.Named.TheVariants.{One, Nothing}
 use Rattle.knowledge_acts.proofs.Acts.{setting_of_kind, post_of_kind, kind_look}
-use Rattle.station.specs.Station.{of_book, allowed, shown, seen_most}
+use Rattle.station.specs.Station.{allowed, seen_most}
 use Rattle.station.specs.Shift.{IsRecord, no_record, disagrees, IsAtFault}
-use Rattle.station.proofs.Laws.{of_book_lem, book_has, look_shows}
+use Rattle.station.proofs.Laws.{of_book_case, book_has, look_shows}
 use Rattle.station.proofs.RecordLaws.{one_act, names-none}
 
 -- the act of a byte from 1 to 168
@@ -79,8 +78,8 @@ module _ (n m : ℕ) (book : List ℕ) (v c s : ℕ) where
   since_act : 1 ≤ c → c ≤ 168 → NoRecordSince n m c s → None
   since_act h k (byte_0 e) a r = omega arith
   since_act h k (byte_over_168 l) a r = omega arith
-  since_act h k (setting-past-n l) a r = let o = own_act h k a r in omega (arith, o.0, l, (book_has n m a r.of_book_lem).0)
-  since_act h k (post-past-m l) a r = let o = own_act h k a r in omega (arith, o.1, l, (book_has n m a r.of_book_lem).1)
+  since_act h k (setting-past-n l) a r = let o = own_act h k a r in omega (arith, o.0, l, (book_has n m a r.of_book_case).0)
+  since_act h k (post-past-m l) a r = let o = own_act h k a r in omega (arith, o.1, l, (book_has n m a r.of_book_case).1)
   since_act h k (seen_over_1 l) a r = omega (arith, l, r.second, seen_most_lem a)
   since_act h k (set-not_0 i l) a r = let o = own_act h k a r in omega (arith, o.2, l, r.second, seen_set c h i)
 
@@ -93,7 +92,7 @@ module _ (n m : ℕ) (book : List ℕ) (v c s : ℕ) where
   record_at : 1 ≤ c → c ≤ 168 → (c - 1) / 8 % 7 < n → (c - 1) % 8 < m → s ≤ seen_most (act_at c) → IsRecord n m (act_of c) s (act_at c)
   record_at h k i q l = record {
     names = named-at c h k;
-    of_book_lem = of_book_lem n m (act_at c)
+    of_book_case = of_book_case n m (act_at c)
         (rw (setting_of_kind ((c - 1) / 56) ((c - 1) / 8 % 7) ((c - 1) % 8)) i)
         (rw (post_of_kind ((c - 1) / 56) ((c - 1) / 8 % 7) ((c - 1) % 8)) q);
     second = l;

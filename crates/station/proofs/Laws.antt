@@ -20,9 +20,9 @@ use Rattle.plan.proofs.Effects.{change-here, change-other, change_lt}
 use Rattle.station.specs.Station.{of_book, rule_of, allowed, left_by, seen_as, shown}
 
 -- an act of the book: its setting and its post are the book's, whoever is in a team
-pub of_book_lem : (n m : ℕ) (a : Act) → setting_of a < n → post_of a < m → T (of_book n m a)
+pub of_book_case : (n m : ℕ) (a : Act) → setting_of a < n → post_of a < m → T (of_book n m a)
 unfolding of_book
-of_book_lem n m a h k = and_in (ltb (setting_of a) n) (ltb (post_of a) m) (lt→ltb (setting_of a) n h) (lt→ltb (post_of a) m k)
+of_book_case n m a h k = and_in (ltb (setting_of a) n) (ltb (post_of a) m) (lt→ltb (setting_of a) n h) (lt→ltb (post_of a) m k)
 
 pub book_has : (n m : ℕ) (a : Act) → T (of_book n m a) → (setting_of a < n) × (post_of a < m)
 unfolding of_book

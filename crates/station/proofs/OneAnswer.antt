@@ -1,9 +1,9 @@
 -- The contract of `replay` allows one answer alone: no record is both faultless and at fault, nor at fault for two things, so two answers have come equally
 -- far; and none of the rows is given where a shift is played.
 use mathlib.Core.Path.{◌≡◌, refl, sym, ap, ap₂, ◌∙◌, subst}
-use mathlib.Core.Logic.{◌⊎◌, inl, inr}
+use mathlib.Core.Logic.{inl, inr}
 use mathlib.Core.List.{List}
-use Prim.Native.Nat.{ℕ, ◌<◌, ◌≤◌}
+use Prim.Native.Nat.{ℕ, ◌<◌}
 use native.Mathlib.Omega.{arith}
 use lib.Dec.{T}
 use Rattle.ground.proofs.Bools.{lt_or_ge}
@@ -19,7 +19,7 @@ use Rattle.station.specs.declared.record.Running.{Running}
 use Rattle.station.specs.declared.shift.Replayed.{Replayed}
 use Rattle.station.specs.declared.shift.Replayed.TheVariants.{Whole, Stopped, Refused}
 use Rattle.station.specs.Station.{allowed, shown}
-use Rattle.station.specs.Shift.{records, act_byte, seen_byte, settings_at, IsRecord, IsFaultless, RecordFault, no_record, not-allowed, disagrees}
+use Rattle.station.specs.Shift.{act_byte, seen_byte, settings_at, IsRecord, IsFaultless, RecordFault, no_record, not_allowed, disagrees}
 use Rattle.station.specs.Shift.{IsAtFault, fault_at, Reached, StopsAt}
 use Rattle.station.specs.Replay.{ShiftFits, replay_rows, Plays, PlaysAs, Replays}
 use Rattle.station.proofs.RecordLaws.{one_act}
@@ -36,20 +36,20 @@ module _ (n m : ℕ) (book : List ℕ) (v : ℕ) (named : Named) (seen : ℕ) wh
 
   -- not both faultless and at fault
   pub fault-none : (f : RecordFault) → IsAtFault f n m book v named seen → IsFaultless n m book v named seen → ⊥
-  fault-none no_record none x = none x.act_done x.is_record_lem
-  fault-none not-allowed (a, r, barred) x = barred (allowed_of x.is_record_lem r x.was_allowed)
-  fault-none disagrees (a, r, t, unlike) x = unlike (x.was_shown ∙ ap (shown v) (record_one x.is_record_lem r))
+  fault-none no_record none x = none x.act_done x.is_record_case
+  fault-none not_allowed (a, r, barred) x = barred (allowed_of x.is_record_case r x.was_allowed)
+  fault-none disagrees (a, r, t, unlike) x = unlike (x.was_shown ∙ ap (shown v) (record_one x.is_record_case r))
 
   -- at fault for one thing
   pub fault-one : (f g : RecordFault) → IsAtFault f n m book v named seen → IsAtFault g n m book v named seen → f ≡ g
   fault-one no_record no_record x y = refl
-  fault-one no_record not-allowed none (a, r, barred) = absurd (none a r)
+  fault-one no_record not_allowed none (a, r, barred) = absurd (none a r)
   fault-one no_record disagrees none (a, r, t, unlike) = absurd (none a r)
-  fault-one not-allowed no_record (a, r, barred) none = absurd (none a r)
-  fault-one not-allowed not-allowed x y = refl
-  fault-one not-allowed disagrees (a, r, barred) (b, s, t, unlike) = absurd (barred (allowed_of s r t))
+  fault-one not_allowed no_record (a, r, barred) none = absurd (none a r)
+  fault-one not_allowed not_allowed x y = refl
+  fault-one not_allowed disagrees (a, r, barred) (b, s, t, unlike) = absurd (barred (allowed_of s r t))
   fault-one disagrees no_record (a, r, t, unlike) none = absurd (none a r)
-  fault-one disagrees not-allowed (a, r, t, unlike) (b, s, barred) = absurd (barred (allowed_of r s t))
+  fault-one disagrees not_allowed (a, r, t, unlike) (b, s, barred) = absurd (barred (allowed_of r s t))
   fault-one disagrees disagrees x y = refl
 
 -- ---- one shift
@@ -67,7 +67,7 @@ module _ (n m : ℕ) (book : List ℕ) (start : ℕ) (shift : List ℕ) where
   -- what is at fault next, on the settings that the records before it leave
   fault-there : (running : Running) (why : Refusal) → Far running → (s : Stops running why)
       → FaultAt s.fault (settings_at start shift running.count) running.count
-  fault-there running why r s = subst (λ v. FaultAt s.fault v running.count) r.left s.at-fault
+  fault-there running why r s = subst (λ v. FaultAt s.fault v running.count) r.left s.at_fault
 
   -- nobody comes past a record at fault
   not-past : (running other : Running) (why : Refusal) → Far running → Stops running why → Far other → running.count < other.count → ⊥
@@ -85,7 +85,7 @@ module _ (n m : ℕ) (book : List ℕ) (start : ℕ) (shift : List ℕ) where
   stopped-one running other why also r s o t e =
       let here = fault-there running why r s in
       let there = subst (λ k. FaultAt t.fault (settings_at start shift k) k) (sym e) (fault-there other also o t) in
-      s.why-is ∙ ap₂ fault_at (fault-one n m book _ _ _ s.fault t.fault here there) e ∙ sym t.why-is
+      s.why_is ∙ ap₂ fault_at (fault-one n m book _ _ _ s.fault t.fault here there) e ∙ sym t.why_is
 
   pub plays-one : (x y : Replayed) → Plays n m book start shift x → Plays n m book start shift y → x ≡ y
   plays-one (Whole running) (Whole other) (r, e) (o, f) = ap Whole (reached-one running other r o (e ∙ sym f))

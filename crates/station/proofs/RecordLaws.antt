@@ -1,9 +1,9 @@
 -- One record of a shift, judged by one test after the other: one law for each way out. A record names one act at most.
-use mathlib.Core.Path.{◌≡◌, refl, sym, ap, ◌∙◌}
+use mathlib.Core.Path.{◌≡◌, refl, sym, ap}
 use mathlib.Core.Bool.{true, false}
 use mathlib.Core.List.{List}
 use Prim.Native.Nat.{ℕ}
-use lib.Dec.{T, leb, T_not}
+use lib.Dec.{leb, T_not}
 use borrow.Author.Tests.{leb-true, leb-false}
 use native.Mathlib.Omega.{arith}
 use Rattle.ground.proofs.Bools.{true→T, false→T}
@@ -13,7 +13,7 @@ use Rattle.knowledge_acts.specs.declared.act.Named.TheVariants.{One, Nothing}
 use Rattle.refusal.specs.declared.Refusal.TheVariants.{NoRecord, NotAllowed, Disagrees}
 use Rattle.station.specs.declared.judge.Judged.TheVariants.{Faultless, AtFault}
 use Rattle.station.specs.Station.{of_book, allowed, shown, seen_most}
-use Rattle.station.specs.Shift.{IsRecord, IsFaultless, no_record, not-allowed, disagrees}
+use Rattle.station.specs.Shift.{IsRecord, no_record, not_allowed, disagrees}
 use Rattle.station.specs.Inner.{Judges}
 
 -- the act that is named, or another where none is
@@ -40,7 +40,7 @@ module _ (n m : ℕ) (book : List ℕ) (v k seen : ℕ) where
     -- an act of another book
     pub judged-other : of_book n m a ≡ false → Judges n m book v k (One a) seen (AtFault (NoRecord k))
     judged-other e =
-        (no_record, refl, λ b r. T_not (of_book n m a) (false→T e) (rw (one_act r.names) r.of_book_lem))
+        (no_record, refl, λ b r. T_not (of_book n m a) (false→T e) (rw (one_act r.names) r.of_book_case))
 
     -- a second byte that such an act does not have
     pub judged-second : leb seen (seen_most a) ≡ false → Judges n m book v k (One a) seen (AtFault (NoRecord k))
@@ -49,15 +49,15 @@ module _ (n m : ℕ) (book : List ℕ) (v k seen : ℕ) where
 
     -- past the first two tests it is a record
     pub is_one : of_book n m a ≡ true → leb seen (seen_most a) ≡ true → IsRecord n m (One a) seen a
-    is_one e f = record { names = refl; of_book_lem = true→T e; second = leb-true seen (seen_most a) f }
+    is_one e f = record { names = refl; of_book_case = true→T e; second = leb-true seen (seen_most a) f }
 
     module _ (is : IsRecord n m (One a) seen a) where
       pub judged_barred : allowed book v a ≡ false → Judges n m book v k (One a) seen (AtFault (NotAllowed k))
-      judged_barred e = (not-allowed, refl, (a, is, T_not (allowed book v a) (false→T e)))
+      judged_barred e = (not_allowed, refl, (a, is, T_not (allowed book v a) (false→T e)))
 
       module _ (e : allowed book v a ≡ true) where
         pub judged_unlike : (seen ≡ shown v a → ⊥) → Judges n m book v k (One a) seen (AtFault (Disagrees k))
         judged_unlike f = (disagrees, refl, (a, is, true→T e, f))
 
         pub judged-faultless : seen ≡ shown v a → Judges n m book v k (One a) seen Faultless
-        judged-faultless f = record { act_done = a; is_record_lem = is; was_allowed = true→T e; was_shown = f }
+        judged-faultless f = record { act_done = a; is_record_case = is; was_allowed = true→T e; was_shown = f }

@@ -1,9 +1,8 @@
 -- A shift, record by record: what was reached grows by each record that is faultless, and a record at fault ends it.
-use mathlib.Core.Path.{◌≡◌, refl, sym, ap, ◌∙◌, subst}
+use mathlib.Core.Path.{◌≡◌, ap, subst}
 use mathlib.Core.List.{List}
-use Prim.Native.Nat.{ℕ, suc, ◌+◌, ◌/◌, ◌≤◌, ◌<◌}
+use Prim.Native.Nat.{ℕ, suc, ◌+◌, ◌≤◌, ◌<◌}
 use native.Mathlib.Omega.{arith}
-use lib.ListN.{length}
 use Rattle.ground.proofs.Search.{below_suc}
 use Rattle.knowledge_acts.specs.Acts.{act_of}
 use Rattle.refusal.specs.declared.Refusal.{Refusal}
@@ -11,7 +10,7 @@ use Rattle.station.specs.declared.record.Running.{Running}
 use Rattle.station.specs.declared.judge.Judged.TheVariants.{Faultless, AtFault}
 use Rattle.station.specs.declared.shift.Replayed.TheVariants.{Whole, Stopped}
 use Rattle.station.specs.Station.{leaves}
-use Rattle.station.specs.Shift.{records, act_byte, seen_byte, settings_at, IsFaultless, stepped_by, Reached, StopsAt}
+use Rattle.station.specs.Shift.{records, act_byte, seen_byte, settings_at, IsFaultless, stepped_by, Reached}
 use Rattle.station.specs.Replay.{Plays}
 use Rattle.station.specs.Inner.{Judges}
 
@@ -49,7 +48,7 @@ module _ (n m : ℕ) (book : List ℕ) (start : ℕ) (shift : List ℕ) where
     pub plays-stopped : (why : Refusal) → running.count < records shift
         → Judges n m book running.present.0 running.count (act_of (act_byte shift running.count)) (seen_byte shift running.count) (AtFault why)
         → Plays n m book start shift (Stopped why running)
-    plays-stopped why more judged = (reached, record { more = more; fault = judged.0; why-is = judged.1; at-fault = judged.2 })
+    plays-stopped why more judged = (reached, record { more = more; fault = judged.0; why_is = judged.1; at_fault = judged.2 })
 
     -- after the last
     pub plays-whole : records shift ≤ running.count → Plays n m book start shift (Whole running)

@@ -1,6 +1,6 @@
 -- How a shift is read: the act byte stands first and what was seen second, records follow one another, and each act meets the settings that those before it
 -- left. And what was reached is a valuation of the book's settings.
-use mathlib.Core.Path.{◌≡◌, refl, sym, ap, ◌∙◌}
+use mathlib.Core.Path.{◌≡◌, refl, ap, ◌∙◌}
 use mathlib.Core.List.{List, [], ◌∷◌}
 use Prim.Native.Nat.{ℕ, zero, suc, ◌+◌, ◌*◌, ◌^◌, ◌<◌}
 use native.Mathlib.Omega.{arith}
@@ -9,7 +9,7 @@ use Rattle.ground.specs.Digits.{put}
 use Rattle.knowledge_acts.specs.Acts.{act_of}
 use Rattle.plan.specs.Runs.{change}
 use Rattle.station.specs.declared.record.Running.{Running}
-use Rattle.station.specs.Station.{leaves, left_by}
+use Rattle.station.specs.Station.{leaves}
 use Rattle.station.specs.Shift.{act_byte, seen_byte, settings_at, IsFaultless, Reached}
 use Rattle.station.proofs.Laws.{left_lt, book_has}
 
@@ -49,8 +49,8 @@ module _ (n m : ℕ) (book : List ℕ) (start : ℕ) (shift : List ℕ) (below :
   settings-below zero f = below
   settings-below (suc k) f =
       let here = f k (omega arith) in
-      rw here.is_record_lem.names
-      (left_lt (settings_at start shift k) n here.act_done (settings-below k (λ j l. f j (omega (arith, l)))) (book_has n m here.act_done here.is_record_lem.of_book_lem).0)
+      rw here.is_record_case.names
+      (left_lt (settings_at start shift k) n here.act_done (settings-below k (λ j l. f j (omega (arith, l)))) (book_has n m here.act_done here.is_record_case.of_book_case).0)
 
   pub reached-below : (running : Running) → Reached n m book start shift running → running.present.0 < 2 ^ n
   reached-below running r = rw r.left (settings-below running.count r.faultless)

@@ -28,13 +28,13 @@ settings_at v shift (suc k) = leaves (settings_at v shift k) (act_of (act_byte s
 -- a record of an act of the book: 27 denies this. "no act of this book or a second byte that is not 0 or 1 (not 0 for a set)"
 pub record IsRecord (n m : ℕ) (named : Named) (seen : ℕ) (a : Act) : Type 0 where
   pub names : named ≡ One a
-  pub of_book_lem : T (of_book n m a)
+  pub of_book_case : T (of_book n m a)
   pub second : seen ≤ seen_most a
 
 -- on the settings v: an act of the book, allowed there, that showed what was recorded
 pub record IsFaultless (n m : ℕ) (book : List ℕ) (v : ℕ) (named : Named) (seen : ℕ) : Type 0 where
   pub act_done : Act
-  pub is_record_lem : IsRecord n m named seen act_done
+  pub is_record_case : IsRecord n m named seen act_done
   pub was_allowed : T (allowed book v act_done)
   pub was_shown : seen ≡ shown v act_done
 
@@ -43,20 +43,20 @@ pub data RecordFault : Type 0 where
   -- 27 "no act of this book or a second byte that is not 0 or 1 (not 0 for a set)"
   no_record : RecordFault
   -- 28 "not permitted"
-  not-allowed : RecordFault
+  not_allowed : RecordFault
   -- 29 "a look that disagrees"
   disagrees : RecordFault
 
 -- "in this order": a later fault is one only where no earlier one is
 abbrev pub IsAtFault : RecordFault → ℕ → ℕ → List ℕ → ℕ → Named → ℕ → Type 0
 IsAtFault no_record n m book v named seen = (a : Act) → IsRecord n m named seen a → ⊥
-IsAtFault not-allowed n m book v named seen = (a : Act) × IsRecord n m named seen a × (T (allowed book v a) → ⊥)
+IsAtFault not_allowed n m book v named seen = (a : Act) × IsRecord n m named seen a × (T (allowed book v a) → ⊥)
 IsAtFault disagrees n m book v named seen = (a : Act) × IsRecord n m named seen a × T (allowed book v a) × (seen ≡ shown v a → ⊥)
 
 -- "each with the record's index"
 abbrev pub fault_at : RecordFault → ℕ → Refusal
 fault_at no_record k = NoRecord k
-fault_at not-allowed k = NotAllowed k
+fault_at not_allowed k = NotAllowed k
 fault_at disagrees k = Disagrees k
 
 -- "one running record that each act updates": the settings that the act of a byte leaves, and one act more
@@ -76,5 +76,5 @@ pub record Reached (n m : ℕ) (book : List ℕ) (start : ℕ) (shift : List ℕ
 pub record StopsAt (n m : ℕ) (book : List ℕ) (shift : List ℕ) (running : Running) (why : Refusal) : Type 0 where
   pub more : running.count < records shift
   pub fault : RecordFault
-  pub why-is : why ≡ fault_at fault running.count
-  pub at-fault : IsAtFault fault n m book running.present.0 (act_of (act_byte shift running.count)) (seen_byte shift running.count)
+  pub why_is : why ≡ fault_at fault running.count
+  pub at_fault : IsAtFault fault n m book running.present.0 (act_of (act_byte shift running.count)) (seen_byte shift running.count)

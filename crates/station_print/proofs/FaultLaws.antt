@@ -7,7 +7,7 @@ use borrow.Author.Tests.{ne_eqb}
 use Rattle.ground.specs.Text.{bytes}
 use Rattle.print_room.specs.Decimal.{decimal}
 use Rattle.sheet_words.specs.Words.{split, newline}
-use Rattle.station.specs.Shift.{no_record, not-allowed, disagrees}
+use Rattle.station.specs.Shift.{no_record, not_allowed, disagrees}
 use Rattle.station_text.specs.Records.{is_record, record_text}
 use Rattle.station_text.specs.Meaning.{is_text, line_of}
 use Rattle.station_print.specs.Faults.{line_said, place_text, record_words, fault_numbered}
@@ -47,7 +47,7 @@ module _ (number : ℕ) where
   pub numbered_27 : number ≡ 27 → fault_numbered number ≡ no_record
   numbered_27 e = ap fault_numbered e
 
-  pub numbered_28 : number ≡ 28 → fault_numbered number ≡ not-allowed
+  pub numbered_28 : number ≡ 28 → fault_numbered number ≡ not_allowed
   numbered_28 e = ap fault_numbered e
 
   pub numbered_29 : (number ≡ 27 → ⊥) → (number ≡ 28 → ⊥) → fault_numbered number ≡ disagrees

@@ -16,7 +16,7 @@ use Rattle.print_room.specs.Decimal.{decimal}
 use Rattle.print_room.proofs.Decimals.{decimal-length}
 use Rattle.sheet_words.specs.Words.{split, newline}
 use Rattle.sheet_words.proofs.Split.{split-length}
-use Rattle.station.specs.Shift.{RecordFault, no_record, not-allowed, disagrees, act_byte, seen_byte}
+use Rattle.station.specs.Shift.{RecordFault, no_record, not_allowed, disagrees, act_byte, seen_byte}
 use Rattle.station.specs.declared.record.Running.{Running}
 use Rattle.station_text.specs.Records.{is_record, words_of, record_text}
 use Rattle.station_text.specs.Meaning.{is_text, lines_bytes, line_of}
@@ -86,7 +86,7 @@ record_length byte seen h k = by_form (is_record byte seen) refl
 
 why-length : (fault : RecordFault) (n v seen : ℕ) → n ≤ 7 → length (why_text fault n v seen) ≤ 70
 why-length no_record n v seen h = omega arith
-why-length not-allowed n v seen h = omega (arith, words_length n v h)
+why-length not_allowed n v seen h = omega (arith, words_length n v h)
 why-length disagrees n v seen h = omega (arith, words_length n v h)
 
 module _ (shift : List ℕ) (index byte seen number n v : ℕ) (short : length shift ≤ 2097152) (early : index ≤ 1048576) (small : byte < 256) (little : seen < 256)

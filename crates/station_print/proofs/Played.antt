@@ -1,21 +1,21 @@
 -- What is printed fits what was played: the words are those of the fault, the settings are a START for the next shift, and the line that is said is the one
 -- whose two bytes the replay read.
-use mathlib.Core.Path.{◌≡◌, refl, ap, ap₂, ◌∙◌}
+use mathlib.Core.Path.{◌≡◌, refl, ap, ◌∙◌}
 use mathlib.Core.List.{List, [], ◌∷◌}
 use Prim.Native.Nat.{ℕ, ◌+◌, ◌*◌, ◌<◌}
 use native.Mathlib.Omega.{arith}
 use lib.Dec.{T}
-use lib.ListN.{length, get_or}
+use lib.ListN.{get_or}
 use Rattle.refusal.specs.declared.Refusal.{Refusal}
 use Rattle.refusal.specs.Refusals.{number}
 use Rattle.sheet_words.specs.Words.{split, newline}
-use Rattle.station.specs.Shift.{records, act_byte, seen_byte, RecordFault, no_record, not-allowed, disagrees, fault_at}
+use Rattle.station.specs.Shift.{records, act_byte, seen_byte, RecordFault, no_record, not_allowed, disagrees, fault_at}
 use Rattle.station.specs.Replay.{PlaysAs}
 use Rattle.station.specs.declared.record.Running.{Running}
 use Rattle.station.specs.declared.shift.Replayed.TheVariants.{Whole, Stopped}
 use Rattle.station.proofs.ShiftShape.{reached-below}
 use Rattle.station_text.specs.Lines.{line_record}
-use Rattle.station_text.specs.Meaning.{gives, lines_bytes, line_of, read_meaning}
+use Rattle.station_text.specs.Meaning.{gives, line_of, read_meaning}
 use Rattle.station_text.specs.Grammar.{GivesAt}
 use Rattle.station_text.proofs.Theorems.{bytes-given, line_gives}
 use Rattle.station_print.specs.Start.{start_words, names_all, StartIs}
@@ -28,7 +28,7 @@ use Rattle.station_print.proofs.print.Reads as print
 -- the words are those of the fault that stopped the shift
 pub numbered_back : (f : RecordFault) (k : ℕ) → fault_numbered (number (fault_at f k)) ≡ f
 numbered_back no_record k = refl
-numbered_back not-allowed k = refl
+numbered_back not_allowed k = refl
 numbered_back disagrees k = refl
 
 -- the settings that are printed of a replay are a START, which says them

@@ -7,7 +7,7 @@ use Rattle.ground.specs.Text.{bytes}
 use Rattle.print_room.specs.Decimal.{decimal}
 use Rattle.print_answer.specs.Listed.{line, value_digit}
 use Rattle.sheet_words.specs.Words.{split, newline}
-use Rattle.station.specs.Shift.{RecordFault, no_record, not-allowed, disagrees}
+use Rattle.station.specs.Shift.{RecordFault, no_record, not_allowed, disagrees}
 use Rattle.station_text.specs.Records.{is_record, record_text}
 use Rattle.station_text.specs.Meaning.{is_text, line_of}
 use Rattle.station_print.specs.Settings.{setting_words}
@@ -27,12 +27,12 @@ record_words byte seen = cond (is_record byte seen) (record_text byte seen) (byt
 
 -- the fault with this number: 27, 28, or 29, the one that is left
 abbrev pub fault_numbered : ℕ → RecordFault
-fault_numbered number = cond (eqb number 27) no_record (cond (eqb number 28) not-allowed disagrees)
+fault_numbered number = cond (eqb number 27) no_record (cond (eqb number 28) not_allowed disagrees)
 
 -- why the act was not allowed on the settings v; of a look that disagrees, the value that it really shows, which is the one that was not seen
 abbrev pub why_text : RecordFault → ℕ → ℕ → ℕ → List ℕ
 why_text no_record n v seen = bytes "no record of this book"
-why_text not-allowed n v seen = bytes "not permitted where " ++ setting_words n v
+why_text not_allowed n v seen = bytes "not permitted where " ++ setting_words n v
 why_text disagrees n v seen = bytes "shows " ++ value_digit (eqb seen 0) ∷ (bytes " where " ++ setting_words n v)
 
 -- the line of the record with this index and these two bytes, refused with this number on the settings v

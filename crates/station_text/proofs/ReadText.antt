@@ -1,7 +1,7 @@
 -- A text that is taken is written as the grammar says: each of its lines is passed over, or is the words of the record that it gives. And what is not refused
 -- has passed each test.
 use mathlib.Core.Path.{◌≡◌, refl, sym, ap, ◌∙◌, subst}
-use mathlib.Core.Bool.{Bool, true, false, not, ◌||◌, cond}
+use mathlib.Core.Bool.{Bool, true, false, ◌||◌, cond}
 use mathlib.Core.List.{List, [], ◌∷◌, ◌++◌, append_assoc, append-nil}
 use Prim.Native.Nat.{ℕ, suc, ◌≤◌}
 use native.Mathlib.Omega.{arith}
@@ -30,10 +30,10 @@ module _ (l : List ℕ) (clear : Clear newline l) {s b : List ℕ} (p : ShiftTex
   given-only : gives_record l ≡ true → ShiftTextOf (line l ++ s) (line_record l ++ b)
   given-only e =
       let x = given_said l e in
-      let t = record_taken x.act_byte x.seen x.is_record_lem in
+      let t = record_taken x.act_byte x.seen x.is_record_case in
       subst (λ (k : List ℕ). ShiftTextOf (line k ++ s) (line_record k ++ b)) (sym x.text)
-      (subst (λ (own : List ℕ). ShiftTextOf (line (record_text x.act_byte x.seen) ++ s) (own ++ b)) (sym t.is_record_lem)
-      (saying x.act_byte x.seen x.is_record_lem p))
+      (subst (λ (own : List ℕ). ShiftTextOf (line (record_text x.act_byte x.seen) ++ s) (own ++ b)) (sym t.is_record_case)
+      (saying x.act_byte x.seen x.is_record_case p))
 
   line-only : is_line l ≡ true → ShiftTextOf (line l ++ s) (line_record l ++ b)
   line-only e = by_test (passed_over l) (gives_record l) refl refl (sym (line_by l (passed_over l) (gives_record l) refl refl) ∙ e)

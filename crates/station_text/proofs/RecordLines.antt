@@ -30,11 +30,11 @@ use Rattle.station_text.proofs.LineLaws.{gives_by, act_by, seen_by, record_by}
 -- what the tests make of a line
 pub record Taken (l : List ℕ) (c v : ℕ) : Type 0 where
   pub is-given : gives_record l ≡ true
-  pub is_record_lem : line_record l ≡ c ∷ v ∷ []
+  pub is_record_case : line_record l ≡ c ∷ v ∷ []
   pub clear : Clear newline l
 
 taken_by : (l : List ℕ) {c v : ℕ} → gives_record l ≡ true → line_act l ≡ c → line_seen l ≡ v → Clear newline l → Taken l c v
-taken_by l e x y clear = record { is-given = e; is_record_lem = record_by l true e ∙ ap₂ (λ (a b : ℕ). a ∷ b ∷ []) x y; clear = clear }
+taken_by l e x y clear = record { is-given = e; is_record_case = record_by l true e ∙ ap₂ (λ (a b : ℕ). a ∷ b ∷ []) x y; clear = clear }
 
 -- the digit of what was seen
 seen_digit : (v : ℕ) → v ≤ 1 → value_digit (eqb v 1) - 48 ≡ v
@@ -86,7 +86,7 @@ record_taken c v h = by_act (act_of c) refl h
 pub record Said (l : List ℕ) : Type 0 where
   pub act_byte : ℕ
   pub seen : ℕ
-  pub is_record_lem : T (is_record act_byte seen)
+  pub is_record_case : T (is_record act_byte seen)
   pub text : l ≡ record_text act_byte seen
 
 -- a word and `P G V`
@@ -127,7 +127,7 @@ look_said l e =
     record {
       act_byte = byte_of (Look x.0 x.1);
       seen = v;
-      is_record_lem = subst (λ (n : Named). T (seen_in n v)) (sym a) y.0;
+      is_record_case = subst (λ (n : Named). T (seen_in n v)) (sym a) y.0;
       text = x.5 ∙ ap (λ (b : Bool). bytes "look " ++ names x.0 x.1 b) (sym y.1) ∙ ap (λ (n : Named). words_of n v) (sym a);
     }
 
@@ -139,7 +139,7 @@ set_said l e =
     record {
       act_byte = byte_of (Set x.0 x.1 x.2);
       seen = 0;
-      is_record_lem = subst (λ (n : Named). T (seen_in n 0)) (sym a) tt;
+      is_record_case = subst (λ (n : Named). T (seen_in n 0)) (sym a) tt;
       text = x.5 ∙ ap (λ (n : Named). words_of n 0) (sym a);
     }
 

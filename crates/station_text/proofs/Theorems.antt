@@ -31,7 +31,7 @@ use Rattle.station_text.proofs.LineNumbers.{gives_at, find_none}
 use Rattle.station_text.proofs.text.read.Reads as read
 use Rattle.station_text.proofs.bytes.print.Reads as print
 use Rattle.station_text.proofs.is_text.Reads as is-text
-use Rattle.station_text.proofs.record.is_record.Reads as is_record_lem
+use Rattle.station_text.proofs.record.is_record.Reads as is_record_case
 use Rattle.station_text.proofs.text.line_of.Reads as Line-of
 
 -- ---- a text is taken where it is written as the grammar says, and nowhere else
@@ -142,6 +142,10 @@ text_no_bytes s e fits even =
 pub told-one : (m : Meaning) (x y : ShiftTold) (old new other : List ℕ) → Tells m x old new → Tells m y old other → (x ≡ y) × (new ≡ other)
 told-one (refused r) (Refused why) (Refused cause) old new other p q = (ap Refused (p.0 ∙ sym q.0), p.1 ∙ sym q.1)
 told-one (gives b) (Read n) (Read k) old new other p q = (ap Read (p.count ∙ sym q.count), p.room ∙ sym q.room)
+told-one (refused r) (Read n) y old new other p q = elim p [ ]
+told-one (refused r) (Refused why) (Read k) old new other p q = elim q [ ]
+told-one (gives b) (Read n) (Refused cause) old new other p q = elim q [ ]
+told-one (gives b) (Refused why) y old new other p q = elim p [ ]
 
 pub read_unique : (κs : _) (a : _) (x y : _) (s : _) → read.Post κs a x s → read.Post κs a y s → x ≡ y
 read_unique κs a x y s p q = (told-one (read_meaning a.0.now) x y a.1.0.now s.1.0.now s.1.0.now p q).0
@@ -152,7 +156,7 @@ print_unique κs a x y s p q = (told-one (print_meaning a.0.now) x y a.1.0.now s
 pub is-text_unique : (κs : _) (a : _) (x y : _) (s : _) → is-text.Post κs a x s → is-text.Post κs a y s → x ≡ y
 is-text_unique κs a x y s p q = p ∙ sym q
 
-pub is_record_unique : (κs : _) (a : _) (x y : _) (s : _) → is_record_lem.Post κs a x s → is_record_lem.Post κs a y s → x ≡ y
+pub is_record_unique : (κs : _) (a : _) (x y : _) (s : _) → is_record_case.Post κs a x s → is_record_case.Post κs a y s → x ≡ y
 is_record_unique κs a x y s p q = p ∙ sym q
 
 pub line_of_unique : (κs : _) (a : _) (x y : _) (s : _) → Line-of.Post κs a x s → Line-of.Post κs a y s → x ≡ y

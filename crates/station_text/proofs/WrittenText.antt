@@ -54,7 +54,7 @@ lines-taken (passing l {s} h e p) L =
     one_more l s (one_line l e) (line_by l true _ (T→true (passed_over l) h) refl) (record_by l false (passed_none l h)) L (lines-taken p (suc L))
 lines-taken (saying c v {s} h p) L =
     let t = record_taken c v h in
-    one_more (record_text c v) s t.clear (given-line (record_text c v) t.is-given) t.is_record_lem L (lines-taken p (suc L))
+    one_more (record_text c v) s t.clear (given-line (record_text c v) t.is-given) t.is_record_case L (lines-taken p (suc L))
 
 -- ---- a shift whose records text can say
 

@@ -1,6 +1,6 @@
 -- `book_sound::first_stray` meets its contract: the settings before i have blocks as they must be.
 use borrow.Author.Rules.{rules}
-use Prim.Native.Nat.{ℕ, ◌+◌, ◌≤◌, ◌<◌, ◌-◌}
+use Prim.Native.Nat.{◌+◌, ◌-◌}
 use native.Mathlib.Omega.{arith}
 use borrow.Author.Count.{below_none, below_more}
 use Rattle.ground.specs.Tells.{Tells}
@@ -16,7 +16,7 @@ loop-i-init c = (search rules, below_none _)
 pub returns-then-not-is_setting : goal.returns-then-not-is_setting
 returns-then-not-is_setting c =
     let tested : Tells c.is_setting.result ((let a = c.args in SettingBlock a.n a.m (block a.book.now (1 + c.loop-i.i)))) =
-        let a = c.args in
+    let a = c.args in
     let i = c.loop-i.i in
     tells_iff c.is_setting.result (setting-block a.book.now (1 + i)) (setting-drop a.book.now (1 + i)) c.is_setting.ensures in
     lowest-at c.loop-i-test.true c.loop-i.invariant.1
@@ -25,7 +25,7 @@ returns-then-not-is_setting c =
 pub loop-i-preserved : goal.loop-i-preserved
 loop-i-preserved c =
     let tested : Tells c.is_setting.result ((let a = c.args in SettingBlock a.n a.m (block a.book.now (1 + c.loop-i.i)))) =
-        let a = c.args in
+    let a = c.args in
     let i = c.loop-i.i in
     tells_iff c.is_setting.result (setting-block a.book.now (1 + i)) (setting-drop a.book.now (1 + i)) c.is_setting.ensures in
     let r = c.loop-i in

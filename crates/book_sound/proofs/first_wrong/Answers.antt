@@ -1,6 +1,6 @@
 -- `book_sound::first_wrong` meets its contract: the blocks before k have right checks.
 use borrow.Author.Rules.{rules}
-use Prim.Native.Nat.{ℕ, ◌≤◌, ◌<◌, ◌-◌}
+use Prim.Native.Nat.{◌-◌}
 use native.Mathlib.Omega.{arith}
 use borrow.Author.Count.{below_more}
 use Rattle.ground.specs.Tells.{Tells}
@@ -18,7 +18,7 @@ overflow_mul-k c = omega (arith, c.requires)
 pub returns-then-not-is_right : goal.returns-then-not-is_right
 returns-then-not-is_right c =
     let tested : Tells c.is_right.result ((RightCheck (block c.args.book.now c.loop-k.k))) =
-        let b = c.args.book.now in
+    let b = c.args.book.now in
     let k = c.loop-k.k in
     tells_iff c.is_right.result (right-block b k) (right-drop b k) c.is_right.ensures in
     lowest-at c.loop-k-test.true c.loop-k.invariant.1
@@ -27,7 +27,7 @@ returns-then-not-is_right c =
 pub loop-k-preserved : goal.loop-k-preserved
 loop-k-preserved c =
     let tested : Tells c.is_right.result ((RightCheck (block c.args.book.now c.loop-k.k))) =
-        let b = c.args.book.now in
+    let b = c.args.book.now in
     let k = c.loop-k.k in
     tells_iff c.is_right.result (right-block b k) (right-drop b k) c.is_right.ensures in
     let r = c.loop-k in

@@ -4,7 +4,6 @@ use native.Mathlib.Omega.{arith}
 use Rattle.ground.proofs.Answers.{tells_iff}
 use Rattle.book_sound.specs.Rows.{settings_of, blocks}
 use Rattle.book_sound.proofs.BookLaws.{right-head, head-settings, head-posts, head-rest}
-use borrow.Author.Rules.{rules}
 use Rattle.book_sound.proofs.is_head.Goals as goal
 
 pub returns-then-n-settings_of : goal.returns-then-n-settings_of

@@ -1,7 +1,6 @@
 -- `pj_book_read` meets its contract: the answer and the room are the reader's.
-use mathlib.Core.Path.{refl, sym, ap, ◌∙◌}
+use mathlib.Core.Path.{sym, ap, ◌∙◌}
 use Rattle.exports.specs.Returned.{read_returned}
-use borrow.Author.Rules.{rules}
 use Rattle.exports.proofs.pj_book_read.Goals as goal
 
 pub returns-in-Book : goal.returns-in-Book

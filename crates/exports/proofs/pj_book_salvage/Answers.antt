@@ -1,7 +1,6 @@
 -- `pj_book_salvage` meets its contract: the answer and the room are the salvage's.
-use mathlib.Core.Path.{refl, sym, ap, ◌∙◌}
+use mathlib.Core.Path.{sym, ap, ◌∙◌}
 use Rattle.exports.specs.Returned.{salvage_returned}
-use borrow.Author.Rules.{rules}
 use Rattle.exports.proofs.pj_book_salvage.Goals as goal
 
 pub returns-in-Salvaged : goal.returns-in-Salvaged

@@ -1,7 +1,6 @@
 -- `pj_book_write` meets its contract: the answer and the room are the writer's.
-use mathlib.Core.Path.{refl, sym, ap, ◌∙◌}
+use mathlib.Core.Path.{sym, ap, ◌∙◌}
 use Rattle.exports.specs.Returned.{write_returned}
-use borrow.Author.Rules.{rules}
 use Rattle.exports.proofs.pj_book_write.Goals as goal
 
 pub returns-in-Written : goal.returns-in-Written

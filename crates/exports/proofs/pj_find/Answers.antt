@@ -1,5 +1,4 @@
 -- `pj_find` meets its contract: the answer and the rooms are the finder's.
-use borrow.Author.Rules.{rules}
 use Rattle.exports.proofs.pj_find.Goals as goal
 
 pub returns : goal.returns

@@ -1,8 +1,6 @@
 -- `pj_find_plain` meets its contract: the answer is the plain finder's.
 use mathlib.Core.Path.{sym, ap, ◌∙◌}
-use native.Mathlib.Omega.{arith}
 use Rattle.exports.specs.Returned.{plain_returned}
-use borrow.Author.Rules.{rules}
 use Rattle.exports.proofs.pj_find_plain.Goals as goal
 
 pub returns-in-Reach : goal.returns-in-Reach

@@ -1,5 +1,4 @@
 -- `pj_find_two` meets its contract: the answer and the three rooms are the finder's.
-use borrow.Author.Rules.{rules}
 use Rattle.exports.proofs.pj_find_two.Goals as goal
 
 pub returns : goal.returns

@@ -1,9 +1,8 @@
 -- `pj_formula_read` meets its contract: the answer is the reader's, and only a table is stored.
-use mathlib.Core.Path.{refl, sym, ap, ◌∙◌}
+use mathlib.Core.Path.{sym, ap, ◌∙◌}
 use Rattle.exports.specs.Returned.{formula_returned}
 use Rattle.formula.specs.declared.Answer.{Answer}
 use Rattle.exports.specs.Formula.{on_return}
-use borrow.Author.Rules.{rules}
 use Rattle.exports.proofs.pj_formula_read.Goals as goal
 
 pub returns-in-Accepted : goal.returns-in-Accepted

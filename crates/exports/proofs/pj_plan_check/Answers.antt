@@ -1,7 +1,6 @@
 -- `pj_plan_check` meets its contract: the answer is the plan check's.
 use mathlib.Core.Path.{sym, ap, ◌∙◌}
 use Rattle.exports.specs.Returned.{check_returned}
-use borrow.Author.Rules.{rules}
 use Rattle.exports.proofs.pj_plan_check.Goals as goal
 
 pub returns-in-Yes : goal.returns-in-Yes

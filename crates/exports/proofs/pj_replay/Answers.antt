@@ -1,8 +1,6 @@
 -- `pj_replay` meets its contract: the answer is the replay's, and the two lent numbers are what it reached.
 use mathlib.Core.Path.{sym, ap, ◌∙◌}
-use Rattle.station.specs.declared.shift.Replayed.{Replayed}
 use Rattle.exports.specs.Returned.{replay_returned, reached_after}
-use borrow.Author.Rules.{rules}
 use Rattle.exports.proofs.pj_replay.Goals as goal
 
 pub returns-in-Whole : goal.returns-in-Whole

@@ -1,7 +1,6 @@
 -- `pj_rules` meets its contract: the answer and the room are those of `make_book`.
 use mathlib.Core.Path.{sym, ap, ◌∙◌}
 use Rattle.exports.specs.Returned.{rules_returned}
-use borrow.Author.Rules.{rules}
 use Rattle.exports.proofs.pj_rules.Goals as goal
 
 pub returns-in-Made : goal.returns-in-Made

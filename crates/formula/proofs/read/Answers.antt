@@ -1,13 +1,9 @@
 -- `read` meets its contract: the refusals in the written order.
 use native.Mathlib.Omega.{arith}
-use mathlib.Core.Path.{refl}
-use Prim.Native.Nat.{◌≤◌}
-use lib.ListN.{length}
 use Rattle.ground.specs.Bounds.{SettingsFit}
 use Rattle.refusal.specs.declared.Refusal.TheVariants.{FormulaLength, StrayByte, LetterPast, Settings}
 use Rattle.formula.specs.Read.{LengthFits}
 use Rattle.formula.proofs.Answers.{refusal, no_settings, no_length, stray, past, clean-text}
-use borrow.Author.Rules.{rules}
 use Rattle.formula.proofs.read.Goals as goal
 
 pub returns-then-n-lt1 : goal.returns-then-n-lt1

@@ -1,11 +1,9 @@
 -- `sentence` meets its contract: the sum that begins the text ends with it, or the text breaks.
-use native.Mathlib.Omega.{arith}
 use Rattle.formula_grammar.specs.Grammar as G
 use Rattle.formula_grammar.proofs.PartLaws.{as_read}
 use Rattle.formula_grammar.proofs.BrokenLaws.{as_broken, sum-short}
 use Rattle.refusal.specs.declared.Refusal.TheVariants.{NotSentence}
 use Rattle.formula.proofs.Answers.{refusal, broken, whole}
-use borrow.Author.Rules.{rules}
 use Rattle.formula.proofs.sentence.Goals as goal
 
 pub returns-in-Broken : goal.returns-in-Broken

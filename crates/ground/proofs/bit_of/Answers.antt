@@ -1,5 +1,4 @@
 -- `bit_of` meets its contract: past the eighth bit a byte has none.
-use borrow.Author.Rules.{rules}
 use mathlib.Core.Path.{sym, refl}
 use native.Mathlib.Omega.{arith}
 use Rattle.ground.specs.Digits.{bit, digit}

@@ -1,7 +1,6 @@
 -- `peek` meets its contract: past the end `get_or` gives the 0 that it is handed.
 use mathlib.Core.Path.{sym}
 use lib.ListN.{get_or-eq_default}
-use borrow.Author.Rules.{rules}
 use Rattle.ground.proofs.peek.Goals as goal
 
 pub returns-else-at-bytes : goal.returns-else-at-bytes

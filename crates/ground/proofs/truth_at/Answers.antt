@@ -1,5 +1,4 @@
 -- `ground::truth_at` meets its contract: the bit is that of the byte where it is there, and of 0 past the end.
-use borrow.Author.Rules.{rules}
 use native.Mathlib.Omega.{arith}
 use Rattle.ground.proofs.Table.{truth_in, truth_out}
 use Rattle.ground.proofs.truth_at.Goals as goal

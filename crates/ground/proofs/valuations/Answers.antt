@@ -1,6 +1,5 @@
 -- `ground::valuations` meets its contract: 2 ^ n fits a byte.
-use borrow.Author.Rules.{rules}
-use mathlib.Core.Path.{sym, ap, ◌∙◌}
+use mathlib.Core.Path.{sym, ap}
 use Prim.Native.Nat.{◌^◌, ◌≤◌}
 use native.Mathlib.Nat.{one-mul, mod-eq_of_lt, min-eq_left, min-eq_right}
 use native.Mathlib.Omega.{arith}

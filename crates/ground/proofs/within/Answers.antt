@@ -1,11 +1,9 @@
 -- `within` meets its contract: the loop has found no bit from 2^n up to v.
-use borrow.Author.Rules.{rules}
-use Prim.Native.Nat.{◌-◌, ◌^◌, ◌≤◌}
 use mathlib.Core.Path.{sym, ◌∙◌}
 use native.Mathlib.Omega.{arith}
 use lib.Pow.{pow_mono}
 use lib.ListN.{drop}
-use Rattle.ground.proofs.Table.{WithinTo, within_more, not_within, within_all, within_seven}
+use Rattle.ground.proofs.Table.{within_more, not_within, within_all, within_seven}
 use Rattle.ground.proofs.within.Goals as goal
 
 pub returns-then-n-ge-SETTINGS_MOST : goal.returns-then-n-ge-SETTINGS_MOST

@@ -1,13 +1,10 @@
 -- `stray_line` meets its contract: the lines before `at` are plan lines, so the first stray line is the first from there on.
-use mathlib.Core.Path.{◌≡◌, refl, sym, ◌∙◌}
-use Prim.Native.Nat.{◌+◌, ◌-◌, ◌≤◌}
+use mathlib.Core.Path.{refl, sym, ◌∙◌}
+use Prim.Native.Nat.{◌-◌}
 use native.Mathlib.Numerals.{add-one}
 use native.Mathlib.Omega.{arith}
-use lib.ListN.{length, drop}
-use borrow.Author.Tests.{not-true, not-false}
-use Rattle.sheet_words.specs.Words.{split, newline}
+use Rattle.sheet_words.specs.Words.{newline}
 use Rattle.sheet_words.proofs.Pieces.{piece_is}
-use Rattle.plancheck_text.specs.Meaning.{stray_line}
 use Rattle.plancheck_text.proofs.TextLaws.{stray_unended, stray_ended, stray_turn}
 use Rattle.plancheck_text.proofs.stray_line.Goals as goal
 

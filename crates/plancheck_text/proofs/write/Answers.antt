@@ -1,10 +1,10 @@
 -- `write` meets its contract: the bytes of the lines before `at` were written, and those of the lines from there on are still to come.
-use mathlib.Core.Path.{◌≡◌, refl, sym, ap, ◌∙◌, subst}
+use mathlib.Core.Path.{refl, sym, ap, ◌∙◌, subst}
 use mathlib.Core.List.{List, [], ◌∷◌, ◌++◌, append_assoc, append-nil}
-use Prim.Native.Nat.{ℕ, ◌+◌, ◌-◌, ◌≤◌}
+use Prim.Native.Nat.{ℕ, ◌+◌, ◌-◌}
 use native.Mathlib.Numerals.{add-one}
 use native.Mathlib.Omega.{arith}
-use lib.ListN.{length, drop}
+use lib.ListN.{drop}
 use Rattle.print_room.specs.Wrote.{Wrote}
 use Rattle.print_room.proofs.Writing.{wrote_then, wrote-length}
 use Rattle.sheet_words.specs.Words.{split, newline}

@@ -1,5 +1,4 @@
 -- `cannot` meets its contract: one word from the room's front.
-use borrow.Author.Rules.{rules}
 use Rattle.print_answer.proofs.Fitted.{prints}
 use Rattle.print_answer.proofs.cannot.Goals as goal
 

@@ -1,5 +1,4 @@
 -- `reach` meets its contract: its first line, and the lines of the plan that its bytes are.
-use borrow.Author.Rules.{rules}
 use native.Mathlib.Omega.{arith}
 use Rattle.print_room.proofs.Writing.{wrote_then}
 use Rattle.print_answer.proofs.Lengths.{height-text-length, whole-shown, whole-readable}

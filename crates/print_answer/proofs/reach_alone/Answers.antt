@@ -1,5 +1,4 @@
 -- `reach_alone` meets its contract: it is the line alone.
-use borrow.Author.Rules.{rules}
 use Rattle.print_answer.proofs.Fitted.{prints}
 use Rattle.print_answer.proofs.reach_alone.Goals as goal
 

@@ -1,5 +1,4 @@
 -- `reach_line` meets its contract: its three pieces one after the other; a height has at most three digits.
-use borrow.Author.Rules.{rules}
 use native.Mathlib.Omega.{arith}
 use Rattle.print_room.proofs.Decimals.{decimal-length}
 use Rattle.print_room.proofs.Writing.{wrote_then}

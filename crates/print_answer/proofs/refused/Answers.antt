@@ -1,5 +1,4 @@
 -- `refused` meets its contract: the line, and its end.
-use borrow.Author.Rules.{rules}
 use native.Mathlib.Omega.{arith}
 use Rattle.print_room.proofs.Writing.{wrote_then}
 use Rattle.print_answer.proofs.Fitted.{prints}

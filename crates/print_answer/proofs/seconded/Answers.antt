@@ -1,5 +1,4 @@
 -- `seconded` meets its contract: by whether there is a second number; then the line, a space, the number, and the line's end.
-use borrow.Author.Rules.{rules}
 use native.Mathlib.Omega.{arith}
 use mathlib.Core.Path.{◌≡◌}
 use Prim.Native.Nat.{ℕ, suc, ◌-◌, ◌≤◌}
@@ -21,21 +20,21 @@ returns-then-above-eq0 c = rw c.if-above-eq0.true c.refused.ensures
 pub put-to-requires : goal.put-to-requires
 put-to-requires c =
     let lengths : (length (refused_at c.args.number c.args.place) ≤ 49) × (length (decimal (c.args.above - 1)) ≤ 20) =
-        (refused-at-length c.args.number c.args.place (omega arith) (omega arith), decimal-length 19 (c.args.above - 1) (omega arith)) in
+    (refused-at-length c.args.number c.args.place (omega arith) (omega arith), decimal-length 19 (c.args.above - 1) (omega arith)) in
     let d = lengths in
     record { below = omega (arith, c.refused_at-to.ensures.next_place, d.0, d.1) }
 
 pub number-to-requires : goal.number-to-requires
 number-to-requires c =
     let lengths : (length (refused_at c.args.number c.args.place) ≤ 49) × (length (decimal (c.args.above - 1)) ≤ 20) =
-        (refused-at-length c.args.number c.args.place (omega arith) (omega arith), decimal-length 19 (c.args.above - 1) (omega arith)) in
+    (refused-at-length c.args.number c.args.place (omega arith) (omega arith), decimal-length 19 (c.args.above - 1) (omega arith)) in
     let d = lengths in
     record { below = omega (arith, c.refused_at-to.ensures.next_place, c.put-to.ensures.next_place, d.0, d.1) }
 
 pub put-requires : goal.put-requires
 put-requires c =
     let lengths : (length (refused_at c.args.number c.args.place) ≤ 49) × (length (decimal (c.args.above - 1)) ≤ 20) =
-        (refused-at-length c.args.number c.args.place (omega arith) (omega arith), decimal-length 19 (c.args.above - 1) (omega arith)) in
+    (refused-at-length c.args.number c.args.place (omega arith) (omega arith), decimal-length 19 (c.args.above - 1) (omega arith)) in
     let d = lengths in
     record {
       below

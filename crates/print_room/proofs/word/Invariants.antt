@@ -1,11 +1,7 @@
 -- `word` meets its contract. The loop's invariant: the first i bytes of the text were written.
-use borrow.Author.Rules.{rules}
 use Prim.Native.Nat.{◌≤◌, ◌-◌}
-use native.Mathlib.Omega.{arith}
 use lib.ListN.{length, take}
-use lib.Seq.{length-take-le}
 use Rattle.print_room.specs.Wrote.{Wrote}
-use Rattle.print_room.proofs.Writing.{wrote-length, wrote-more, wrote-all}
 use Rattle.print_room.proofs.word.Given as goal
 
 abbrev pub invariant-loop-i : goal.invariant-loop-i

@@ -1,7 +1,6 @@
 -- `of_answer` meets its contract: one way for each first word.
 use mathlib.Core.Path.{sym, ◌∙◌}
 use Rattle.program_outcome.proofs.Answers.{by_reach, by_cannot, by_neither}
-use borrow.Author.Rules.{rules}
 use Rattle.program_outcome.proofs.of_answer.Goals as goal
 
 pub returns-then-begins : goal.returns-then-begins

@@ -1,5 +1,4 @@
 -- `closed_line` meets its contract: one line for no mark, and for any others three pieces one after the other.
-use borrow.Author.Rules.{rules}
 use mathlib.Core.Path.{sym}
 use native.Mathlib.Omega.{arith}
 use Rattle.print_room.proofs.Writing.{wrote_then, wrote_as}

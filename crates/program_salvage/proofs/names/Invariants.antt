@@ -1,12 +1,7 @@
 -- `names` meets its contract. The loop's invariant: the names of the first i settings were written.
-use mathlib.Core.Bool.{Bool}
-use mathlib.Core.Path.{◌≡◌, ap}
-use Prim.Native.Nat.{ℕ, ◌≤◌, ◌-◌}
-use native.Mathlib.Omega.{arith}
+use Prim.Native.Nat.{◌≤◌, ◌-◌}
 use Rattle.print_room.specs.Wrote.{Wrote}
-use Rattle.print_room.proofs.Writing.{wrote-length, wrote_as}
-use Rattle.program_salvage.specs.Closed.{closed_name, closed_names}
-use Rattle.program_salvage.proofs.ClosedLaws.{names-none, names-length, names_more}
+use Rattle.program_salvage.specs.Closed.{closed_names}
 use Rattle.program_salvage.proofs.names.Given as goal
 
 abbrev pub invariant-loop-i : goal.invariant-loop-i

@@ -3,7 +3,6 @@ use mathlib.Core.Path.{sym}
 use native.Mathlib.Omega.{arith}
 use lib.Seq.{length-take-le}
 use Rattle.program_shift.proofs.Fits.{read-most}
-use borrow.Author.Rules.{rules}
 use Rattle.program_shift.proofs.make.Goals as goal
 
 pub slice_bounds-store-end : goal.slice_bounds-store-end

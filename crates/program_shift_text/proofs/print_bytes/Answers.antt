@@ -2,7 +2,6 @@
 use mathlib.Core.Path.{sym}
 use Prim.Native.Nat.{ℕ}
 use lib.ListN.{length-replicate}
-use borrow.Author.Rules.{rules}
 use Rattle.program_shift_text.proofs.print_bytes.Goals as goal
 
 pub slice_bounds-print_by-end : goal.slice_bounds-print_by-end

@@ -3,7 +3,6 @@ use mathlib.Core.Path.{sym}
 use native.Mathlib.Omega.{arith}
 use lib.Seq.{length-take-le}
 use Rattle.program_shift_text.proofs.Fits.{read-most}
-use borrow.Author.Rules.{rules}
 use Rattle.program_shift_text.proofs.print_text_by.Goals as goal
 
 pub slice_bounds-print_bytes-end : goal.slice_bounds-print_bytes-end

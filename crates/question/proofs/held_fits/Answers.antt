@@ -1,7 +1,6 @@
 -- `held_fits` meets its contract: a shift leaves nothing of the mask exactly where all held settings are below n.
 use native.Mathlib.Omega.{arith}
 use Rattle.question.proofs.QuestionLaws.{held_tells}
-use borrow.Author.Rules.{rules}
 use Rattle.question.proofs.held_fits.Goals as goal
 
 pub returns : goal.returns

@@ -1,7 +1,6 @@
 -- `known_fits` meets its contract: by the bits of the two masks.
 use native.Mathlib.Omega.{arith}
 use Rattle.question.proofs.QuestionLaws.{known_past, known_tells}
-use borrow.Author.Rules.{rules}
 use Rattle.question.proofs.known_fits.Goals as goal
 
 pub returns-then-known-n-ne0 : goal.returns-then-known-n-ne0

@@ -1,11 +1,10 @@
 -- `learn_within` meets its contract: the loop has found the first j tables within.
-use borrow.Author.Rules.{rules}
-use Prim.Native.Nat.{◌-◌, ◌/◌, ◌*◌, ◌≤◌}
-use lib.ListN.{length, drop}
+use Prim.Native.Nat.{◌-◌, ◌*◌}
+use lib.ListN.{drop}
 use native.Mathlib.Omega.{arith}
 use Rattle.ground.specs.Table.{Within}
 use Rattle.ground.proofs.Answers.{told, untold}
-use Rattle.question.proofs.QuestionLaws.{LearnTo, learn-more, learn_bad, learn-all}
+use Rattle.question.proofs.QuestionLaws.{learn-more, learn_bad, learn-all}
 use Rattle.question.proofs.learn_within.Goals as goal
 
 pub loop-j-init : goal.loop-j-init
@@ -21,9 +20,11 @@ returns-then-not-within c =
 pub loop-j-preserved : goal.loop-j-preserved
 loop-j-preserved c =
     let r = c.loop-j in
-    let a = c.args in
-    (omega arith, learn-more a.n a.learn.now r.j r.invariant.1 (told ((let a = c.args in
-    Within a.n (drop (16 * c.loop-j.j) a.learn.now))) c.within.result c.within.ensures c.if-not-within.false))
+    let a = c.args in (
+      omega arith,
+      learn-more a.n a.learn.now r.j r.invariant.1 (told ((let a = c.args in
+          Within a.n (drop (16 * c.loop-j.j) a.learn.now))) c.within.result c.within.ensures c.if-not-within.false),
+    )
 
 pub returns : goal.returns
 returns c =

@@ -1,11 +1,7 @@
 -- `learn_within` meets its contract: the loop has found the first j tables within.
-use borrow.Author.Rules.{rules}
-use Prim.Native.Nat.{◌-◌, ◌/◌, ◌*◌, ◌≤◌}
-use lib.ListN.{length, drop}
-use native.Mathlib.Omega.{arith}
-use Rattle.ground.specs.Table.{Within}
-use Rattle.ground.proofs.Answers.{told, untold}
-use Rattle.question.proofs.QuestionLaws.{LearnTo, learn-more, learn_bad, learn-all}
+use Prim.Native.Nat.{◌-◌, ◌/◌, ◌≤◌}
+use lib.ListN.{length}
+use Rattle.question.proofs.QuestionLaws.{LearnTo}
 use Rattle.question.proofs.learn_within.Given as goal
 
 abbrev pub invariant-loop-j : goal.invariant-loop-j

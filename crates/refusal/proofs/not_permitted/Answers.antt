@@ -1,5 +1,4 @@
 -- `not_permitted` meets its contract: the second number is the one that its callee gives.
-use borrow.Author.Rules.{rules}
 use Rattle.refusal.proofs.not_permitted.Goals as goal
 
 pub returns : goal.returns

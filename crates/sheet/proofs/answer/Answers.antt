@@ -2,7 +2,6 @@
 use mathlib.Core.Path.{ap}
 use Rattle.refusal.specs.declared.Numbers.{Numbers}
 use Rattle.sheet.proofs.AnswerLaws.{stated-whole, stated-answers, refused-answers}
-use borrow.Author.Rules.{rules}
 use Rattle.sheet.proofs.answer.Goals as goal
 
 pub ask-requires : goal.ask-requires

@@ -3,7 +3,6 @@ use mathlib.Core.Path.{refl, subst}
 use mathlib.Core.Logic.{inl, inr}
 use Rattle.book_sound.specs.Promise.{Judges}
 use Rattle.sheet_ask.proofs.FoundLaws.{numbers-printed}
-use borrow.Author.Rules.{rules}
 use Rattle.sheet_ask.proofs.ask.Goals as goal
 
 pub ask_sound-requires : goal.ask_sound-requires
@@ -14,7 +13,7 @@ returns-in-Refused c =
     inl (
       c.in-Refused.why,
       subst (Judges c.args.book.now) c.in-Refused.is c.sound.ensures,
-      record { ranks-kept = refl; printed = numbers-printed c.in-Refused.why c.numbers-numbers.ensures c.refused.ensures },
+      record { ranks_kept = refl; printed = numbers-printed c.in-Refused.why c.numbers-numbers.ensures c.refused.ensures },
     )
 
 pub returns-in-Book : goal.returns-in-Book

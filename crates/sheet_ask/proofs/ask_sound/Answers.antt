@@ -2,14 +2,12 @@
 use mathlib.Core.Path.{ap}
 use Rattle.refusal.specs.declared.Numbers.{Numbers}
 use Rattle.sheet_ask.proofs.LegLaws.{one-learnt, one-valid, one-prints, two-learnt, two-valid, two-prints, refused-prints}
-use borrow.Author.Rules.{rules}
 use Rattle.sheet_ask.proofs.ask_sound.Goals as goal
 
 pub answered-requires : goal.answered-requires
 answered-requires c =
     let r = c.read_legs-reading.ensures in
-    let s = c.args.question.now in
-    (
+    let s = c.args.question.now in (
       one-learnt c.requires s _ _ _ r c.in-One.is,
       (c.args.settings, c.args.posts, one-valid c.requires s _ _ _ r c.in-One.is),
     )

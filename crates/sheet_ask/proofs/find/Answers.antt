@@ -3,7 +3,6 @@ use mathlib.Core.Path.{sym}
 use native.Mathlib.Omega.{arith}
 use lib.Seq.{length-take-le}
 use Rattle.sheet_ask.specs.Inner.{learn_in}
-use borrow.Author.Rules.{rules}
 use Rattle.sheet_ask.proofs.find.Goals as goal
 
 pub slice_bounds-find-end-2 : goal.slice_bounds-find-end-2

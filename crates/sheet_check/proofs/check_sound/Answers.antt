@@ -1,6 +1,5 @@
 -- `check_sound` meets its contract: a refusal is said as it was read, and what is asked is on the desk.
 use Rattle.sheet_check.proofs.CheckLaws.{question_refused, stated-learnt, question_asked}
-use borrow.Author.Rules.{rules}
 use Rattle.sheet_check.proofs.check_sound.Goals as goal
 
 pub check_text-requires : goal.check_text-requires

@@ -6,7 +6,6 @@ use lib.Seq.{length-take-le}
 use Rattle.plancheck.specs.Checks.{Checks}
 use Rattle.plancheck.specs.declared.answer.CheckAnswer.TheVariants.{Yes, Refused}
 use Rattle.sheet_check.proofs.CheckLaws.{text-refused, count_fits, text-judged}
-use borrow.Author.Rules.{rules}
 use Rattle.sheet_check.proofs.check_text.Goals as goal
 
 pub slice_bounds-read-end : goal.slice_bounds-read-end

@@ -5,7 +5,6 @@ use borrow.Author.Tests.{eq-eqb, ne_eqb}
 use Rattle.ground.specs.Text.{bytes}
 use Rattle.sheet_words.specs.Words.{begins}
 use Rattle.sheet_legs.specs.Legs.{is_then}
-use borrow.Author.Rules.{rules}
 use Rattle.sheet_legs.proofs.is_then.Goals as goal
 
 pub returns-then-line-ne4 : goal.returns-then-line-ne4

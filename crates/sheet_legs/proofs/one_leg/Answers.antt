@@ -7,7 +7,6 @@ use Rattle.sheet_question.specs.Reads.{within}
 use Rattle.sheet_question.proofs.ReadLaws.{within-fits}
 use Rattle.sheet_legs.specs.Legs.{one_leg}
 use Rattle.sheet_legs.proofs.LegLaws.{leg_refused, leg_asked, legs_refused, legs_one}
-use borrow.Author.Rules.{rules}
 use Rattle.sheet_legs.proofs.one_leg.Goals as goal
 
 pub returns-in-Refused : goal.returns-in-Refused

@@ -1,17 +1,15 @@
 -- `read_legs` meets its contract: the length, and then the legs, by where the line `then` is.
-use mathlib.Core.Path.{◌≡◌, sym, ap, ◌∙◌, subst}
+use mathlib.Core.Path.{sym, subst}
 use native.Mathlib.Omega.{arith}
-use lib.ListN.{length}
 use lib.Seq.{length-take-le}
 use Rattle.refusal.specs.declared.Refusal.TheVariants.{SheetLength}
 use Rattle.sheet_question.specs.Reads.{within}
 use Rattle.sheet_question.proofs.ReadLaws.{within-fits}
-use Rattle.sheet_legs.specs.Legs.{LegsMeaning, legs_meaning}
+use Rattle.sheet_legs.specs.Legs.{LegsMeaning}
 use Rattle.sheet_legs.specs.Reads.{CutsAt, ReadsLegs}
-use Rattle.sheet_legs.specs.declared.ThenLine.TheVariants.{Nowhere, At}
+use Rattle.sheet_legs.specs.declared.ThenLine.TheVariants.{At}
 use Rattle.sheet_legs.proofs.CutLaws.{legs_too_long, no_then}
 use Rattle.sheet_legs.proofs.LegLaws.{legs_refused, legs_parted}
-use borrow.Author.Rules.{rules}
 use Rattle.sheet_legs.proofs.read_legs.Goals as goal
 
 pub returns-then-text-gt-TEXT_MOST : goal.returns-then-text-gt-TEXT_MOST

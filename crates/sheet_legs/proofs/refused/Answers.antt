@@ -1,6 +1,5 @@
 -- `refused` meets its contract: on both desks nothing is asked.
 use mathlib.Core.Path.{refl}
-use borrow.Author.Rules.{rules}
 use Rattle.sheet_legs.proofs.refused.Goals as goal
 
 pub returns : goal.returns

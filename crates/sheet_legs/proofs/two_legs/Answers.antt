@@ -1,5 +1,5 @@
 -- `two_legs` meets its contract, by what is read of each leg, the first one first.
-use mathlib.Core.Path.{ap, ap₂, ◌∙◌}
+use mathlib.Core.Path.{ap, ap₂}
 use native.Mathlib.Omega.{arith}
 use mathlib.Core.Bool.{true}
 use Rattle.sheet_question.specs.Question.{QuestionMeaning, question_meaning}
@@ -8,7 +8,6 @@ use Rattle.sheet_question.specs.Reads.{within}
 use Rattle.sheet_question.proofs.ReadLaws.{within-fits}
 use Rattle.sheet_legs.specs.Legs.{first_then}
 use Rattle.sheet_legs.proofs.LegLaws.{leg_refused, leg_asked, legs_refused, legs_two}
-use borrow.Author.Rules.{rules}
 use Rattle.sheet_legs.proofs.two_legs.Goals as goal
 
 pub returns-in-Refused : goal.returns-in-Refused

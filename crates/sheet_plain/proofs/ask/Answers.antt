@@ -2,7 +2,6 @@
 use mathlib.Core.Path.{refl, subst}
 use mathlib.Core.Logic.{inl, inr}
 use Rattle.book_sound.specs.Promise.{Judges}
-use borrow.Author.Rules.{rules}
 use Rattle.sheet_plain.proofs.ask.Goals as goal
 
 pub ask_sound-requires : goal.ask_sound-requires

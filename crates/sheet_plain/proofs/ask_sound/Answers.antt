@@ -1,7 +1,6 @@
 -- `ask_sound` meets its contract: a refusal is said as it was read, and what is asked is answered.
 use Rattle.sheet_ask.proofs.AskLaws.{stated-learnt}
 use Rattle.sheet_plain.proofs.AskLaws.{question_refused, says_reach, says_cannot, never-refused}
-use borrow.Author.Rules.{rules}
 use Rattle.sheet_plain.proofs.ask_sound.Goals as goal
 
 pub found-requires : goal.found-requires

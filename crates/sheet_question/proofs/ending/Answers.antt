@@ -9,7 +9,6 @@ use Rattle.sheet_question.specs.Question.{QuestionMeaning, ending}
 use Rattle.sheet_question.specs.Reads.{ReadsQuestion}
 use Rattle.sheet_question.specs.declared.QuestionTold.TheVariants.{Stated}
 use Rattle.sheet_question.proofs.ReadLaws.{refused-is, ended, ended_late, ended-whole}
-use borrow.Author.Rules.{rules}
 use Rattle.sheet_question.proofs.ending.Goals as goal
 
 pub returns-then-rest-ne0 : goal.returns-then-rest-ne0

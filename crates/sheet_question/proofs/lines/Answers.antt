@@ -1,18 +1,15 @@
 -- `lines` meets its contract: what is left from `at` on is what was to be read from the start.
-use mathlib.Core.Path.{◌≡◌, refl, sym, ap, ◌∙◌, subst}
-use Prim.Native.Nat.{ℕ, suc, ◌+◌, ◌-◌, ◌≤◌}
+use mathlib.Core.Path.{refl, sym, ap, ◌∙◌, subst}
+use Prim.Native.Nat.{ℕ, suc, ◌+◌, ◌-◌}
 use native.Mathlib.Numerals.{add-one}
 use native.Mathlib.Omega.{arith}
-use lib.ListN.{length, drop}
+use lib.ListN.{drop}
 use Rattle.sheet_words.specs.Words.{split, newline}
 use Rattle.sheet_words.proofs.Pieces.{part, piece_is}
-use Rattle.sheet_question.specs.Asked.{Asked}
-use Rattle.sheet_question.specs.Desk.{AskedOnDesk}
 use Rattle.sheet_question.specs.LineSteps.{line_step}
 use Rattle.sheet_question.specs.Question.{QuestionMeaning, asked_from}
 use Rattle.sheet_question.specs.Reads.{ReadsQuestion}
 use Rattle.sheet_question.proofs.ReadLaws.{faulted_by, went_on_by, refused-is, rest-ends, rest-faults, rest_goes_on}
-use borrow.Author.Rules.{rules}
 use Rattle.sheet_question.proofs.lines.Goals as goal
 
 pub loop-due-init : goal.loop-due-init

@@ -5,7 +5,6 @@ use Rattle.refusal.specs.declared.Refusal.TheVariants.{SheetLength}
 use Rattle.sheet_rules.specs.Reading.{rules_of}
 use Rattle.sheet_rules.proofs.MeaningLaws.{refused_by, upto_by}
 use Rattle.sheet_reading.proofs.ReadLaws.{too_long, rules-at-fault, rules_fit, sheet-stated, question_at-fault, refused-is}
-use borrow.Author.Rules.{rules}
 use Rattle.sheet_reading.proofs.read.Goals as goal
 
 pub returns-then-sheet-gt-SHEET_MOST : goal.returns-then-sheet-gt-SHEET_MOST

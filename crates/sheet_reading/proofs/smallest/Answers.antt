@@ -1,6 +1,5 @@
 -- `smallest` meets its contract: both readers refuse the empty text, and leave the desk that says nothing.
 use Rattle.sheet_reading.proofs.ReadLaws.{smallest_desk}
-use borrow.Author.Rules.{rules}
 use Rattle.sheet_reading.proofs.smallest.Goals as goal
 
 pub returns : goal.returns

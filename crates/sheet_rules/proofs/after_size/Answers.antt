@@ -1,16 +1,11 @@
 -- `after_size` meets its contract: what is left from `at` on is what was to be read from the start.
-use mathlib.Core.Path.{◌≡◌, refl, sym, ◌∙◌}
-use Prim.Native.Nat.{suc, ◌+◌, ◌-◌, ◌≤◌}
+use mathlib.Core.Path.{refl, sym, ◌∙◌}
+use Prim.Native.Nat.{◌+◌, ◌-◌}
 use native.Mathlib.Omega.{arith}
-use lib.ListN.{length, drop}
-use borrow.Author.Tests.{not-true, not-false}
 use Rattle.ground.proofs.Bools.{true→T}
-use Rattle.sheet_words.specs.Words.{split, newline}
+use Rattle.sheet_words.specs.Words.{newline}
 use Rattle.sheet_words.proofs.Pieces.{part, piece_is}
-use Rattle.sheet_rules.specs.Rules.{Rules}
-use Rattle.sheet_rules.specs.Desk.{OnDesk}
 use Rattle.sheet_rules.specs.Steps.{line_step}
-use Rattle.sheet_rules.specs.Reading.{rules_from}
 use Rattle.sheet_rules.proofs.Turns.{faulted_by, went_on_by}
 use Rattle.sheet_rules.proofs.RuleTurns.{of_rules}
 use Rattle.sheet_rules.proofs.ReadLaws.{rest-ends, rest-stops, rest_goes_on, rest-next, refused-is, upto_is}

@@ -13,7 +13,6 @@ use Rattle.sheet_rules.specs.Reading.{rules_from, after_size}
 use Rattle.sheet_rules.specs.Reads.{ReadsUpto}
 use Rattle.sheet_rules.proofs.Turns.{faulted_by, went_on_by}
 use Rattle.sheet_rules.proofs.ReadLaws.{refused-is}
-use borrow.Author.Rules.{rules}
 use Rattle.sheet_rules.proofs.from_size.Goals as goal
 
 pub after_size-requires : goal.after_size-requires

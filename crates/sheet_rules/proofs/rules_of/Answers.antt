@@ -1,13 +1,11 @@
 -- `rules_of` meets its contract: the length; the lines that are passed over, of which each leaves the rest to be read; and the size.
-use mathlib.Core.Path.{◌≡◌, sym, ◌∙◌, subst}
-use Prim.Native.Nat.{suc, ◌+◌, ◌-◌, ◌≤◌}
+use mathlib.Core.Path.{sym, ◌∙◌, subst}
+use Prim.Native.Nat.{◌+◌, ◌-◌}
 use native.Mathlib.Omega.{arith}
-use lib.ListN.{length, drop}
-use borrow.Author.Tests.{not-true, not-false}
 use Rattle.refusal.specs.declared.Refusal.TheVariants.{Malformed, SheetLength}
-use Rattle.sheet_words.specs.Words.{split, newline}
+use Rattle.sheet_words.specs.Words.{newline}
 use Rattle.sheet_words.proofs.Pieces.{piece_is}
-use Rattle.sheet_rules.specs.Reading.{Reading, size_from, rules_of}
+use Rattle.sheet_rules.specs.Reading.{Reading}
 use Rattle.sheet_rules.specs.Reads.{ReadsUpto}
 use Rattle.sheet_rules.proofs.ReadLaws.{size-ends, size_passed, size-here, too_long, from_first, refused-is}
 use Rattle.sheet_rules.proofs.rules_of.Goals as goal

@@ -1,19 +1,13 @@
 -- `rules_of` meets its contract: the length; the lines that are passed over, of which each leaves the rest to be read; and the size.
-use mathlib.Core.Path.{◌≡◌, sym, ◌∙◌, subst}
-use Prim.Native.Nat.{suc, ◌+◌, ◌-◌, ◌≤◌}
-use native.Mathlib.Omega.{arith}
+use mathlib.Core.Path.{◌≡◌}
+use Prim.Native.Nat.{suc, ◌-◌, ◌≤◌}
 use lib.ListN.{length, drop}
-use borrow.Author.Tests.{not-true, not-false}
-use Rattle.refusal.specs.declared.Refusal.TheVariants.{Malformed, SheetLength}
 use Rattle.sheet_words.specs.Words.{split, newline}
-use Rattle.sheet_words.proofs.Pieces.{piece_is}
-use Rattle.sheet_rules.specs.Reading.{Reading, size_from, rules_of}
-use Rattle.sheet_rules.specs.Reads.{ReadsUpto}
-use Rattle.sheet_rules.proofs.ReadLaws.{size-ends, size_passed, size-here, too_long, from_first, refused-is}
+use Rattle.sheet_rules.specs.Reading.{size_from, rules_of}
 use Rattle.sheet_rules.proofs.rules_of.Given as goal
 
 abbrev pub invariant-loop-passes : goal.invariant-loop-passes
-invariant-loop-passes l =     (l.at ≤ length l.text) × (1 ≤ l.line) × (l.line ≤ suc l.at) × (length l.text ≤ 65536)
+invariant-loop-passes l = (l.at ≤ length l.text) × (1 ≤ l.line) × (l.line ≤ suc l.at) × (length l.text ≤ 65536)
     × (size_from l.passes l.most l.line (split newline (drop l.at l.text)) ≡ rules_of l.passes l.most l.text)
 
 abbrev pub decreases-loop-passes : goal.decreases-loop-passes

@@ -1,11 +1,8 @@
 -- `begins` meets its contract: the bytes before i agree, so what is left to be judged begins at i.
-use mathlib.Core.Path.{◌≡◌, refl, sym, ◌∙◌}
+use mathlib.Core.Path.{◌≡◌}
 use Prim.Native.Nat.{◌-◌, ◌≤◌}
-use native.Mathlib.Numerals.{add-one}
-use native.Mathlib.Omega.{arith}
 use lib.ListN.{length, drop}
 use Rattle.sheet_words.specs.Words.{begins}
-use Rattle.sheet_words.proofs.Fronts.{begins-short, begins_differs, begins-more, begins-whole}
 use Rattle.sheet_words.proofs.begins.Given as goal
 
 abbrev pub invariant-loop-i : goal.invariant-loop-i

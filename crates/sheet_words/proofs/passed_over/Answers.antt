@@ -1,6 +1,5 @@
 -- `passed_over` meets its contract: an empty line, and one by its first byte.
 use Rattle.sheet_words.proofs.Fronts.{passed_empty, passed_first}
-use borrow.Author.Rules.{rules}
 use Rattle.sheet_words.proofs.passed_over.Goals as goal
 
 pub returns-then-line-eq0 : goal.returns-then-line-eq0

@@ -1,11 +1,8 @@
 -- `piece_end` meets its contract: the piece that begins at i ends where the one that begins at `at` does.
-use mathlib.Core.Path.{◌≡◌, refl, sym, ◌∙◌}
+use mathlib.Core.Path.{◌≡◌}
 use Prim.Native.Nat.{◌-◌}
-use native.Mathlib.Numerals.{add-one}
-use native.Mathlib.Omega.{arith}
 use lib.ListN.{length}
 use Rattle.sheet_words.specs.Words.{piece_end}
-use Rattle.sheet_words.proofs.Pieces.{end_past, end_mark, end_other}
 use Rattle.sheet_words.proofs.piece_end.Given as goal
 
 abbrev pub invariant-loop-i : goal.invariant-loop-i

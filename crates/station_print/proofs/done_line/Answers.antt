@@ -3,7 +3,6 @@ use mathlib.Core.List.{[], ◌∷◌, ◌++◌}
 use Rattle.ground.specs.Text.{bytes}
 use Rattle.print_room.specs.Decimal.{decimal}
 use Rattle.print_room.proofs.Writing.{wrote_then, ends-left, ends-right}
-use borrow.Author.Rules.{rules}
 use Rattle.station_print.proofs.done_line.Goals as goal
 
 pub number-to-requires : goal.number-to-requires

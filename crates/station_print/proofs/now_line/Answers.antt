@@ -3,7 +3,6 @@ use mathlib.Core.List.{[], ◌∷◌, ◌++◌}
 use Rattle.ground.specs.Text.{bytes}
 use Rattle.print_room.proofs.Writing.{wrote_then, ends-left, ends-right}
 use Rattle.station_print.specs.Settings.{setting_names}
-use borrow.Author.Rules.{rules}
 use Rattle.station_print.proofs.now_line.Goals as goal
 
 pub names-to-requires : goal.names-to-requires

@@ -2,7 +2,6 @@
 use mathlib.Core.Path.{refl, subst}
 use mathlib.Core.Logic.{inl, inr}
 use Rattle.book_sound.specs.Promise.{Judges}
-use borrow.Author.Rules.{rules}
 use Rattle.station_print.proofs.print.Goals as goal
 
 pub print_start-requires : goal.print_start-requires

@@ -8,7 +8,6 @@ use Rattle.print_room.proofs.Writing.{wrote_none, wrote_as}
 use Rattle.station_print.specs.Printed.{stopped_text}
 use Rattle.station_print.proofs.Lengths.{reached-length}
 use Rattle.station_print.proofs.PrintLaws.{told-bytes, whole-count, stopped-next}
-use borrow.Author.Rules.{rules}
 use Rattle.station_print.proofs.print_bytes.Goals as goal
 
 pub reached-requires : goal.reached-requires

@@ -1,7 +1,6 @@
 -- `print_shift` meets its contract: text is read, and bytes that are not too long are run as they are.
 use mathlib.Core.Path.{refl, sym, ◌∙◌}
 use Rattle.station_print.proofs.PrintLaws.{shift_text, shift_long, shift_bytes}
-use borrow.Author.Rules.{rules}
 use Rattle.station_print.proofs.print_shift.Goals as goal
 
 pub returns-then-is_text : goal.returns-then-is_text

@@ -1,6 +1,5 @@
 -- `print_start` meets its contract, by what START says.
 use Rattle.station_print.proofs.PrintLaws.{start_nothing, start_settings}
-use borrow.Author.Rules.{rules}
 use Rattle.station_print.proofs.print_start.Goals as goal
 
 pub returns-in-Nothing : goal.returns-in-Nothing

@@ -4,7 +4,6 @@ use Prim.Native.Nat.{ℕ}
 use lib.ListN.{length-replicate}
 use lib.Seq.{length-take-le}
 use Rattle.station_print.proofs.PrintLaws.{text-refused, count_fits, text-readable, text-told}
-use borrow.Author.Rules.{rules}
 use Rattle.station_print.proofs.print_text.Goals as goal
 
 pub slice_bounds-room-end : goal.slice_bounds-room-end

@@ -1,7 +1,6 @@
 -- `reached` meets its contract: its two lines one after the other.
 use Rattle.print_room.proofs.Writing.{wrote_then, ends-left, ends-right}
 use Rattle.station_print.specs.Printed.{done_line, now_line, reached_text}
-use borrow.Author.Rules.{rules}
 use Rattle.station_print.proofs.reached.Goals as goal
 
 pub done_line-to-requires : goal.done_line-to-requires

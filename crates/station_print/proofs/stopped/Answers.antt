@@ -7,7 +7,6 @@ use Rattle.print_room.proofs.Writing.{wrote_then, wrote_as}
 use Rattle.station_print.specs.Faults.{fault_text}
 use Rattle.station_print.specs.Printed.{stopped_text}
 use Rattle.station_print.proofs.Lengths.{reached-length, fault-length}
-use borrow.Author.Rules.{rules}
 use Rattle.station_print.proofs.stopped.Goals as goal
 
 pub reached-to-requires : goal.reached-to-requires
@@ -31,7 +30,7 @@ fault_line-requires c =
               c.reached-to.ensures.next_place,
               reached-length a.n a.running c.requires.0 early,
               fault-length a.shift.now a.running.count c.peek-byte.result c.peek-seen.result a.number a.n a.running.present.0
-                  next.readable.shift_most early (omega (arith, c.peek-byte.ok)) (omega (arith, c.peek-seen.ok)) c.requires.0,
+                  next.readable.shift_most early (omega (arith, c.peek-byte.type_inv)) (omega (arith, c.peek-seen.type_inv)) c.requires.0,
             );
       },
     )

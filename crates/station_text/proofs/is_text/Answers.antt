@@ -2,7 +2,6 @@
 use mathlib.Core.Path.{refl, sym, ◌∙◌}
 use mathlib.Core.Bool.{true, false}
 use Rattle.station_text.proofs.LineLaws.{text_by}
-use borrow.Author.Rules.{rules}
 use Rattle.station_text.proofs.is_text.Goals as goal
 
 pub returns-then-begins : goal.returns-then-begins

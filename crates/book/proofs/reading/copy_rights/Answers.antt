@@ -1,9 +1,8 @@
 -- `book::reading::copy_rights` meets its contract: after i turns the tables of i settings stand in the room.
 use borrow.Author.Rules.{rules}
-use mathlib.Core.Path.{◌≡◌, refl, ap, ◌∙◌}
-use Prim.Native.Nat.{◌≤◌, ◌-◌}
+use mathlib.Core.Path.{refl, ap, ◌∙◌}
+use Prim.Native.Nat.{◌-◌}
 use native.Mathlib.Omega.{arith}
-use lib.ListN.{length}
 use lib.Seq.{sets}
 use Rattle.book_sound.specs.Sound.{in_order, rights_of}
 use Rattle.book.proofs.WriteLaws.{rights_step}

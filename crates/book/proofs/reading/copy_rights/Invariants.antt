@@ -1,12 +1,9 @@
 -- `book::reading::copy_rights` meets its contract: after i turns the tables of i settings stand in the room.
-use borrow.Author.Rules.{rules}
-use mathlib.Core.Path.{◌≡◌, refl, ap, ◌∙◌}
+use mathlib.Core.Path.{◌≡◌}
 use Prim.Native.Nat.{◌≤◌, ◌-◌}
-use native.Mathlib.Omega.{arith}
 use lib.ListN.{length}
 use lib.Seq.{sets}
-use Rattle.book_sound.specs.Sound.{in_order, rights_of}
-use Rattle.book.proofs.WriteLaws.{rights_step}
+use Rattle.book_sound.specs.Sound.{rights_of}
 use Rattle.book.proofs.reading.copy_rights.Given as goal
 
 abbrev pub invariant-loop-i : goal.invariant-loop-i

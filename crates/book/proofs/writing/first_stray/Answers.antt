@@ -1,6 +1,6 @@
 -- `book::writing::first_stray` meets its contract: the settings before i have tables as they must be.
 use borrow.Author.Rules.{rules}
-use Prim.Native.Nat.{ℕ, ◌≤◌, ◌<◌, ◌-◌}
+use Prim.Native.Nat.{◌-◌}
 use native.Mathlib.Omega.{arith}
 use borrow.Author.Count.{below_none, below_more}
 use Rattle.ground.specs.Tells.{Tells}
@@ -16,7 +16,7 @@ loop-i-init c = (search rules, below_none _)
 pub returns-then-not-are_tables : goal.returns-then-not-are_tables
 returns-then-not-are_tables c =
     let tested : Tells c.are_tables.result ((let a = c.args in Tables a.n a.m (tables_of a.rights.now c.loop-i.i))) =
-        let a = c.args in
+    let a = c.args in
     let i = c.loop-i.i in
     tells_iff c.are_tables.result (tables-there a.rights.now i) (tables-here a.rights.now i) c.are_tables.ensures in
     lowest-at c.loop-i-test.true c.loop-i.invariant.1
@@ -25,7 +25,7 @@ returns-then-not-are_tables c =
 pub loop-i-preserved : goal.loop-i-preserved
 loop-i-preserved c =
     let tested : Tells c.are_tables.result ((let a = c.args in Tables a.n a.m (tables_of a.rights.now c.loop-i.i))) =
-        let a = c.args in
+    let a = c.args in
     let i = c.loop-i.i in
     tells_iff c.are_tables.result (tables-there a.rights.now i) (tables-here a.rights.now i) c.are_tables.ensures in
     let r = c.loop-i in

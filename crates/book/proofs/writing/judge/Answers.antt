@@ -6,7 +6,6 @@ use Rattle.book_sound.specs.Sound.{tables_of}
 use Rattle.ground.specs.Search.{Lowest}
 use Rattle.ground.proofs.Answers.{lowest-all}
 use Rattle.book.proofs.RefusalLaws.{refuse_settings, refuse_posts, refuse_size, refuse_tables, refuse_room}
-use borrow.Author.Rules.{rules}
 use Rattle.book.proofs.writing.judge.Goals as goal
 
 pub returns-then-n-lt1 : goal.returns-then-n-lt1
@@ -20,35 +19,35 @@ returns-then-n-gt-SETTINGS_MOST c =
 pub returns-then-m-lt1 : goal.returns-then-m-lt1
 returns-then-m-lt1 c =
     let settings : SettingsFit c.args.n =
-        record { least = c.if-n-lt1.false; most = c.if-n-gt-SETTINGS_MOST.false } in
+    record { least = c.if-n-lt1.false; most = c.if-n-gt-SETTINGS_MOST.false } in
     let a = c.args in
     refuse_posts a.n a.m a.rights.now a.room.now (settings) (λ p. omega (arith, p.least))
 
 pub returns-then-m-gt-POSTS_MOST : goal.returns-then-m-gt-POSTS_MOST
 returns-then-m-gt-POSTS_MOST c =
     let settings : SettingsFit c.args.n =
-        record { least = c.if-n-lt1.false; most = c.if-n-gt-SETTINGS_MOST.false } in
+    record { least = c.if-n-lt1.false; most = c.if-n-gt-SETTINGS_MOST.false } in
     let a = c.args in
     refuse_posts a.n a.m a.rights.now a.room.now (settings) (λ p. omega (arith, p.most))
 
 pub returns-then-rights-n : goal.returns-then-rights-n
 returns-then-rights-n c =
     let settings : SettingsFit c.args.n =
-        record { least = c.if-n-lt1.false; most = c.if-n-gt-SETTINGS_MOST.false } in
+    record { least = c.if-n-lt1.false; most = c.if-n-gt-SETTINGS_MOST.false } in
     let posts : PostsFit c.args.m =
-        record { least = c.if-m-lt1.false; most = c.if-m-gt-POSTS_MOST.false } in
+    record { least = c.if-m-lt1.false; most = c.if-m-gt-POSTS_MOST.false } in
     let a = c.args in
     refuse_size a.n a.m a.rights.now a.room.now (settings) (posts) c.if-rights-n.true
 
 pub returns-then-stray-n : goal.returns-then-stray-n
 returns-then-stray-n c =
     let settings : SettingsFit c.args.n =
-        record { least = c.if-n-lt1.false; most = c.if-n-gt-SETTINGS_MOST.false } in
+    record { least = c.if-n-lt1.false; most = c.if-n-gt-SETTINGS_MOST.false } in
     let posts : PostsFit c.args.m =
-        record { least = c.if-m-lt1.false; most = c.if-m-gt-POSTS_MOST.false } in
+    record { least = c.if-m-lt1.false; most = c.if-m-gt-POSTS_MOST.false } in
     let strays : (let a = c.args in
     Lowest a.n (λ i. Tables a.n a.m (tables_of a.rights.now i)) c.first_stray-stray.result) =
-        c.first_stray-stray.ensures in
+    c.first_stray-stray.ensures in
     let a = c.args in
     refuse_tables a.n a.m a.rights.now a.room.now (settings) (posts) c.if-rights-n.false
     (strays) c.if-stray-n.true
@@ -56,12 +55,12 @@ returns-then-stray-n c =
 pub returns-then-room-n : goal.returns-then-room-n
 returns-then-room-n c =
     let settings : SettingsFit c.args.n =
-        record { least = c.if-n-lt1.false; most = c.if-n-gt-SETTINGS_MOST.false } in
+    record { least = c.if-n-lt1.false; most = c.if-n-gt-SETTINGS_MOST.false } in
     let posts : PostsFit c.args.m =
-        record { least = c.if-m-lt1.false; most = c.if-m-gt-POSTS_MOST.false } in
+    record { least = c.if-m-lt1.false; most = c.if-m-gt-POSTS_MOST.false } in
     let strays : (let a = c.args in
     Lowest a.n (λ i. Tables a.n a.m (tables_of a.rights.now i)) c.first_stray-stray.result) =
-        c.first_stray-stray.ensures in
+    c.first_stray-stray.ensures in
     let a = c.args in
     refuse_room a.n a.m a.rights.now a.room.now (settings) (posts) c.if-rights-n.false
     (lowest-all (strays) c.if-stray-n.false) (omega (arith, c.if-room-n))
@@ -69,13 +68,12 @@ returns-then-room-n c =
 pub returns : goal.returns
 returns c =
     let settings : SettingsFit c.args.n =
-        record { least = c.if-n-lt1.false; most = c.if-n-gt-SETTINGS_MOST.false } in
+    record { least = c.if-n-lt1.false; most = c.if-n-gt-SETTINGS_MOST.false } in
     let posts : PostsFit c.args.m =
-        record { least = c.if-m-lt1.false; most = c.if-m-gt-POSTS_MOST.false } in
+    record { least = c.if-m-lt1.false; most = c.if-m-gt-POSTS_MOST.false } in
     let strays : (let a = c.args in
     Lowest a.n (λ i. Tables a.n a.m (tables_of a.rights.now i)) c.first_stray-stray.result) =
-        c.first_stray-stray.ensures in
-    (
+    c.first_stray-stray.ensures in (
       record {
         settings = settings;
         posts = posts;

@@ -5,14 +5,13 @@ use Prim.Native.Nat.{◌+◌, ◌*◌, ◌≤◌}
 use lib.ListN.{length}
 use Rattle.book.specs.Written.{Writable}
 use Rattle.book.proofs.RoomLaws.{may_write, may-not_write, write_room}
-use borrow.Author.Rules.{rules}
 use Rattle.book.proofs.writing.write.Goals as goal
 
 pub overflow_cast-n : goal.overflow_cast-n
 overflow_cast-n c =
     let may : (let a = c.args in
     Writable a.n a.m a.rights.now × (512 * (1 + a.n) ≤ length a.room.now)) =
-        let a = c.args in
+    let a = c.args in
     may_write a.n a.m a.rights.now a.room.now c.judge-answer.result c.judge-answer.ensures c.in-Written.is in
     let w = may in omega (arith, w.0.settings.most)
 
@@ -20,7 +19,7 @@ pub overflow_cast-m : goal.overflow_cast-m
 overflow_cast-m c =
     let may : (let a = c.args in
     Writable a.n a.m a.rights.now × (512 * (1 + a.n) ≤ length a.room.now)) =
-        let a = c.args in
+    let a = c.args in
     may_write a.n a.m a.rights.now a.room.now c.judge-answer.result c.judge-answer.ensures c.in-Written.is in
     let w = may in omega (arith, w.0.posts.most)
 
@@ -28,7 +27,7 @@ pub write_head-requires : goal.write_head-requires
 write_head-requires c =
     let may : (let a = c.args in
     Writable a.n a.m a.rights.now × (512 * (1 + a.n) ≤ length a.room.now)) =
-        let a = c.args in
+    let a = c.args in
     may_write a.n a.m a.rights.now a.room.now c.judge-answer.result c.judge-answer.ensures c.in-Written.is in
     let w = may in omega (arith, w.1)
 
@@ -36,7 +35,7 @@ pub write_settings-requires : goal.write_settings-requires
 write_settings-requires c =
     let may : (let a = c.args in
     Writable a.n a.m a.rights.now × (512 * (1 + a.n) ≤ length a.room.now)) =
-        let a = c.args in
+    let a = c.args in
     may_write a.n a.m a.rights.now a.room.now c.judge-answer.result c.judge-answer.ensures c.in-Written.is in
     let w = may in
     omega (arith, w.0.settings.most, w.0.size, w.1, c.write_head.auto.room)
@@ -50,7 +49,7 @@ pub returns-in-Written : goal.returns-in-Written
 returns-in-Written c =
     let may : (let a = c.args in
     Writable a.n a.m a.rights.now × (512 * (1 + a.n) ≤ length a.room.now)) =
-        let a = c.args in
+    let a = c.args in
     may_write a.n a.m a.rights.now a.room.now c.judge-answer.result c.judge-answer.ensures c.in-Written.is in
     let a = c.args in
     let w = may in (

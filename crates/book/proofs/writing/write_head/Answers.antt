@@ -6,7 +6,6 @@ use Prim.Native.Nat.{ℕ, suc}
 use lib.ListN.{length-set, replicate, length-replicate}
 use Rattle.book_block.specs.Sealed.{head_block}
 use Rattle.book_block.proofs.SealLaws.{run_on, seal_on}
-use borrow.Author.Rules.{rules}
 use Rattle.book.proofs.writing.write_head.Goals as goal
 
 pub bounds-room-1 : goal.bounds-room-1

@@ -8,7 +8,6 @@ use Rattle.book_sound.specs.Sound.{tables_of}
 use Rattle.book_block.specs.Sealed.{setting_block}
 use Rattle.book_block.proofs.SealLaws.{run_on, seal_on}
 use Rattle.book_sound.proofs.RightsLaws.{length-tables}
-use borrow.Author.Rules.{rules}
 use Rattle.book.proofs.writing.write_setting.Goals as goal
 
 pub returns : goal.returns

@@ -1,9 +1,8 @@
 -- `book::writing::write_settings` meets its contract: after i turns the blocks of i settings stand in the room.
 use borrow.Author.Rules.{rules}
-use mathlib.Core.Path.{◌≡◌, refl, ap, ◌∙◌}
-use Prim.Native.Nat.{◌≤◌, ◌-◌}
+use mathlib.Core.Path.{refl, ap, ◌∙◌}
+use Prim.Native.Nat.{◌-◌}
 use native.Mathlib.Omega.{arith}
-use lib.ListN.{length}
 use lib.Seq.{sets}
 use Rattle.book_sound.specs.Sound.{in_order}
 use Rattle.book.specs.Written.{setting_blocks}

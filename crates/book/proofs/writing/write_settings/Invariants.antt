@@ -1,13 +1,9 @@
 -- `book::writing::write_settings` meets its contract: after i turns the blocks of i settings stand in the room.
-use borrow.Author.Rules.{rules}
-use mathlib.Core.Path.{◌≡◌, refl, ap, ◌∙◌}
+use mathlib.Core.Path.{◌≡◌}
 use Prim.Native.Nat.{◌≤◌, ◌-◌}
-use native.Mathlib.Omega.{arith}
 use lib.ListN.{length}
 use lib.Seq.{sets}
-use Rattle.book_sound.specs.Sound.{in_order}
 use Rattle.book.specs.Written.{setting_blocks}
-use Rattle.book.proofs.WriteLaws.{settings-step}
 use Rattle.book.proofs.writing.write_settings.Given as goal
 
 abbrev pub invariant-loop-i : goal.invariant-loop-i

@@ -1,5 +1,5 @@
 -- `book_block::bytes::are_zeros` meets its contract: the bytes from `first` up to j are zero.
-use Rattle.std.proofs.Common.{◌≡◌, ℕ, ◌-◌, ◌<◌, ◌≤◌, get_or, drop, sym, ◌∙◌, arith, get_or-drop, rules, below_more}
+use Rattle.std.proofs.Common.{sym, ◌∙◌, arith, get_or-drop, rules, below_more}
 use Rattle.book_block.specs.Kinds.{Zeros}
 use Rattle.book_block.proofs.bytes.are_zeros.Goals as goal
 

@@ -1,5 +1,5 @@
 -- `book_block::bytes::byte_at` meets its contract: past the end `get_or` gives its default, 0.
-use Rattle.std.proofs.Common.{◌+◌, sym, arith, rules}
+use Rattle.std.proofs.Common.{◌+◌, sym, arith}
 use lib.ListN.{get_or-eq_default}
 use Rattle.book_block.proofs.bytes.byte_at.Goals as goal
 

@@ -1,5 +1,5 @@
 -- `book_block::bytes::put16` meets its contract: two stores are a run of two bytes.
-use Rattle.std.proofs.Common.{add-one, arith, length-set, rules}
+use Rattle.std.proofs.Common.{add-one, arith, length-set}
 use Rattle.book_block.specs.Sealed.{bytes16}
 use Rattle.book_block.proofs.bytes.put16.Goals as goal
 

@@ -1,5 +1,5 @@
 -- `book_block::rule::rule_at` meets its contract: the setting's block, and the place of the table in it.
-use Rattle.std.proofs.Common.{ℕ, ◌+◌, ◌*◌, ap, arith, rules}
+use Rattle.std.proofs.Common.{ℕ, ◌+◌, ◌*◌, ap, arith}
 use Rattle.book_block.specs.Rule.{rule_place}
 use Rattle.book_block.proofs.RuleLaws.{place-small}
 use Rattle.book_block.proofs.rule.rule_at.Goals as goal

@@ -1,5 +1,4 @@
 -- `book_block::rule::table_at` meets its contract: in each arm of the `match` the right is the one that the place was added up for.
-use Rattle.std.proofs.Common.{rules}
 use Rattle.book_block.specs.Rule.{table_place}
 use Rattle.book_block.proofs.rule.table_at.Goals as goal
 

@@ -1,5 +1,5 @@
 -- `book_block::stray::are_tables` meets its contract: the bytes before j have only their live bits.
-use Rattle.std.proofs.Common.{ℕ, ◌-◌, ◌<◌, ◌≤◌, drop, arith, rules, below_more}
+use Rattle.std.proofs.Common.{drop, arith, rules, below_more}
 use Rattle.ground.specs.Tells.{Tells}
 use Rattle.book_block.specs.Live.{Clean}
 use Rattle.ground.proofs.Answers.{told, untold}
@@ -17,7 +17,7 @@ unfolding Clean
 returns-then-not-fits c =
     let tested : Tells c.fits.result ((let a = c.args in
     Alive a.n a.m (drop a.from a.bytes.now) c.loop-j.j)) =
-        let a = c.args in
+    let a = c.args in
     byte-tells a.bytes.now a.from c.loop-j.j _ _ a.n a.m c.fits.result
     c.byte_at.ensures c.live_bits.ensures c.fits.ensures in
     let a = c.args in
@@ -30,12 +30,14 @@ pub loop-j-preserved : goal.loop-j-preserved
 loop-j-preserved c =
     let tested : Tells c.fits.result ((let a = c.args in
     Alive a.n a.m (drop a.from a.bytes.now) c.loop-j.j)) =
-        let a = c.args in
+    let a = c.args in
     byte-tells a.bytes.now a.from c.loop-j.j _ _ a.n a.m c.fits.result
     c.byte_at.ensures c.live_bits.ensures c.fits.ensures in
-    let r = c.loop-j in
-    (omega arith, below_more _ r.j r.invariant.1 (told ((let a = c.args in
-    Alive a.n a.m (drop a.from a.bytes.now) c.loop-j.j)) c.fits.result (tested) c.if-not-fits.false))
+    let r = c.loop-j in (
+      omega arith,
+      below_more _ r.j r.invariant.1 (told ((let a = c.args in
+          Alive a.n a.m (drop a.from a.bytes.now) c.loop-j.j)) c.fits.result (tested) c.if-not-fits.false),
+    )
 
 pub returns : goal.returns
 unfolding Clean

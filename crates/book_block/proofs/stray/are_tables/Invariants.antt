@@ -1,9 +1,6 @@
 -- `book_block::stray::are_tables` meets its contract: the bytes before j have only their live bits.
-use Rattle.std.proofs.Common.{ℕ, ◌-◌, ◌<◌, ◌≤◌, drop, arith, rules, below_more}
-use Rattle.ground.specs.Tells.{Tells}
-use Rattle.book_block.specs.Live.{Clean}
-use Rattle.ground.proofs.Answers.{told, untold}
-use Rattle.book_block.proofs.StrayLaws.{live-most, tables-clean, clean-tables, dropped_small, Alive, byte-tells}
+use Rattle.std.proofs.Common.{ℕ, ◌-◌, ◌<◌, ◌≤◌, drop}
+use Rattle.book_block.proofs.StrayLaws.{Alive}
 use Rattle.book_block.proofs.stray.are_tables.Given as goal
 
 abbrev pub invariant-loop-j : goal.invariant-loop-j

@@ -1,6 +1,5 @@
 -- `book_block::stray::fits` meets its contract: a shift by k leaves nothing of a number below 2^k alone.
 use Rattle.ground.proofs.HighBits.{shift_none, shift_some}
-use Rattle.std.proofs.Common.{rules}
 use Rattle.book_block.proofs.stray.fits.Goals as goal
 
 pub returns-then-above-eq0 : goal.returns-then-above-eq0

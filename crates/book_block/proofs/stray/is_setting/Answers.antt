@@ -1,5 +1,4 @@
 -- `book_block::stray::is_setting` meets its contract: its tables first, then the bytes after them.
-use Rattle.std.proofs.Common.{drop, rules}
 use Rattle.book_block.specs.Kinds.{Tables}
 use Rattle.ground.proofs.Answers.{told, untold, tells_iff}
 use Rattle.book_block.proofs.stray.is_setting.Goals as goal

@@ -1,5 +1,5 @@
 -- `book_block::stray::live_bits` meets its contract: each way out is one case of `live`.
-use Rattle.std.proofs.Common.{◌≡◌, ◌*◌, ◌%◌, ◌^◌, ◌<◌, sym, arith, rules}
+use Rattle.std.proofs.Common.{◌≡◌, ◌*◌, ◌%◌, ◌^◌, sym, arith}
 use Rattle.book_block.proofs.StrayLaws.{live-none, live-some, live_full, one_shifted}
 use Rattle.book_block.proofs.stray.live_bits.Goals as goal
 
@@ -12,17 +12,17 @@ returns-then-n-ge-SETTINGS_MOST c = sym (live_full _ _ _ c.if-m-j.false c.if-n-g
 pub returns-then-all-first : goal.returns-then-all-first
 returns-then-all-first c =
     let shifted : 1 * 2 ^ c.args.n % 2 ^ 64 ≡ 2 ^ c.args.n =
-        one_shifted _ c.if-n-ge-SETTINGS_MOST.false in
+    one_shifted _ c.if-n-ge-SETTINGS_MOST.false in
     rw (live-some _ _ _ c.if-m-j.false) (omega (arith, shifted))
 
 pub returns-then-all-first-ge-BYTE : goal.returns-then-all-first-ge-BYTE
 returns-then-all-first-ge-BYTE c =
     let shifted : 1 * 2 ^ c.args.n % 2 ^ 64 ≡ 2 ^ c.args.n =
-        one_shifted _ c.if-n-ge-SETTINGS_MOST.false in
+    one_shifted _ c.if-n-ge-SETTINGS_MOST.false in
     rw (live-some _ _ _ c.if-m-j.false) (omega (arith, shifted))
 
 pub returns : goal.returns
 returns c =
     let shifted : 1 * 2 ^ c.args.n % 2 ^ 64 ≡ 2 ^ c.args.n =
-        one_shifted _ c.if-n-ge-SETTINGS_MOST.false in
+    one_shifted _ c.if-n-ge-SETTINGS_MOST.false in
     rw (live-some _ _ _ c.if-m-j.false) (omega (arith, shifted))

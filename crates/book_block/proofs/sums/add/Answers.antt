@@ -1,6 +1,5 @@
 -- `book_block::sums::add` meets its contract: the two sums that wrap, one after the other.
 use Rattle.book_block.specs.Check.{added}
-use Rattle.std.proofs.Common.{rules}
 use Rattle.book_block.proofs.sums.add.Goals as goal
 
 pub returns : goal.returns

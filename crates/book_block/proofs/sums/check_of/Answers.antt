@@ -1,5 +1,5 @@
 -- `book_block::sums::check_of` meets its contract: after i turns the sums are those after the first i bytes.
-use Rattle.std.proofs.Common.{◌≡◌, ◌-◌, ◌≤◌, drop, sym, refl, ap, ◌∙◌, arith, get_or-drop, rules}
+use Rattle.std.proofs.Common.{drop, sym, refl, ap, ◌∙◌, arith, get_or-drop, rules}
 use Rattle.book_block.specs.Check.{sums_after, check}
 use Rattle.book_block.proofs.CheckLaws.{sums-step}
 use Rattle.book_block.proofs.sums.check_of.Goals as goal

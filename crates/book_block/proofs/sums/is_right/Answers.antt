@@ -1,5 +1,5 @@
 -- `book_block::sums::is_right` meets its contract: each test is one field of `RightCheck`.
-use Rattle.std.proofs.Common.{sym, ap, ◌∙◌, rules}
+use Rattle.std.proofs.Common.{sym, ap, ◌∙◌}
 use Rattle.book_block.specs.declared.sums.Sums.{Sums}
 use Rattle.book_block.proofs.sums.is_right.Goals as goal
 

@@ -1,5 +1,5 @@
 -- `book_block::sums::number_at` meets its contract: each of the two bytes is one that `byte_at` found.
-use Rattle.std.proofs.Common.{◌+◌, ◌*◌, sym, ◌∙◌, ap₂, get_or-drop, rules}
+use Rattle.std.proofs.Common.{◌+◌, ◌*◌, sym, ◌∙◌, ap₂, get_or-drop}
 use Rattle.book_block.specs.Check.{number16}
 use Rattle.book_block.proofs.sums.number_at.Goals as goal
 

@@ -1,5 +1,5 @@
 -- `book_block::sums::seal` meets its contract: two numbers of two bytes are a run of four, and the sums are those of the block.
-use Rattle.std.proofs.Common.{◌+◌, ◌++◌, sym, ap, ◌∙◌, add_assoc, arith, rules}
+use Rattle.std.proofs.Common.{◌+◌, ◌++◌, sym, ap, ◌∙◌, add_assoc, arith}
 use lib.Seq.{sets}
 use Rattle.book_block.specs.declared.sums.Sums.{Sums}
 use Rattle.book_block.specs.Sealed.{bytes16, check_bytes}

@@ -1,6 +1,5 @@
 -- `close` meets its contract: 508 zero bytes and their check are the closed block.
 use Rattle.book_salvage.proofs.LaidLaws.{close-on}
-use borrow.Author.Rules.{rules}
 use Rattle.book_salvage.proofs.closing.close.Goals as goal
 
 pub returns : goal.returns

@@ -2,7 +2,6 @@
 use native.Mathlib.Omega.{arith}
 use Rattle.book_block.specs.Check.{block}
 use Rattle.book_salvage.proofs.LaidLaws.{lay_all}
-use borrow.Author.Rules.{rules}
 use Rattle.book_salvage.proofs.closing.lay_book.Goals as goal
 
 pub lay_settings-requires : goal.lay_settings-requires

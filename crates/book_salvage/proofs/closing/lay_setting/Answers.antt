@@ -2,7 +2,6 @@
 use mathlib.Core.Path.{sym, ◌∙◌}
 use native.Mathlib.Omega.{arith}
 use Rattle.book_salvage.proofs.LaidLaws.{lay_closed, lay_kept}
-use borrow.Author.Rules.{rules}
 use Rattle.book_salvage.proofs.closing.lay_setting.Goals as goal
 
 pub close-requires : goal.close-requires

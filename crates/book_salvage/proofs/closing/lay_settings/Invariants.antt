@@ -1,14 +1,10 @@
 -- `lay_settings` meets its contract: after i turns the blocks of i settings stand in the room.
-use borrow.Author.Rules.{rules}
-use mathlib.Core.Path.{◌≡◌, refl, ap, ◌∙◌}
-use Prim.Native.Nat.{◌+◌, ◌*◌, ◌≤◌, ◌-◌}
-use native.Mathlib.Omega.{arith}
+use mathlib.Core.Path.{◌≡◌}
+use Prim.Native.Nat.{◌≤◌, ◌-◌}
 use lib.ListN.{length}
 use lib.Seq.{sets}
 use Rattle.book_sound.specs.Sound.{in_order}
-use Rattle.book_sound.proofs.Laid.{lay_on}
 use Rattle.book_salvage.specs.Salvaged.{setting_after}
-use Rattle.book_salvage.proofs.LaidLaws.{length-after}
 use Rattle.book_salvage.proofs.closing.lay_settings.Given as goal
 
 abbrev pub invariant-loop-i : goal.invariant-loop-i

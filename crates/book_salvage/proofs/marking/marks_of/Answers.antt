@@ -1,7 +1,7 @@
 -- `marks_of` meets its contract: after i turns there is a mark for each of i settings whose block does not stand.
 use borrow.Author.Rules.{rules}
 use mathlib.Core.Path.{◌≡◌, subst}
-use Prim.Native.Nat.{◌≤◌, ◌-◌}
+use Prim.Native.Nat.{◌-◌}
 use native.Mathlib.Omega.{arith}
 use Rattle.book_salvage.proofs.MarkLaws.{MarkedTo, marked-none, marked_more, marked_all}
 use Rattle.book_salvage.proofs.marking.marks_of.Goals as goal

@@ -1,6 +1,6 @@
 -- `ones` meets its contract: after i turns the first i marks are counted.
-use mathlib.Core.Path.{◌≡◌, refl, ap, ◌∙◌}
-use Prim.Native.Nat.{◌≤◌, ◌-◌}
+use mathlib.Core.Path.{refl, ap, ◌∙◌}
+use Prim.Native.Nat.{◌-◌}
 use native.Mathlib.Omega.{arith}
 use Rattle.book_salvage.specs.Salvaged.{ones}
 use Rattle.book_salvage.proofs.MarkLaws.{ones-most, ones_step}

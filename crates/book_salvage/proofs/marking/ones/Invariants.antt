@@ -1,10 +1,7 @@
 -- `ones` meets its contract: after i turns the first i marks are counted.
-use mathlib.Core.Path.{◌≡◌, refl, ap, ◌∙◌}
+use mathlib.Core.Path.{◌≡◌}
 use Prim.Native.Nat.{◌≤◌, ◌-◌}
-use native.Mathlib.Omega.{arith}
 use Rattle.book_salvage.specs.Salvaged.{ones}
-use Rattle.book_salvage.proofs.MarkLaws.{ones-most, ones_step}
-use borrow.Author.Rules.{rules}
 use Rattle.book_salvage.proofs.marking.ones.Given as goal
 
 abbrev pub invariant-loop-i : goal.invariant-loop-i

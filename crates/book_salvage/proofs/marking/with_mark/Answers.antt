@@ -5,7 +5,6 @@ use native.Mathlib.Omega.{arith}
 use Prim.Native.Nat.{ℕ, suc, ◌+◌, ◌^◌, ◌<◌}
 use Rattle.ground.specs.Digits.{bit}
 use Rattle.book_salvage.proofs.MarkLaws.{mark_is, mark_most, unmarked, unmarked_small, marked-here, marked-below, marked-small}
-use borrow.Author.Rules.{rules}
 use Rattle.book_salvage.proofs.marking.with_mark.Goals as goal
 
 pub returns-then-stays : goal.returns-then-stays

@@ -1,5 +1,4 @@
 -- `found_as` meets its contract, case by case.
-use borrow.Author.Rules.{rules}
 use mathlib.Core.Path.{sym, ap, ◌∙◌}
 use Rattle.exports.specs.Returned.{find_returned}
 use Rattle.exports.proofs.packing.found_as.Goals as goal

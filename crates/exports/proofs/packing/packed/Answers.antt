@@ -1,7 +1,6 @@
 -- `packed` meets its contract: its three numbers are the refusal's, and the number is a byte.
-use borrow.Author.Rules.{rules}
 use mathlib.Core.Path.{sym, ap, subst, ◌∙◌}
-use Prim.Native.Nat.{ℕ, ◌+◌, ◌*◌, ◌%◌, ◌^◌, ◌<◌}
+use Prim.Native.Nat.{◌+◌, ◌*◌, ◌%◌, ◌^◌, ◌<◌}
 use Rattle.refusal.specs.declared.Numbers.{Numbers}
 use Rattle.refusal.proofs.NumberLaws.{number_small}
 use Rattle.exports.specs.Packed.{packed}

@@ -1,10 +1,9 @@
 -- `packed_at` meets its contract: two of its numbers are the refusal's, and the number is a byte.
 use mathlib.Core.Path.{sym, ap, subst, ◌∙◌}
-use Prim.Native.Nat.{ℕ, ◌+◌, ◌*◌, ◌%◌, ◌^◌, ◌<◌}
+use Prim.Native.Nat.{◌+◌, ◌*◌, ◌%◌, ◌^◌, ◌<◌}
 use Rattle.refusal.specs.declared.Numbers.{Numbers}
 use Rattle.refusal.proofs.NumberLaws.{number_small}
 use Rattle.exports.specs.Packed.{packed_at}
-use borrow.Author.Rules.{rules}
 use Rattle.exports.proofs.packing.packed_at.Goals as goal
 
 pub joined-requires : goal.joined-requires

@@ -3,7 +3,6 @@ use mathlib.Core.Path.{refl}
 use native.Mathlib.Omega.{arith}
 use Rattle.finder.specs.Tables.{Ranked}
 use Rattle.finder.proofs.StartLaws.{no_rank, room_start, too_long, reached}
-use borrow.Author.Rules.{rules}
 use Rattle.finder.proofs.answer.from_start.Goals as goal
 
 pub returns-then-height : goal.returns-then-height
@@ -12,7 +11,7 @@ returns-then-height c = λ S t. (no_rank t c.requires.0 c.if-height.true, refl)
 pub length-bytes-requires : goal.length-bytes-requires
 length-bytes-requires c =
     let ranked : Ranked c.args.n c.args.set.now c.args.look.now c.args.ranks.now c.args.start =
-        let pre = c.requires in record {
+    let pre = c.requires in record {
       few = pre.2.1.few;
       state = pre.0;
       size = pre.1;
@@ -28,7 +27,7 @@ returns-then-plan-bytes c = λ S t. (refl, too_long c.length-bytes.ensures.1 c.a
 pub write-requires : goal.write-requires
 write-requires c =
     let ranked : Ranked c.args.n c.args.set.now c.args.look.now c.args.ranks.now c.args.start =
-        let pre = c.requires in record {
+    let pre = c.requires in record {
       few = pre.2.1.few;
       state = pre.0;
       size = pre.1;
@@ -41,7 +40,7 @@ write-requires c =
 pub returns : goal.returns
 returns c =
     let ranked : Ranked c.args.n c.args.set.now c.args.look.now c.args.ranks.now c.args.start =
-        let pre = c.requires in record {
+    let pre = c.requires in record {
       few = pre.2.1.few;
       state = pre.0;
       size = pre.1;

@@ -1,6 +1,5 @@
 -- `finder::finding::search` meets its contract: the tables tell the system of the question's rules, and the ranks are its ranks; they and the answer are
 -- the same without the sets that change nothing, which is the question's system.
-use borrow.Author.Rules.{rules}
 use mathlib.Core.Path.{◌≡◌, sym, subst}
 use Prim.Native.Nat.{ℕ, ◌^◌, ◌<◌}
 use native.Mathlib.Omega.{arith}
@@ -20,16 +19,15 @@ use Rattle.finder.proofs.finding.search.Goals as goal
 pub from_start-requires : goal.from_start-requires
 from_start-requires c =
     let systemHere : System =
-        ruled_system c.args.n c.args.book.now c.args.question (goal_of c.args.make.now c.args.learn.now) in
+    ruled_system c.args.n c.args.book.now c.args.question (goal_of c.args.make.now c.args.learn.now) in
     let told : TablesTell c.args.n c.posts_allowed-set.result c.posts_allowed-look.result c.fill_ranks.new.ranks (systemHere) =
-        tables_tell c.requires.0.1 c.posts_allowed-set.ensures c.posts_allowed-look.ensures
+    tables_tell c.requires.0.1 c.posts_allowed-set.ensures c.posts_allowed-look.ensures
     c.made-done.ensures c.learnt-known.ensures c.fill_ranks.ensures c.requires.1 in
     let filled : RanksFilled c.args.n (systemHere) c.args.ranks.now c.fill_ranks.new.ranks =
-        ranks-filled c.requires.0.1 c.posts_allowed-set.ensures c.posts_allowed-look.ensures
+    ranks-filled c.requires.0.1 c.posts_allowed-set.ensures c.posts_allowed-look.ensures
     c.made-done.ensures c.learnt-known.ensures c.fill_ranks.ensures c.requires.1 in
     let start-here : c.number-start.result ≡ start_of c.args.question =
-        start_is c.args.question c.at_start.ensures c.number-start.ensures in
-    (
+    start_is c.args.question c.at_start.ensures c.number-start.ensures in (
       subst (λ (x : ℕ). x < 7 ^ c.args.n) (sym (start-here)) (valid_start c.requires.0.1),
       omega (arith, c.requires.1, (filled).size),
       (systemHere, told),
@@ -38,21 +36,20 @@ from_start-requires c =
 pub returns : goal.returns
 returns c =
     let systemHere : System =
-        ruled_system c.args.n c.args.book.now c.args.question (goal_of c.args.make.now c.args.learn.now) in
+    ruled_system c.args.n c.args.book.now c.args.question (goal_of c.args.make.now c.args.learn.now) in
     let asked : (P : System → Type 0) → P (without (systemHere)) → P (system_of c.args.n c.args.book.now c.args.question (goal_of c.args.make.now c.args.learn.now)) =
-        λ P. λ h. from_ruled c.args.n c.args.book.now c.args.question (goal_of c.args.make.now c.args.learn.now) P h in
+    λ P. λ h. from_ruled c.args.n c.args.book.now c.args.question (goal_of c.args.make.now c.args.learn.now) P h in
     let told : TablesTell c.args.n c.posts_allowed-set.result c.posts_allowed-look.result c.fill_ranks.new.ranks (systemHere) =
-        tables_tell c.requires.0.1 c.posts_allowed-set.ensures c.posts_allowed-look.ensures
+    tables_tell c.requires.0.1 c.posts_allowed-set.ensures c.posts_allowed-look.ensures
     c.made-done.ensures c.learnt-known.ensures c.fill_ranks.ensures c.requires.1 in
     let filled : RanksFilled c.args.n (systemHere) c.args.ranks.now c.fill_ranks.new.ranks =
-        ranks-filled c.requires.0.1 c.posts_allowed-set.ensures c.posts_allowed-look.ensures
+    ranks-filled c.requires.0.1 c.posts_allowed-set.ensures c.posts_allowed-look.ensures
     c.made-done.ensures c.learnt-known.ensures c.fill_ranks.ensures c.requires.1 in
     let start-here : c.number-start.result ≡ start_of c.args.question =
-        start_is c.args.question c.at_start.ensures c.number-start.ensures in
-    (
-      asked (λ (S : System). RanksFilled c.args.n S c.args.ranks.now c.fill_ranks.last.1.1.1.1.1.0) (ranks-without.0 (filled)),
-      asked (λ (S : System). AnswersFrom S (start_of c.args.question) c.args.plan.now c.from_start.result c.from_start.last.1.1.1.1.1.0)
-          ((answers-without (systemHere) (start_of c.args.question) c.args.plan.now c.from_start.result c.from_start.last.1.1.1.1.1.0).0
-          (subst (λ (x : ℕ). AnswersFrom (systemHere) x c.args.plan.now c.from_start.result c.from_start.last.1.1.1.1.1.0)
+    start_is c.args.question c.at_start.ensures c.number-start.ensures in (
+      asked (λ (S : System). RanksFilled c.args.n S c.args.ranks.now c.fill_ranks.new.ranks) (ranks-without.0 (filled)),
+      asked (λ (S : System). AnswersFrom S (start_of c.args.question) c.args.plan.now c.from_start.result c.from_start.new.plan)
+          ((answers-without (systemHere) (start_of c.args.question) c.args.plan.now c.from_start.result c.from_start.new.plan).0
+          (subst (λ (x : ℕ). AnswersFrom (systemHere) x c.args.plan.now c.from_start.result c.from_start.new.plan)
           (start-here) (c.from_start.ensures (systemHere) (told)))),
     )

@@ -1,27 +1,24 @@
 -- `choose` meets its contract: the loop has found no act of the pairs below `pair` that leads lower.
-use Prim.Native.Nat.{◌-◌, ◌≤◌}
+use Prim.Native.Nat.{◌-◌}
 use mathlib.Core.Path.{ap, ◌∙◌, subst}
-use borrow.Author.Rules.{rules}
 use native.Mathlib.Nat.{min-eq_left}
 use native.Mathlib.Omega.{arith}
-use Rattle.plan.specs.Plans.{System}
 use Rattle.finder_sides.specs.Sides.{now_side_number}
-use Rattle.finder.specs.Tables.{TablesTell, Tries, family}
-use Rattle.finder.proofs.StepLaws.{NoneTo, none_left, none_more, smallest}
+use Rattle.finder.specs.Tables.{Tries, family}
+use Rattle.finder.proofs.StepLaws.{none_left, none_more, smallest}
 use Rattle.finder.proofs.steps.choose.Goals as goal
 
 pub loop-pair-init : goal.loop-pair-init
 loop-pair-init c = (omega arith, λ S t x l. absurd (omega arith))
 
 pub step_of-requires : goal.step_of-requires
-step_of-requires c =
-    (
-      c.requires.0,
-      c.requires.1,
-      c.requires.2,
-      c.side_of-side.ensures ∙ ap (λ n. now_side_number n c.args.k) (min-eq_left c.requires.0),
-      c.loop-pair-test.true,
-    )
+step_of-requires c = (
+  c.requires.0,
+  c.requires.1,
+  c.requires.2,
+  c.side_of-side.ensures ∙ ap (λ n. now_side_number n c.args.k) (min-eq_left c.requires.0),
+  c.loop-pair-test.true,
+)
 
 pub returns-in-Do : goal.returns-in-Do
 returns-in-Do c =

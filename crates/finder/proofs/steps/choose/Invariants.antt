@@ -1,13 +1,8 @@
 -- `choose` meets its contract: the loop has found no act of the pairs below `pair` that leads lower.
 use Prim.Native.Nat.{◌-◌, ◌≤◌}
-use mathlib.Core.Path.{ap, ◌∙◌, subst}
-use borrow.Author.Rules.{rules}
-use native.Mathlib.Nat.{min-eq_left}
-use native.Mathlib.Omega.{arith}
 use Rattle.plan.specs.Plans.{System}
-use Rattle.finder_sides.specs.Sides.{now_side_number}
-use Rattle.finder.specs.Tables.{TablesTell, Tries, family}
-use Rattle.finder.proofs.StepLaws.{NoneTo, none_left, none_more, smallest}
+use Rattle.finder.specs.Tables.{TablesTell}
+use Rattle.finder.proofs.StepLaws.{NoneTo}
 use Rattle.finder.proofs.steps.choose.Given as goal
 
 abbrev pub invariant-loop-pair : goal.invariant-loop-pair

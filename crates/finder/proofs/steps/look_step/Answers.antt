@@ -1,5 +1,4 @@
 -- `look_step` meets its contract: by the digit, the bit of the table and the three entries of the rank table.
-use borrow.Author.Rules.{rules}
 use Prim.Native.Nat.{ℕ, ◌<◌, ◌≤◌}
 use mathlib.Core.Path.{sym, ◌∙◌, subst}
 use mathlib.Core.Bool.{false, true}
@@ -49,7 +48,7 @@ bounds-ranks-k c =
     omega (arith, pre.1, pre.2)
 
 pub overflow_cast-no : goal.overflow_cast-no
-overflow_cast-no c = omega (arith, c.look_at-no.ok)
+overflow_cast-no c = omega (arith, c.look_at-no.type_inv)
 
 pub bounds-ranks-no : goal.bounds-ranks-no
 bounds-ranks-no c =
@@ -65,7 +64,7 @@ returns-then-rank-ranks c =
     (rank-at args.ranks.now c.look_at-no.ensures) c.if-rank-ranks.true)
 
 pub overflow_cast-yes : goal.overflow_cast-yes
-overflow_cast-yes c = omega (arith, c.look_at-yes.ok)
+overflow_cast-yes c = omega (arith, c.look_at-yes.type_inv)
 
 pub bounds-ranks-yes : goal.bounds-ranks-yes
 bounds-ranks-yes c =
@@ -96,3 +95,6 @@ returns c =
     (rank-at args.ranks.now c.look_at-no.ensures) c.if-rank-ranks.false)
     (subst (λ (x : ℕ). x < get_or args.ranks.now args.k 0)
     (rank-at args.ranks.now c.look_at-yes.ensures) c.if-rank-ranks-2.false)
+
+pub bounds-look-side : goal.bounds-look-side
+bounds-look-side c = omega (arith, c.requires.3, below-sides c.args.n c.args.k c.requires.0)

@@ -1,8 +1,8 @@
 -- `lowest` meets its contract: the loop has found no bit below q.
-use Prim.Native.Nat.{◌-◌, ◌≤◌}
+use Prim.Native.Nat.{◌-◌}
 use native.Mathlib.Omega.{arith}
 use Rattle.ground.proofs.Bits.{bit-on, bit_off}
-use Rattle.finder.proofs.StepLaws.{NoneBelow, lowest-here, lowest-more, lowest_last}
+use Rattle.finder.proofs.StepLaws.{lowest-here, lowest-more, lowest_last}
 use Rattle.finder.proofs.steps.lowest.Goals as goal
 
 pub loop-q-init : goal.loop-q-init
@@ -21,9 +21,8 @@ loop-q-preserved c =
     (omega arith, lowest-more args.posts loop.q loop.invariant.1 (bit_off args.posts loop.q c.if-posts-q-eq1.false))
 
 pub returns : goal.returns
-returns c =
-    (
-      lowest_last c.args.posts c.loop-q.q (omega (arith, c.ranges.posts.fits)) c.requires
-          c.loop-q-test.false c.loop-q.invariant.0 c.loop-q.invariant.1,
-      omega arith,
-    )
+returns c = (
+  lowest_last c.args.posts c.loop-q.q (omega (arith, c.ranges.posts.fits)) c.requires
+      c.loop-q-test.false c.loop-q.invariant.0 c.loop-q.invariant.1,
+  omega arith,
+)

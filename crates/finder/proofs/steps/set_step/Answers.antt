@@ -27,7 +27,7 @@ set_to-next-requires c =
     (number_small args.n args.k pre.0 pre.1, omega (arith, pre))
 
 pub overflow_cast-next : goal.overflow_cast-next
-overflow_cast-next c = omega (arith, c.set_to-next.type-inv)
+overflow_cast-next c = omega (arith, c.set_to-next.type_inv)
 
 pub bounds-ranks-next : goal.bounds-ranks-next
 bounds-ranks-next c =
@@ -59,3 +59,6 @@ returns c =
     λ S t. set_no_lower t args.k args.i c.requires.4 args.value
     (subst (λ (x : ℕ). get_or args.ranks.now args.k 0 ≤ x)
     (rank-at args.ranks.now c.set_to-next.ensures) c.if-ranks-next.false)
+
+pub bounds-set-side : goal.bounds-set-side
+bounds-set-side c = omega (arith, c.requires.3, below-sides c.args.n c.args.k c.requires.0)

@@ -1,6 +1,5 @@
 -- `finder::two::fill_leg` meets its contract: the tables tell the system of the question's rules, whose ranks are those without the sets that change
 -- nothing.
-use borrow.Author.Rules.{rules}
 use Rattle.knowledge.specs.Goal.{goal_of}
 use Rattle.plan.specs.Plans.{System}
 use Rattle.question.proofs.SystemLaws.{from_ruled}
@@ -13,6 +12,6 @@ pub returns : goal.returns
 returns c =
     let args = c.args in
     from_ruled args.n args.book.now args.question (goal_of args.make.now args.learn.now)
-    (λ (S : System). RanksFilled args.n S args.ranks.now c.fill_ranks.last.1.1.1.1.1.0)
+    (λ (S : System). RanksFilled args.n S args.ranks.now c.fill_ranks.new.ranks)
     (ranks-without.0 (ranks-filled c.requires.0.1 c.posts_allowed-set.ensures c.posts_allowed-look.ensures
     c.made-done.ensures c.learnt-known.ensures c.fill_ranks.ensures c.requires.1))

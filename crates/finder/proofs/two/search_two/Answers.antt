@@ -1,6 +1,5 @@
 -- `finder::two::search_two` meets its contract: the second leg's ranks are those of its system, and so the tables tell the first leg's, by its rules
 -- alone; the ranks and the answer are the same without the sets that change nothing.
-use borrow.Author.Rules.{rules}
 use mathlib.Core.Path.{◌≡◌, sym, subst}
 use Prim.Native.Nat.{ℕ, ◌^◌, ◌<◌}
 use native.Mathlib.Omega.{arith}
@@ -23,41 +22,40 @@ use Rattle.finder.proofs.two.search_two.Goals as goal
 pub fill_leg-requires : goal.fill_leg-requires
 fill_leg-requires c =
     let wantedFirst : Goal =
-        goal_of c.args.make.now c.args.learn.now in
+    goal_of c.args.make.now c.args.learn.now in
     let wantedSecond : Goal =
-        goal_of c.args.make2.now c.args.learn2.now in
+    goal_of c.args.make2.now c.args.learn2.now in
     let v = c.requires.0.1 in (
       (c.requires.0.0, second-valid c.args.book.now c.args.question (wantedFirst) c.args.team2 (wantedSecond) v),
-      c.requires.1.second-room,
+      c.requires.1.second_room,
     )
 
 pub from_start-requires : goal.from_start-requires
 from_start-requires c =
     let wantedFirst : Goal =
-        goal_of c.args.make.now c.args.learn.now in
+    goal_of c.args.make.now c.args.learn.now in
     let wantedSecond : Goal =
-        goal_of c.args.make2.now c.args.learn2.now in
+    goal_of c.args.make2.now c.args.learn2.now in
     let secondHere : System =
-        second_system c.args.n c.args.book.now c.args.question c.args.team2 (wantedSecond) in
+    second_system c.args.n c.args.book.now c.args.question c.args.team2 (wantedSecond) in
     let firstHere : System =
-        first_leg c.args.n (ruled_system c.args.n c.args.book.now c.args.question (wantedFirst)) (secondHere) in
+    first_leg c.args.n (ruled_system c.args.n c.args.book.now c.args.question (wantedFirst)) (secondHere) in
     let told : TablesTell c.args.n c.posts_allowed-set.result c.posts_allowed-look.result c.fill_first.new.ranks (firstHere) =
-        let v = c.requires.0.1 in
+    let v = c.requires.0.1 in
     let leg = c.fill_leg.ensures in
     first-tells v.first c.posts_allowed-set.ensures c.posts_allowed-look.ensures c.made-done.ensures c.learnt-known.ensures
     (second_lawful c.args.book.now c.args.question (wantedFirst) c.args.team2 (wantedSecond) v) leg.ranks
-    c.fill_first.ensures (omega (arith, c.requires.1.second-room, leg.size)) c.requires.1.first-room in
+    c.fill_first.ensures (omega (arith, c.requires.1.second_room, leg.size)) c.requires.1.first_room in
     let filled : RanksFilled c.args.n (firstHere) c.args.ranks.now c.fill_first.new.ranks =
-        let v = c.requires.0.1 in
+    let v = c.requires.0.1 in
     let leg = c.fill_leg.ensures in
     first-filled v.first c.posts_allowed-set.ensures c.posts_allowed-look.ensures c.made-done.ensures c.learnt-known.ensures
     (second_lawful c.args.book.now c.args.question (wantedFirst) c.args.team2 (wantedSecond) v) leg.ranks
-    c.fill_first.ensures (omega (arith, c.requires.1.second-room, leg.size)) c.requires.1.first-room in
+    c.fill_first.ensures (omega (arith, c.requires.1.second_room, leg.size)) c.requires.1.first_room in
     let start-here : c.number-start.result ≡ start_of c.args.question =
-        start_is c.args.question c.at_start.ensures c.number-start.ensures in
-    (
+    start_is c.args.question c.at_start.ensures c.number-start.ensures in (
       subst (λ (x : ℕ). x < 7 ^ c.args.n) (sym (start-here)) (valid_start c.requires.0.1.first),
-      omega (arith, c.requires.1.first-room, (filled).size),
+      omega (arith, c.requires.1.first_room, (filled).size),
       (firstHere, told),
     )
 
@@ -68,37 +66,37 @@ pub returns : goal.returns
 unfolding first_leg
 returns c =
     let wantedFirst : Goal =
-        goal_of c.args.make.now c.args.learn.now in
+    goal_of c.args.make.now c.args.learn.now in
     let wantedSecond : Goal =
-        goal_of c.args.make2.now c.args.learn2.now in
+    goal_of c.args.make2.now c.args.learn2.now in
     let secondHere : System =
-        second_system c.args.n c.args.book.now c.args.question c.args.team2 (wantedSecond) in
+    second_system c.args.n c.args.book.now c.args.question c.args.team2 (wantedSecond) in
     let firstHere : System =
-        first_leg c.args.n (ruled_system c.args.n c.args.book.now c.args.question (wantedFirst)) (secondHere) in
+    first_leg c.args.n (ruled_system c.args.n c.args.book.now c.args.question (wantedFirst)) (secondHere) in
     let asked : (P : System → Type 0) → P (without (firstHere)) → P (first_system c.args.n c.args.book.now c.args.question (wantedFirst) c.args.team2 (wantedSecond)) =
-        λ P. λ h. from_ruled c.args.n c.args.book.now c.args.question (wantedFirst) (λ (S : System). P (first_leg c.args.n S (secondHere))) h in
+    λ P. λ h. from_ruled c.args.n c.args.book.now c.args.question (wantedFirst) (λ (S : System). P (first_leg c.args.n S (secondHere))) h in
     let told : TablesTell c.args.n c.posts_allowed-set.result c.posts_allowed-look.result c.fill_first.new.ranks (firstHere) =
-        let v = c.requires.0.1 in
+    let v = c.requires.0.1 in
     let leg = c.fill_leg.ensures in
     first-tells v.first c.posts_allowed-set.ensures c.posts_allowed-look.ensures c.made-done.ensures c.learnt-known.ensures
     (second_lawful c.args.book.now c.args.question (wantedFirst) c.args.team2 (wantedSecond) v) leg.ranks
-    c.fill_first.ensures (omega (arith, c.requires.1.second-room, leg.size)) c.requires.1.first-room in
+    c.fill_first.ensures (omega (arith, c.requires.1.second_room, leg.size)) c.requires.1.first_room in
     let filled : RanksFilled c.args.n (firstHere) c.args.ranks.now c.fill_first.new.ranks =
-        let v = c.requires.0.1 in
+    let v = c.requires.0.1 in
     let leg = c.fill_leg.ensures in
     first-filled v.first c.posts_allowed-set.ensures c.posts_allowed-look.ensures c.made-done.ensures c.learnt-known.ensures
     (second_lawful c.args.book.now c.args.question (wantedFirst) c.args.team2 (wantedSecond) v) leg.ranks
-    c.fill_first.ensures (omega (arith, c.requires.1.second-room, leg.size)) c.requires.1.first-room in
+    c.fill_first.ensures (omega (arith, c.requires.1.second_room, leg.size)) c.requires.1.first_room in
     let start-here : c.number-start.result ≡ start_of c.args.question =
-        start_is c.args.question c.at_start.ensures c.number-start.ensures in
+    start_is c.args.question c.at_start.ensures c.number-start.ensures in
     record {
-      second-ranks = c.fill_leg.ensures;
-      first-ranks =
-          asked (λ (S : System). RanksFilled c.args.n S c.args.ranks.now c.fill_first.last.1.1.1.1.1.1.0)
+      second_ranks = c.fill_leg.ensures;
+      first_ranks =
+          asked (λ (S : System). RanksFilled c.args.n S c.args.ranks.now c.fill_first.new.ranks)
           (ranks-without.0 (filled));
       answers =
-          asked (λ (S : System). AnswersFrom S (start_of c.args.question) c.args.plan.now c.from_start.result c.from_start.last.1.1.1.1.1.0)
-          ((answers-without (firstHere) (start_of c.args.question) c.args.plan.now c.from_start.result c.from_start.last.1.1.1.1.1.0).0
-          (subst (λ (x : ℕ). AnswersFrom (firstHere) x c.args.plan.now c.from_start.result c.from_start.last.1.1.1.1.1.0)
+          asked (λ (S : System). AnswersFrom S (start_of c.args.question) c.args.plan.now c.from_start.result c.from_start.new.plan)
+          ((answers-without (firstHere) (start_of c.args.question) c.args.plan.now c.from_start.result c.from_start.new.plan).0
+          (subst (λ (x : ℕ). AnswersFrom (firstHere) x c.args.plan.now c.from_start.result c.from_start.new.plan)
           (start-here) (c.from_start.ensures (firstHere) (told))));
     }

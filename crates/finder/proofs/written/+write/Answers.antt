@@ -1,9 +1,8 @@
 -- `write` meets its contract: the step's byte, then what follows it; each step leads to a lower entry of the rank table, which is the measure.
-use borrow.Author.Rules.{rules}
 use mathlib.Core.Path.{◌≡◌, refl, sym, ap, ◌∙◌, subst}
 use mathlib.Core.Bool.{false, true}
 use native.Mathlib.Omega.{arith}
-use lib.ListN.{length, get_or, set, length-set}
+use lib.ListN.{length, set, length-set}
 use Rattle.knowledge_acts.specs.Acts.{byte_of, plan_byte}
 use Rattle.knowledge_acts.specs.declared.act.Act.TheVariants.{Set, Look}
 use Rattle.plan.specs.Plans.{System, stop}
@@ -16,138 +15,153 @@ use Rattle.finder.proofs.PlanLaws.{room_false, room_true, look_written}
 use Prim.Native.Nat.{ℕ, ◌+◌, ◌^◌, ◌<◌}
 use Rattle.finder.proofs.written.+write.Goals as goal
 
-set-begun : (t : ℕ) → ToSet t → Begun t
-set-begun t c = c.before.before.before.before.before.before.before.before.before.before
-
-look-begun : (t : ℕ) → ToLook t → Begun t
-look-begun t c = c.before.before.before.before.before.before.before.before.before.before
-
-Tells : (t : ℕ) → Begun t → System → Type 0
-Tells t s S = TablesTell s.args.n s.args.set.now s.args.look.now s.args.ranks.now S
-
--- the step chosen
-set-chosen : (t : ℕ) (c : ToSet t) (S : System) → Tells t (set-begun t c) S → Chosen S (set-begun t c).args.k (Set c.before.act2.given.0.0 c.before.act2.given.0.1.0 c.before.act2.given.0.1.1.0)
-set-chosen t c S u =
-    let start = set-begun t c in
-    subst (Chooses S start.args.ranks.now start.args.k)
-    (c.before.before.before.before.before.act.given.1 ∙ ap Do c.before.act2.given.1)
-    (c.before.before.before.before.before.before.before.choose.ensures S u)
-
-look-chosen : (t : ℕ) (c : ToLook t) (S : System) → Tells t (look-begun t c) S → Chosen S (look-begun t c).args.k (Look c.before.act3.given.0.0 c.before.act3.given.0.1.0)
-look-chosen t c S u =
-    let start = look-begun t c in
-    subst (Chooses S start.args.ranks.now start.args.k)
-    (c.before.before.before.before.before.act.given.1 ∙ ap Do c.before.act3.given.1)
-    (c.before.before.before.before.before.before.before.choose.ensures S u)
-
--- and in the system that the tables tell
-set_here : (t : ℕ) (c : ToSet t) → Chosen (set-begun t c).requires.1.0.system (set-begun t c).args.k (Set c.before.act2.given.0.0 c.before.act2.given.0.1.0 c.before.act2.given.0.1.1.0)
-set_here t c = let from = (set-begun t c).requires.1.0 in set-chosen t c from.system from.told
-
-look_here : (t : ℕ) (c : ToLook t) → Chosen (look-begun t c).requires.1.0.system (look-begun t c).args.k (Look c.before.act3.given.0.0 c.before.act3.given.0.1.0)
-look_here t c = let from = (look-begun t c).requires.1.0 in look-chosen t c from.system from.told
-
--- what a look at the state asks for
-look-asks : (t : ℕ) (c : ToLook t) → ((look-begun t c).args.k < 7 ^ 7) × (c.before.act3.given.0.0 < 7)
-look-asks t c =
-    let from = (look-begun t c).requires.1.0 in
-    (number_small _ _ from.few from.state, step-setting from _ (look_here t c))
-
--- the byte that was stored is that of the step
-set-byte : (t : ℕ) (c : ToSet t) → c.before.before.before.byte.result ≡ byte_of (Set c.before.act2.given.0.0 c.before.act2.given.0.1.0 c.before.act2.given.0.1.1.0)
-set-byte t c =
-    c.before.before.before.byte.ensures ∙ ap plan_byte c.before.act2.given.1 ∙ step-byte (set-begun t c).requires.1.0 _ (set_here t c)
-
-look-byte : (t : ℕ) (c : ToLook t) → c.before.before.before.byte.result ≡ byte_of (Look c.before.act3.given.0.0 c.before.act3.given.0.1.0)
-look-byte t c =
-    c.before.before.before.byte.ensures ∙ ap plan_byte c.before.act3.given.1 ∙ step-byte (look-begun t c).requires.1.0 _ (look_here t c)
-
--- a store leaves the room as long as it was
-stored : (t : ℕ) (s : Begun t) (byte : ℕ) → length (set s.args.room.now s.args.at byte) ≡ length s.args.room.now
-stored t s byte = length-set s.args.room.now s.args.at byte
-
--- the room has a byte for the step
-here : (t : ℕ) (s : Begun t) → s.args.at < length s.args.room.now
-here t s = room-here s.pre.1.0 s.pre.1.1
-
-Fits : (t : ℕ) → Begun t → ℕ → ℕ → ℕ → Type 0
-Fits t s x at end = PlanFits s.args.n s.args.set.now s.args.look.now s.args.ranks.now x at end
-
 pub choose-requires : goal.choose-requires
 choose-requires t c = let from = c.requires.0 in (from.few, from.state, from.size)
 
 pub bounds-room-at : goal.bounds-room-at
-bounds-room-at t c = here t c
+bounds-room-at t c =
+    let here : c.args.at < length c.args.room.now =
+    room-here c.requires.0 c.requires.1 in
+    here
 
 pub overflow_add-result : goal.overflow_add-result
-overflow_add-result t c = omega (arith, here t c)
+overflow_add-result t c =
+    let here : c.args.at < length c.args.room.now =
+    room-here c.requires.0 c.requires.1 in
+    omega (arith, here)
 
 pub bounds-room-at-in-Do : goal.bounds-room-at-in-Do
-bounds-room-at-in-Do t c = here t c
+bounds-room-at-in-Do t c =
+    let here : c.args.at < length c.args.room.now =
+    room-here c.requires.0 c.requires.1 in
+    here
 
 pub set_to-requires : goal.set_to-requires
 set_to-requires t c =
-    let from = (set-begun t c).requires.1.0 in
-    (number_small _ _ from.few from.state, step-setting from _ (set_here t c))
+    let Tells : System → Type 0 =
+    λ S. TablesTell c.args.n c.args.set.now c.args.look.now c.args.ranks.now S in
+    let set-chosen : (S : System) → Tells S → Chosen S c.args.k (Set c.in-Set.setting c.in-Set.post c.in-Set.value) =
+    λ S. λ u. subst (Chooses S c.args.ranks.now c.args.k)
+    (c.in-Do.is ∙ ap Do c.in-Set.is)
+    (c.choose.ensures S u) in
+    let set_here : Chosen c.requires.0.system c.args.k (Set c.in-Set.setting c.in-Set.post c.in-Set.value) =
+    let from = c.requires.0 in set-chosen from.system from.told in
+    let from = c.requires.0 in
+    (number_small _ _ from.few from.state, step-setting from _ (set_here))
 
 pub overflow_add-at : goal.overflow_add-at
 overflow_add-at t c =
-    omega (arith, here t (set-begun t after-known-told2))
-  where
-    after-known-told2 : write-lts.After-known-told2 (write-claims t) (write-at t) write.Post
-    after-known-told2 = search
+    let here : c.args.at < length c.args.room.now =
+    room-here c.requires.0 c.requires.1 in
+    omega (arith, here)
 
 pub write-requires : goal.write-requires
 write-requires t c =
-    let start = set-begun t c in
+    let Tells : System → Type 0 =
+    λ S. TablesTell c.args.n c.args.set.now c.args.look.now c.args.ranks.now S in
+    let set-chosen : (S : System) → Tells S → Chosen S c.args.k (Set c.in-Set.setting c.in-Set.post c.in-Set.value) =
+    λ S. λ u. subst (Chooses S c.args.ranks.now c.args.k)
+    (c.in-Do.is ∙ ap Do c.in-Set.is)
+    (c.choose.ensures S u) in
+    let set_here : Chosen c.requires.0.system c.args.k (Set c.in-Set.setting c.in-Set.post c.in-Set.value) =
+    let from = c.requires.0 in set-chosen from.system from.told in
+    let stored : (byte : ℕ) → length (set c.args.room.now c.args.at byte) ≡ length c.args.room.now =
+    λ byte. length-set c.args.room.now c.args.at byte in
+    let Fits : ℕ → ℕ → ℕ → Type 0 =
+    λ x. λ at. λ end. PlanFits c.args.n c.args.set.now c.args.look.now c.args.ranks.now x at end in
     let after = c.set_to in
-    let next = next_here start.pre.1.0 after.ensures start.pre.0 (next-set start.pre.1.0 _ _ _ (set_here t c)) in (
+    let next = next_here c.requires.0 after.ensures c.decreases (next-set c.requires.0 _ _ _ (set_here)) in (
       next.0,
       (
         next.1,
-        subst (Fits t start after.result (start.args.at + 1)) (sym (stored t start c.byte.result))
-            (room-set start.pre.1.0 (set-chosen t c) start.args.at (length start.args.room.now) after.ensures start.pre.1.1),
+        subst (Fits after.result (c.args.at + 1)) (sym (stored c.byte.result))
+            (room-set c.requires.0 (set-chosen) c.args.at (length c.args.room.now) after.ensures c.requires.1),
       ),
     )
 
 pub look_at-requires : goal.look_at-requires
-look_at-requires t c = look-asks t c
+look_at-requires t c =
+    let Tells : System → Type 0 =
+    λ S. TablesTell c.args.n c.args.set.now c.args.look.now c.args.ranks.now S in
+    let look-chosen : (S : System) → Tells S → Chosen S c.args.k (Look c.in-Look.setting c.in-Look.post) =
+    λ S. λ u. subst (Chooses S c.args.ranks.now c.args.k)
+    (c.in-Do.is ∙ ap Do c.in-Look.is)
+    (c.choose.ensures S u) in
+    let look_here : Chosen c.requires.0.system c.args.k (Look c.in-Look.setting c.in-Look.post) =
+    let from = c.requires.0 in look-chosen from.system from.told in
+    let look-asks : (c.args.k < 7 ^ 7) × (c.in-Look.setting < 7) =
+    let from = c.requires.0 in
+    (number_small _ _ from.few from.state, step-setting from _ (look_here)) in
+    look-asks
 
 pub overflow_add-at-in-Look : goal.overflow_add-at-in-Look
 overflow_add-at-in-Look t c =
-    omega (arith, here t (look-begun t after-known-told3))
-  where
-    after-known-told3 : write-lts.After-known-told3 (write-claims t) (write-at t) write.Post
-    after-known-told3 = search
+    let here : c.args.at < length c.args.room.now =
+    room-here c.requires.0 c.requires.1 in
+    omega (arith, here)
 
 pub write-next-requires : goal.write-next-requires
 write-next-requires t c =
-    let start = look-begun t c in
+    let Tells : System → Type 0 =
+    λ S. TablesTell c.args.n c.args.set.now c.args.look.now c.args.ranks.now S in
+    let look-chosen : (S : System) → Tells S → Chosen S c.args.k (Look c.in-Look.setting c.in-Look.post) =
+    λ S. λ u. subst (Chooses S c.args.ranks.now c.args.k)
+    (c.in-Do.is ∙ ap Do c.in-Look.is)
+    (c.choose.ensures S u) in
+    let look_here : Chosen c.requires.0.system c.args.k (Look c.in-Look.setting c.in-Look.post) =
+    let from = c.requires.0 in look-chosen from.system from.told in
+    let stored : (byte : ℕ) → length (set c.args.room.now c.args.at byte) ≡ length c.args.room.now =
+    λ byte. length-set c.args.room.now c.args.at byte in
+    let Fits : ℕ → ℕ → ℕ → Type 0 =
+    λ x. λ at. λ end. PlanFits c.args.n c.args.set.now c.args.look.now c.args.ranks.now x at end in
     let after = c.look_at in
-    let next = next_here start.pre.1.0 after.ensures start.pre.0 (next_look start.pre.1.0 _ _ false (look_here t c)) in (
+    let next = next_here c.requires.0 after.ensures c.decreases (next_look c.requires.0 _ _ false (look_here)) in (
       next.0,
       (
         next.1,
-        subst (Fits t start after.result (start.args.at + 1)) (sym (stored t start c.byte.result))
-            (room_false start.pre.1.0 (look-chosen t c) start.args.at (length start.args.room.now) after.ensures start.pre.1.1),
+        subst (Fits after.result (c.args.at + 1)) (sym (stored c.byte.result))
+            (room_false c.requires.0 (look-chosen) c.args.at (length c.args.room.now) after.ensures c.requires.1),
       ),
     )
 
 pub look_at-requires-in-Look : goal.look_at-requires-in-Look
-look_at-requires-in-Look t c = look-asks t c
+look_at-requires-in-Look t c =
+    let Tells : System → Type 0 =
+    λ S. TablesTell c.args.n c.args.set.now c.args.look.now c.args.ranks.now S in
+    let look-chosen : (S : System) → Tells S → Chosen S c.args.k (Look c.in-Look.setting c.in-Look.post) =
+    λ S. λ u. subst (Chooses S c.args.ranks.now c.args.k)
+    (c.in-Do.is ∙ ap Do c.in-Look.is)
+    (c.choose.ensures S u) in
+    let look_here : Chosen c.requires.0.system c.args.k (Look c.in-Look.setting c.in-Look.post) =
+    let from = c.requires.0 in look-chosen from.system from.told in
+    let look-asks : (c.args.k < 7 ^ 7) × (c.in-Look.setting < 7) =
+    let from = c.requires.0 in
+    (number_small _ _ from.few from.state, step-setting from _ (look_here)) in
+    look-asks
 
 pub write-requires-in-Look : goal.write-requires-in-Look
 write-requires-in-Look t c =
+    let Tells : System → Type 0 =
+    λ S. TablesTell c.args.n c.args.set.now c.args.look.now c.args.ranks.now S in
+    let look-chosen : (S : System) → Tells S → Chosen S c.args.k (Look c.in-Look.setting c.in-Look.post) =
+    λ S. λ u. subst (Chooses S c.args.ranks.now c.args.k)
+    (c.in-Do.is ∙ ap Do c.in-Look.is)
+    (c.choose.ensures S u) in
+    let look_here : Chosen c.requires.0.system c.args.k (Look c.in-Look.setting c.in-Look.post) =
+    let from = c.requires.0 in look-chosen from.system from.told in
+    let stored : (byte : ℕ) → length (set c.args.room.now c.args.at byte) ≡ length c.args.room.now =
+    λ byte. length-set c.args.room.now c.args.at byte in
+    let Fits : ℕ → ℕ → ℕ → Type 0 =
+    λ x. λ at. λ end. PlanFits c.args.n c.args.set.now c.args.look.now c.args.ranks.now x at end in
     let after = c.look_at-in-Look in
-    let start = look-begun t c in
     let byte = c.byte.result in
-    let next = next_here start.pre.1.0 after.ensures start.pre.0 (next_look start.pre.1.0 _ _ true (look_here t c)) in (
+    let next = next_here c.requires.0 after.ensures c.decreases (next_look c.requires.0 _ _ true (look_here)) in (
       next.0,
       (
         next.1,
-        subst (Fits t start after.result c.write-next.result) (sym (c.write-next.auto.room ∙ stored t start byte))
-            (room_true start.pre.1.0 (look-chosen t c) start.args.at (length start.args.room.now) byte start.args.room.now
-            c.look_at.ensures after.ensures c.write-next.ensures start.pre.1.1),
+        subst (Fits after.result c.write-next.result) (sym (c.write-next.auto.room ∙ stored byte))
+            (room_true c.requires.0 (look-chosen) c.args.at (length c.args.room.now) byte c.args.room.now
+            c.look_at.ensures after.ensures c.write-next.ensures c.requires.1),
       ),
     )
 
@@ -164,17 +178,43 @@ returns-in-Stop t c =
     )
 
 pub shape_of-room-in-Set : goal.shape_of-room-in-Set
-shape_of-room-in-Set t c = c.write.auto.room ∙ stored t (set-begun t c) c.byte.result
+shape_of-room-in-Set t c =
+    let stored : (byte : ℕ) → length (set c.args.room.now c.args.at byte) ≡ length c.args.room.now =
+    λ byte. length-set c.args.room.now c.args.at byte in
+    c.write.auto.room ∙ stored c.byte.result
 
 pub returns-in-Set : goal.returns-in-Set
-returns-in-Set t c = set-written (set-begun t c).pre.1.0 (set-chosen t c) c.set_to.ensures (set-byte t c) c.write.ensures
+returns-in-Set t c =
+    let Tells : System → Type 0 =
+    λ S. TablesTell c.args.n c.args.set.now c.args.look.now c.args.ranks.now S in
+    let set-chosen : (S : System) → Tells S → Chosen S c.args.k (Set c.in-Set.setting c.in-Set.post c.in-Set.value) =
+    λ S. λ u. subst (Chooses S c.args.ranks.now c.args.k)
+    (c.in-Do.is ∙ ap Do c.in-Set.is)
+    (c.choose.ensures S u) in
+    let set_here : Chosen c.requires.0.system c.args.k (Set c.in-Set.setting c.in-Set.post c.in-Set.value) =
+    let from = c.requires.0 in set-chosen from.system from.told in
+    let set-byte : c.byte.result ≡ byte_of (Set c.in-Set.setting c.in-Set.post c.in-Set.value) =
+    c.byte.ensures ∙ ap plan_byte c.in-Set.is ∙ step-byte c.requires.0 _ (set_here) in
+    set-written c.requires.0 (set-chosen) c.set_to.ensures (set-byte) c.write.ensures
 
 pub shape_of-room-in-Look : goal.shape_of-room-in-Look
 shape_of-room-in-Look t c =
+    let stored : (byte : ℕ) → length (set c.args.room.now c.args.at byte) ≡ length c.args.room.now =
+    λ byte. length-set c.args.room.now c.args.at byte in
     c.write-in-Look.auto.room
-    ∙ (c.write-next.auto.room ∙ stored t (look-begun t c) c.byte.result)
+    ∙ (c.write-next.auto.room ∙ stored c.byte.result)
 
 pub returns-in-Look : goal.returns-in-Look
 returns-in-Look t c =
-    look_written (look-begun t c).pre.1.0 (look-chosen t c) c.look_at.ensures c.look_at-in-Look.ensures (look-byte t c)
+    let Tells : System → Type 0 =
+    λ S. TablesTell c.args.n c.args.set.now c.args.look.now c.args.ranks.now S in
+    let look-chosen : (S : System) → Tells S → Chosen S c.args.k (Look c.in-Look.setting c.in-Look.post) =
+    λ S. λ u. subst (Chooses S c.args.ranks.now c.args.k)
+    (c.in-Do.is ∙ ap Do c.in-Look.is)
+    (c.choose.ensures S u) in
+    let look_here : Chosen c.requires.0.system c.args.k (Look c.in-Look.setting c.in-Look.post) =
+    let from = c.requires.0 in look-chosen from.system from.told in
+    let look-byte : c.byte.result ≡ byte_of (Look c.in-Look.setting c.in-Look.post) =
+    c.byte.ensures ∙ ap plan_byte c.in-Look.is ∙ step-byte c.requires.0 _ (look_here) in
+    look_written c.requires.0 (look-chosen) c.look_at.ensures c.look_at-in-Look.ensures (look-byte)
     c.write-next.ensures c.write-in-Look.ensures

@@ -1,5 +1,4 @@
 -- `by_post` meets its contract, case by case.
-use borrow.Author.Rules.{rules}
 use mathlib.Core.Path.{sym, ap}
 use Rattle.finder_plain.specs.Tries.{by_post}
 use Rattle.finder_plain.proofs.acts.by_post.Goals as goal

@@ -1,6 +1,5 @@
 -- `look_at` meets its contract: the digits of the state after the look are those of its number.
 use Rattle.knowledge.proofs.States.{look_number}
-use borrow.Author.Rules.{rules}
 use Rattle.finder_plain.proofs.acts.look_at.Goals as goal
 
 pub returns : goal.returns

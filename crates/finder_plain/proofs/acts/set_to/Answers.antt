@@ -1,6 +1,5 @@
 -- `set_to` meets its contract: the digits of the state after the set are those of its number.
 use Rattle.knowledge.proofs.States.{set-number}
-use borrow.Author.Rules.{rules}
 use Rattle.finder_plain.proofs.acts.set_to.Goals as goal
 
 pub returns : goal.returns

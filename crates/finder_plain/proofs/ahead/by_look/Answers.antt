@@ -1,5 +1,4 @@
 -- `by_look` meets its contract: what is remembered of both outcomes is asked before the rules are.
-use borrow.Author.Rules.{rules}
 use mathlib.Core.Path.{◌∙◌}
 use mathlib.Core.Bool.{false, true}
 use native.Mathlib.Omega.{arith}

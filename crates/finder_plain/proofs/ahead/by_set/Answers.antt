@@ -1,5 +1,4 @@
 -- `by_set` meets its contract: what is remembered of the outcome is asked before the rules are.
-use borrow.Author.Rules.{rules}
 use native.Mathlib.Omega.{arith}
 use Rattle.ground.proofs.Answers.{untold, told}
 use Rattle.knowledge_acts.specs.declared.act.Act.TheVariants.{Set}

@@ -1,5 +1,4 @@
 -- `foresee` meets its contract, case by case.
-use borrow.Author.Rules.{rules}
 use Rattle.finder_plain.specs.Tries.{may_do}
 use Rattle.finder_plain.proofs.TryLaws.{asks_set, asks_look, foresees_set, foresees_look}
 use Rattle.finder_plain.proofs.ahead.foresee.Goals as goal

@@ -1,5 +1,4 @@
 -- `find` meets its contract: refusals 6 to 12, then the search from the start, with nothing remembered.
-use borrow.Author.Rules.{rules}
 use mathlib.Core.Path.{refl}
 use Rattle.knowledge.specs.Goal.{goal_of}
 use Rattle.question.proofs.AskLaws.{start_is, as_valid, as_not}

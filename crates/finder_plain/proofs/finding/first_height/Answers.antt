@@ -1,10 +1,6 @@
 -- `first_height` meets its contract: at each height the start's entry bars the lower ones; a height fails, and the entry has grown.
-use Prim.Native.Nat.{◌-◌, ◌≤◌}
+use Prim.Native.Nat.{◌-◌}
 use native.Mathlib.Omega.{arith}
-use lib.ListN.{get_or}
-use Rattle.knowledge.specs.Goal.{goal_of}
-use Rattle.question.specs.Question.{ruled_system}
-use Rattle.finder_plain.specs.Entries.{Searches}
 use Rattle.finder_plain.proofs.HeightLaws.{height_yes, height_no, height_gap, last_no}
 use Rattle.finder_plain.proofs.finding.first_height.Goals as goal
 

@@ -1,5 +1,5 @@
 -- `has_gap` meets its contract: a value that is not marked is at no state.
-use Prim.Native.Nat.{◌-◌, ◌≤◌}
+use Prim.Native.Nat.{◌-◌}
 use native.Mathlib.Omega.{arith}
 use lib.Dec.{lit<}
 use native.Mathlib.Nat.{pow-le-pow_right}

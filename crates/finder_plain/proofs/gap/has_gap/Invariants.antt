@@ -1,9 +1,5 @@
 -- `has_gap` meets its contract: a value that is not marked is at no state.
 use Prim.Native.Nat.{◌-◌, ◌≤◌}
-use native.Mathlib.Omega.{arith}
-use lib.Dec.{lit<}
-use native.Mathlib.Nat.{pow-le-pow_right}
-use Rattle.finder_plain.proofs.GapLaws.{gap_here, no_gap}
 use Rattle.finder_plain.proofs.gap.has_gap.Given as goal
 
 abbrev pub invariant-loop-value : goal.invariant-loop-value

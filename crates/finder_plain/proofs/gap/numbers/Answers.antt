@@ -1,5 +1,4 @@
 -- `numbers` meets its contract: the table of powers, by a computed test.
-use borrow.Author.Rules.{rules}
 use mathlib.Core.List.{List, [], ◌∷◌}
 use Prim.Native.Nat.{ℕ, ◌^◌}
 use native.Mathlib.Omega.{arith}

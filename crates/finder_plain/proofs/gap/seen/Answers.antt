@@ -1,9 +1,7 @@
 -- `seen` meets its contract: a value that was marked stays marked.
-use borrow.Author.Rules.{rules}
-use Prim.Native.Nat.{◌-◌, ◌≤◌}
+use Prim.Native.Nat.{◌-◌}
 use mathlib.Core.Path.{refl}
 use native.Mathlib.Omega.{arith}
-use Rattle.finder_plain.specs.Gaps.{SeenBelow}
 use Rattle.finder_plain.proofs.GapLaws.{seen_none, seen_more, seen_all}
 use Rattle.finder_plain.proofs.gap.seen.Goals as goal
 

@@ -1,5 +1,4 @@
 -- `holds` meets its contract: by the three answers of the judgement.
-use borrow.Author.Rules.{rules}
 use mathlib.Core.Path.{◌≡◌}
 use Rattle.book_block.specs.Rule.{rule}
 use Rattle.knowledge.specs.Number.{digit_in}
@@ -12,7 +11,7 @@ use Rattle.finder_plain.proofs.may.holds.Goals as goal
 pub returns-in-TrueAtAll : goal.returns-in-TrueAtAll
 returns-in-TrueAtAll c =
     let judged : let a = c.args in c.judge.result ≡ judgement a.n (now_side (digit_in a.state.digits)) (rule a.book.now a.setting a.post a.right) =
-        let a = c.args in
+    let a = c.args in
     rule-judged a.n a.book.now (digit_in a.state.digits) a.setting a.post a.right c.requires c.rule_at.ensures
     c.judge.ensures in
     rule-known _ _ _ (judged) c.in-TrueAtAll.is
@@ -20,7 +19,7 @@ returns-in-TrueAtAll c =
 pub returns-in-FalseAtAll : goal.returns-in-FalseAtAll
 returns-in-FalseAtAll c =
     let judged : let a = c.args in c.judge.result ≡ judgement a.n (now_side (digit_in a.state.digits)) (rule a.book.now a.setting a.post a.right) =
-        let a = c.args in
+    let a = c.args in
     rule-judged a.n a.book.now (digit_in a.state.digits) a.setting a.post a.right c.requires c.rule_at.ensures
     c.judge.ensures in
     rule-known _ _ _ (judged) c.in-FalseAtAll.is
@@ -28,7 +27,7 @@ returns-in-FalseAtAll c =
 pub returns-in-Neither : goal.returns-in-Neither
 returns-in-Neither c =
     let judged : let a = c.args in c.judge.result ≡ judgement a.n (now_side (digit_in a.state.digits)) (rule a.book.now a.setting a.post a.right) =
-        let a = c.args in
+    let a = c.args in
     rule-judged a.n a.book.now (digit_in a.state.digits) a.setting a.post a.right c.requires c.rule_at.ensures
     c.judge.ensures in
     rule-known _ _ _ (judged) c.in-Neither.is

@@ -1,5 +1,4 @@
 -- `is_permitted` meets its contract: by the kind of act, of a set first by what is held, and of a look by the digit.
-use borrow.Author.Rules.{rules}
 use mathlib.Core.Path.{sym, ◌∙◌}
 use Rattle.knowledge.specs.Number.{digit_in}
 use Rattle.finder_plain.proofs.MayLaws.{set-permitted, set-held, look_permitted, look_barred}

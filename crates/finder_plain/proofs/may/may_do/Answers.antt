@@ -1,6 +1,4 @@
 -- `may_do` meets its contract: the act is offered, and then permitted or not.
-use borrow.Author.Rules.{rules}
-use borrow.Author.Tests.{not-true, not-false}
 use mathlib.Core.Path.{sym, ◌∙◌}
 use Rattle.finder_plain.proofs.may.may_do.Goals as goal
 

@@ -1,10 +1,9 @@
 -- `someone_may` meets its contract: none of the posts below q may.
-use borrow.Author.Rules.{rules}
-use Prim.Native.Nat.{◌-◌, ◌≤◌}
+use Prim.Native.Nat.{◌-◌}
 use mathlib.Core.Path.{◌≡◌, sym, ap, ◌∙◌}
 use native.Mathlib.Omega.{arith}
 use Rattle.finder_plain.specs.Tries.{may_do, by_post}
-use Rattle.finder_plain.proofs.MayLaws.{at-number, NobodyBelow, nobody-more, nobody-all, someone-here}
+use Rattle.finder_plain.proofs.MayLaws.{at-number, nobody-more, nobody-all, someone-here}
 use Rattle.finder_plain.proofs.may.someone_may.Goals as goal
 
 pub loop-q-init : goal.loop-q-init
@@ -13,7 +12,7 @@ loop-q-init c = (omega arith, λ p l. absurd (omega arith))
 pub returns-then-may_do : goal.returns-then-may_do
 returns-then-may_do c =
     let said : c.may_do.result ≡ may_do c.args.n c.args.book.now c.args.team c.args.held c.args.k (by_post c.args.act c.loop-q.q) =
-        let a = c.args in
+    let a = c.args in
     at-number a.n a.book.now a.team a.held a.k _ c.requires.1 c.from_number-state.ensures c.may_do.ensures
     ∙ ap (may_do _ _ _ _ _) c.by_post.ensures in
     let a = c.args in
@@ -22,7 +21,7 @@ returns-then-may_do c =
 pub loop-q-preserved : goal.loop-q-preserved
 loop-q-preserved c =
     let said : c.may_do.result ≡ may_do c.args.n c.args.book.now c.args.team c.args.held c.args.k (by_post c.args.act c.loop-q.q) =
-        let a = c.args in
+    let a = c.args in
     at-number a.n a.book.now a.team a.held a.k _ c.requires.1 c.from_number-state.ensures c.may_do.ensures
     ∙ ap (may_do _ _ _ _ _) c.by_post.ensures in
     let a = c.args in

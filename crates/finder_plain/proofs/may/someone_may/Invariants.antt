@@ -1,10 +1,7 @@
 -- `someone_may` meets its contract: none of the posts below q may.
-use borrow.Author.Rules.{rules}
 use Prim.Native.Nat.{◌-◌, ◌≤◌}
-use mathlib.Core.Path.{◌≡◌, sym, ap, ◌∙◌}
-use native.Mathlib.Omega.{arith}
-use Rattle.finder_plain.specs.Tries.{may_do, by_post}
-use Rattle.finder_plain.proofs.MayLaws.{at-number, NobodyBelow, nobody-more, nobody-all, someone-here}
+use Rattle.finder_plain.specs.Tries.{may_do}
+use Rattle.finder_plain.proofs.MayLaws.{NobodyBelow}
 use Rattle.finder_plain.proofs.may.someone_may.Given as goal
 
 abbrev pub invariant-loop-q : goal.invariant-loop-q

@@ -1,18 +1,11 @@
 -- `works_below` and `works_by` meet their contracts: a search from a state asks each of its tries, and a try searches from its outcomes at the height
 -- before. The measures are 2 × h and 2 × h + 1.
-use borrow.Author.Rules.{rules}
-use mathlib.Core.Path.{◌≡◌}
-use Prim.Native.Nat.{ℕ, ◌+◌, ◌*◌, ◌-◌, ◌<◌}
+use Prim.Native.Nat.{◌-◌}
 use native.Mathlib.Omega.{arith}
-use borrow.Author.Tests.{not-true, not-false}
 use Rattle.knowledge.specs.Goal.{goal_of}
-use Rattle.plan.specs.Plans.{System, may}
-use Rattle.question.specs.Question.{ruled_system}
-use Rattle.finder_plain.specs.Tries.{may_do, Opens, Foresees}
-use Rattle.finder_plain.specs.declared.ahead.Ahead.{Ahead}
 use Rattle.finder_plain.specs.declared.ahead.Ahead.TheVariants.{Nothing, One, Two}
 use Rattle.finder_plain.proofs.SearchLaws.{in_system, asks-goal, goal_yes, goal_no, asks, entry-there, from_first, from_second, first_no, second-says, one-says}
-use Rattle.finder_plain.proofs.SearchLaws.{nothing_says, remembered, at-goal, Trying, trying_none, still_searches, try_fits, try_yes, try_no, none_left}
+use Rattle.finder_plain.proofs.SearchLaws.{nothing_says, remembered, at-goal, trying_none, still_searches, try_fits, try_yes, try_no, none_left}
 use Rattle.finder_plain.proofs.search.+works_below_works_by.Goals as goal
 
 pub works_below-bounds-entries-k : goal.works_below-bounds-entries-k

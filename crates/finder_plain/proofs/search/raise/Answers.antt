@@ -1,5 +1,4 @@
 -- `raise` meets its contract, on both ways.
-use borrow.Author.Rules.{rules}
 use mathlib.Core.Path.{refl}
 use mathlib.Core.Logic.{inl, inr}
 use native.Mathlib.Omega.{arith}

@@ -1,6 +1,5 @@
 -- `finder_ranks::apart::now_of` meets its contract: the packed number, by a computed test at the seven digits.
 use Rattle.finder_ranks.proofs.ApartLaws.{packed_now}
-use borrow.Author.Rules.{rules}
 use Rattle.finder_ranks.proofs.apart.now_of.Goals as goal
 
 pub returns : goal.returns

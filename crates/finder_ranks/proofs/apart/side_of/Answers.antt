@@ -1,7 +1,5 @@
 -- `finder_ranks::apart::side_of` meets its contract: the state of the settings that count, taken apart.
-use borrow.Author.Rules.{rules}
 use mathlib.Core.Path.{ap, ◌∙◌}
-use Prim.Native.Nat.{◌≤◌}
 use native.Mathlib.Nat.{min-le_right}
 use Rattle.finder_sides.specs.Sides.{now_side_number}
 use Rattle.finder_ranks.proofs.apart.side_of.Goals as goal

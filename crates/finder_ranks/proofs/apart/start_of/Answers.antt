@@ -1,6 +1,5 @@
 -- `finder_ranks::apart::start_of` meets its contract: the packed number, by a computed test at the seven digits.
 use Rattle.finder_ranks.proofs.ApartLaws.{packed_start}
-use borrow.Author.Rules.{rules}
 use Rattle.finder_ranks.proofs.apart.start_of.Goals as goal
 
 pub returns : goal.returns

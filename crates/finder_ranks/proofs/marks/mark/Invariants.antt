@@ -1,11 +1,6 @@
 -- `finder_ranks::marks::mark` meets its contract. The loop has marked the states below seven times the rest.
-use borrow.Author.Rules.{rules}
-use mathlib.Core.Path.{◌≡◌, ap, ◌∙◌}
-use Prim.Native.Nat.{◌+◌, ◌*◌, ◌^◌, ◌≤◌, ◌-◌}
-use native.Mathlib.Omega.{arith}
-use native.Mathlib.Nat.{zero-mul, min-eq_left}
+use Prim.Native.Nat.{◌*◌, ◌≤◌, ◌-◌}
 use Rattle.finder_ranks.specs.Marks.{Stored, mark_at}
-use Rattle.finder_ranks.proofs.MarkLaws.{stored_none, stored_both, marks-all, sevens}
 use Rattle.finder_ranks.proofs.marks.mark.Given as goal
 
 abbrev pub invariant-loop-rest : goal.invariant-loop-rest

@@ -1,12 +1,7 @@
 -- `finder_ranks::marks::unmark` meets its contract. The loop has taken away the marks below k where the second leg has no rank.
-use borrow.Author.Rules.{rules}
-use mathlib.Core.Path.{◌≡◌, refl, ap, ◌∙◌, subst}
-use Prim.Native.Nat.{ℕ, ◌^◌, ◌≤◌, ◌-◌}
-use native.Mathlib.Omega.{arith}
-use native.Mathlib.Nat.{min-eq_left}
-use lib.ListN.{get_or, length}
+use Prim.Native.Nat.{◌≤◌, ◌-◌}
+use lib.ListN.{get_or}
 use Rattle.finder_ranks.specs.Marks.{Stored, mark_then}
-use Rattle.finder_ranks.proofs.MarkLaws.{stored_none, unmarked_more}
 use Rattle.finder_ranks.proofs.marks.unmark.Given as goal
 
 abbrev pub invariant-loop-k : goal.invariant-loop-k

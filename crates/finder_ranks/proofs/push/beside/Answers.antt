@@ -2,7 +2,6 @@
 use native.Mathlib.Omega.{arith}
 use Rattle.finder_ranks.proofs.Spots.{spot_below, spot_states, spot_sides}
 use Rattle.finder_ranks.proofs.AtSpots.{look_at, look_high-at}
-use borrow.Author.Rules.{rules}
 use Rattle.finder_ranks.proofs.push.beside.Goals as goal
 
 pub overflow_mul-other : goal.overflow_mul-other

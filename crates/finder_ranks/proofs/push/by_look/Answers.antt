@@ -3,7 +3,6 @@ use lib.Dec.{lit<}
 use mathlib.Core.Path.{◌∙◌}
 use Rattle.finder_ranks.proofs.AtSpots.{beside_false, beside_true}
 use Rattle.finder_ranks.proofs.Pushes.{looks-none}
-use borrow.Author.Rules.{rules}
 use Rattle.finder_ranks.proofs.push.by_look.Goals as goal
 
 pub beside-requires : goal.beside-requires

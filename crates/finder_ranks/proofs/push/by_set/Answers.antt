@@ -6,7 +6,6 @@ use Rattle.knowledge_acts.proofs.Seven.{set_lt}
 use Rattle.finder_ranks.specs.Push.{other}
 use Rattle.finder_ranks.proofs.AtSpots.{is_digit, lead_other, lead_none}
 use Rattle.finder_ranks.proofs.Pushes.{pushing_on, sets-none, sets-one, sets-two}
-use borrow.Author.Rules.{rules}
 use Rattle.finder_ranks.proofs.push.by_set.Goals as goal
 
 pub returns-then-d-eq0 : goal.returns-then-d-eq0

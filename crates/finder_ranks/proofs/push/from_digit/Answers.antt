@@ -2,7 +2,6 @@
 use native.Mathlib.Omega.{arith}
 use Rattle.finder_ranks.proofs.Spots.{spot_below, spot_states, spot_sides}
 use Rattle.finder_ranks.proofs.AtSpots.{set_at}
-use borrow.Author.Rules.{rules}
 use Rattle.finder_ranks.proofs.push.from_digit.Goals as goal
 
 pub overflow_mul-at : goal.overflow_mul-at

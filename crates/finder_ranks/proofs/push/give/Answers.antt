@@ -1,6 +1,5 @@
 -- `finder_ranks::push::give` meets its contract: the two tests of an offer, one after the other.
 use Rattle.finder_ranks.proofs.Grown.{offer_no, offer_yes, offer_full}
-use borrow.Author.Rules.{rules}
 use Rattle.finder_ranks.proofs.push.give.Goals as goal
 
 pub returns-then-ranks-at : goal.returns-then-ranks-at

@@ -1,5 +1,4 @@
 -- `finder_ranks::push::other_of` meets its contract: the constant agrees with the set table, by a computed test at the seven digits.
-use borrow.Author.Rules.{rules}
 use mathlib.Core.List.{List, [], ◌∷◌}
 use mathlib.Core.Path.{◌≡◌}
 use Prim.Native.Nat.{ℕ, ◌<◌}

@@ -1,7 +1,6 @@
 -- `finder_ranks::push::push` meets its contract: sets first, then looks.
 use Rattle.finder_ranks.proofs.Pushes.{pushing_on, along}
 use mathlib.Core.List.{[]}
-use borrow.Author.Rules.{rules}
 use Rattle.finder_ranks.proofs.push.push.Goals as goal
 
 pub by_look-requires : goal.by_look-requires

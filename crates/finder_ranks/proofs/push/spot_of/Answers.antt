@@ -45,7 +45,7 @@ returns c =
       few = c.requires.0;
       state = c.requires.1;
       setting = c.requires.3;
-      rest-is = omega (
+      rest_is = omega (
         arith,
         (rest_of c.args.n c.args.k c.args.i c.args.d c.requires.4
             c.args.seven c.requires.5),

@@ -1,6 +1,5 @@
 -- `finder_ranks::round::block` meets its contract: a bare block has nothing to visit.
 use Rattle.finder_ranks.proofs.Sweeps.{swept_bare}
-use borrow.Author.Rules.{rules}
 use Rattle.finder_ranks.proofs.round.block.Goals as goal
 
 pub returns-then-is_bare : goal.returns-then-is_bare

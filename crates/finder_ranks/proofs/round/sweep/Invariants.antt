@@ -1,9 +1,6 @@
 -- `finder_ranks::round::sweep` meets its contract: the part passed was swept, and one state more makes a longer part.
 use Prim.Native.Nat.{◌-◌, ◌≤◌}
-use native.Mathlib.Omega.{arith}
 use Rattle.finder_ranks.specs.Round.{Swept}
-use Rattle.finder_sides.proofs.CountLaws.{states_most}
-use Rattle.finder_ranks.proofs.Sweeps.{swept_bare, swept_on, swept_all, sweeping_on}
 use Rattle.finder_ranks.proofs.round.sweep.Given as goal
 
 abbrev pub invariant-loop-k : goal.invariant-loop-k

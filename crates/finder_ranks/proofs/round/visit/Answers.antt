@@ -1,9 +1,7 @@
 -- `finder_ranks::round::visit` meets its contract: each setting passed was pushed along, and the powers run with it.
-use Prim.Native.Nat.{◌-◌, ◌^◌, ◌≤◌, ◌<◌}
-use mathlib.Core.Path.{◌≡◌}
+use Prim.Native.Nat.{◌-◌, ◌<◌}
 use native.Mathlib.Omega.{arith}
 use Rattle.finder_sides.proofs.CountLaws.{states_most, sides-most}
-use Rattle.finder_ranks.specs.Round.{Visited}
 use Rattle.finder_ranks.proofs.ApartLaws.{power_none, power_up}
 use Rattle.finder_ranks.proofs.Sweeps.{visit_none, visit_more, visit_all, visiting_on}
 use Rattle.finder_ranks.proofs.round.visit.Goals as goal
@@ -20,7 +18,7 @@ loop-i-init c = (omega arith, power_none 7, power_none 3, visit_none)
 pub bounds-digits-i : goal.bounds-digits-i
 bounds-digits-i c =
     let below : c.loop-i.i < 7 =
-        omega (arith, c.requires.0, c.loop-i-test.true) in
+    omega (arith, c.requires.0, c.loop-i-test.true) in
     omega (arith, below, c.take_apart-parts.ensures.long)
 
 pub push-requires : goal.push-requires
@@ -40,21 +38,21 @@ push-requires c =
 pub overflow_mul-seven : goal.overflow_mul-seven
 overflow_mul-seven c =
     let below : c.loop-i.i < 7 =
-        omega (arith, c.requires.0, c.loop-i-test.true) in
+    omega (arith, c.requires.0, c.loop-i-test.true) in
     let loop = c.loop-i in
     omega (arith, loop.invariant.1, states_most loop.i (omega (arith, below)))
 
 pub overflow_mul-three : goal.overflow_mul-three
 overflow_mul-three c =
     let below : c.loop-i.i < 7 =
-        omega (arith, c.requires.0, c.loop-i-test.true) in
+    omega (arith, c.requires.0, c.loop-i-test.true) in
     let loop = c.loop-i in
     omega (arith, loop.invariant.2, sides-most loop.i (omega (arith, below)))
 
 pub overflow_add-i : goal.overflow_add-i
 overflow_add-i c =
     let below : c.loop-i.i < 7 =
-        omega (arith, c.requires.0, c.loop-i-test.true) in
+    omega (arith, c.requires.0, c.loop-i-test.true) in
     omega (arith, below)
 
 pub loop-i-smaller : goal.loop-i-smaller

@@ -1,15 +1,11 @@
 -- `finder_ranks::round::visit` meets its contract: each setting passed was pushed along, and the powers run with it.
-use Prim.Native.Nat.{◌-◌, ◌^◌, ◌≤◌, ◌<◌}
+use Prim.Native.Nat.{◌-◌, ◌^◌, ◌≤◌}
 use mathlib.Core.Path.{◌≡◌}
-use native.Mathlib.Omega.{arith}
-use Rattle.finder_sides.proofs.CountLaws.{states_most, sides-most}
 use Rattle.finder_ranks.specs.Round.{Visited}
-use Rattle.finder_ranks.proofs.ApartLaws.{power_none, power_up}
-use Rattle.finder_ranks.proofs.Sweeps.{visit_none, visit_more, visit_all, visiting_on}
 use Rattle.finder_ranks.proofs.round.visit.Given as goal
 
 abbrev pub invariant-loop-i : goal.invariant-loop-i
-invariant-loop-i l =     (l.i ≤ l.n) × (l.seven ≡ 7 ^ l.i) × (l.three ≡ 3 ^ l.i) × Visited l.n l.set l.look l.h l.k l.i l.initial.ranks l.ranks
+invariant-loop-i l = (l.i ≤ l.n) × (l.seven ≡ 7 ^ l.i) × (l.three ≡ 3 ^ l.i) × Visited l.n l.set l.look l.h l.k l.i l.initial.ranks l.ranks
 
 abbrev pub decreases-loop-i : goal.decreases-loop-i
 decreases-loop-i l = l.n - l.i

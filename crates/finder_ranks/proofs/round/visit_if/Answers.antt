@@ -2,7 +2,6 @@
 use Prim.Native.Nat.{◌-◌}
 use native.Mathlib.Omega.{arith}
 use Rattle.finder_ranks.proofs.Sweeps.{bare-one, swept_bare, swept_one}
-use borrow.Author.Rules.{rules}
 use Rattle.finder_ranks.proofs.round.visit_if.Goals as goal
 
 pub returns-then-ranks-k : goal.returns-then-ranks-k

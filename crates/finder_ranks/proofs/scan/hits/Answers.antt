@@ -1,10 +1,8 @@
 -- `finder_ranks::scan::hits` meets its contract: the count is 0 only as long as no entry of the rank was passed.
-use Prim.Native.Nat.{◌+◌, ◌-◌, ◌≤◌}
-use mathlib.Core.Path.{◌≡◌}
+use Prim.Native.Nat.{◌+◌, ◌-◌}
 use native.Mathlib.Omega.{arith}
 use lib.Dec.{eqb}
 use lib.ListN.{get_or}
-use Rattle.finder_ranks.specs.Round.{Bare}
 use Rattle.finder_ranks.proofs.Sweeps.{hit_most, bare-more}
 use Rattle.finder_ranks.proofs.scan.hits.Goals as goal
 

@@ -1,11 +1,7 @@
 -- `finder_ranks::scan::hits` meets its contract: the count is 0 only as long as no entry of the rank was passed.
 use Prim.Native.Nat.{◌+◌, ◌-◌, ◌≤◌}
 use mathlib.Core.Path.{◌≡◌}
-use native.Mathlib.Omega.{arith}
-use lib.Dec.{eqb}
-use lib.ListN.{get_or}
 use Rattle.finder_ranks.specs.Round.{Bare}
-use Rattle.finder_ranks.proofs.Sweeps.{hit_most, bare-more}
 use Rattle.finder_ranks.proofs.scan.hits.Given as goal
 
 abbrev pub invariant-loop-j : goal.invariant-loop-j

@@ -2,7 +2,6 @@
 use borrow.Author.Tests.{eqb-true}
 use native.Mathlib.Omega.{arith}
 use Rattle.finder_ranks.proofs.Sweeps.{not_so}
-use borrow.Author.Rules.{rules}
 use Rattle.finder_ranks.proofs.scan.is_bare.Goals as goal
 
 pub returns-then-end-at-lt-STRETCH : goal.returns-then-end-at-lt-STRETCH

@@ -1,11 +1,6 @@
 -- `finder_ranks::spread::spread` meets its contract: a round carries the stage of h to that of h + 1, and both ways out end in the certificate.
-use borrow.Author.Rules.{rules}
-use Prim.Native.Nat.{◌-◌, ◌^◌, ◌≤◌, ◌<◌}
-use mathlib.Core.Path.{◌≡◌, ap, ◌∙◌}
-use native.Mathlib.Nat.{min-eq_left}
-use native.Mathlib.Omega.{arith}
-use Rattle.finder_ranks.proofs.Sweeps.{swept_all}
-use Rattle.finder_ranks.proofs.Stages.{Stage, first, next, still, last}
+use Prim.Native.Nat.{◌-◌, ◌≤◌, ◌<◌}
+use Rattle.finder_ranks.proofs.Stages.{Stage}
 use Rattle.finder_ranks.proofs.spread.spread.Given as goal
 
 abbrev pub invariant-loop-h : goal.invariant-loop-h

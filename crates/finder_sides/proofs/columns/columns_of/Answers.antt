@@ -1,12 +1,11 @@
 -- `finder_sides::columns::columns_of` meets its contract. The loop has stored the columns below v.
-use borrow.Author.Rules.{rules}
-use mathlib.Core.Path.{◌≡◌, refl, ap, ◌∙◌}
-use Prim.Native.Nat.{◌≤◌, ◌^◌, ◌-◌}
+use mathlib.Core.Path.{refl, ap, ◌∙◌}
+use Prim.Native.Nat.{◌^◌, ◌-◌}
 use native.Mathlib.Nat.{min-eq_left}
 use native.Mathlib.Omega.{arith}
-use lib.ListN.{length, length-set}
+use lib.ListN.{length-set}
 use lib.Pow.{pow_mono}
-use Rattle.finder_sides.specs.Inner.{FoundAt, EachColumn}
+use Rattle.finder_sides.specs.Inner.{FoundAt}
 use Rattle.finder_sides.proofs.ListLaws.{each_more}
 use Rattle.finder_sides.proofs.columns.columns_of.Goals as goal
 

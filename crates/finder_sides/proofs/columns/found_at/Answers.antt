@@ -1,5 +1,4 @@
 -- `finder_sides::columns::found_at` meets its contract, by what is judged.
-use borrow.Author.Rules.{rules}
 use Rattle.finder_sides.proofs.columns.found_at.Goals as goal
 
 pub returns-in-Make : goal.returns-in-Make

@@ -1,7 +1,6 @@
 -- `finder_sides::columns::learnt_at` meets its contract, by what the table tells.
 use mathlib.Core.Path.{sym, ap, ◌∙◌}
 use Rattle.finder_sides.specs.Inner.{same_of}
-use borrow.Author.Rules.{rules}
 use Rattle.finder_sides.proofs.columns.learnt_at.Goals as goal
 
 pub returns-then-finds : goal.returns-then-finds

@@ -1,7 +1,6 @@
 -- `finder_sides::columns::made_at` meets its contract, by what the table tells.
 use mathlib.Core.Path.{sym, ap, ◌∙◌}
 use Rattle.finder_sides.specs.Tables.{one_of}
-use borrow.Author.Rules.{rules}
 use Rattle.finder_sides.proofs.columns.made_at.Goals as goal
 
 pub returns-then-finds : goal.returns-then-finds

@@ -1,5 +1,4 @@
 -- `finder_sides::columns::post_at` meets its contract: the bit of the team, then the rule.
-use borrow.Author.Rules.{rules}
 use mathlib.Core.Path.{sym, ap, ◌∙◌}
 use lib.ListN.{drop}
 use Rattle.ground.specs.Table.{truth}

@@ -1,12 +1,8 @@
 -- `finder_sides::columns::posts_at` meets its contract. The loop has read the posts from the last down.
-use mathlib.Core.Bool.{◌&&◌}
 use Prim.Native.Nat.{◌-◌, ◌≤◌}
 use native.Mathlib.Omega.{arith}
 use lib.Pow.{pow_mono}
-use Rattle.ground.specs.Digits.{bit}
-use Rattle.ground.specs.Table.{truth}
-use Rattle.book_block.specs.Rule.{rule}
-use Rattle.finder_sides.proofs.PostLaws.{BitsFrom, bits_none, bits-more, bits-all}
+use Rattle.finder_sides.proofs.PostLaws.{bits_none, bits-more, bits-all}
 use Rattle.finder_sides.proofs.columns.posts_at.Goals as goal
 
 pub loop-post-init : goal.loop-post-init

@@ -1,6 +1,5 @@
 -- `finder_sides::columns::push` meets its contract, by the two bits.
 use native.Mathlib.Omega.{arith}
-use borrow.Author.Rules.{rules}
 use Rattle.finder_sides.proofs.columns.push.Goals as goal
 
 pub returns-then-low : goal.returns-then-low

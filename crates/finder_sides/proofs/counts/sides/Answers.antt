@@ -1,7 +1,6 @@
 -- `finder_sides::counts::sides` meets its contract: the table of powers, by a computed test.
 use Rattle.ground.specs.Search.{all}
 use Rattle.finder_sides.proofs.CountLaws.{power_of, threes}
-use borrow.Author.Rules.{rules}
 use Rattle.finder_sides.proofs.counts.sides.Goals as goal
 
 pub returns : goal.returns

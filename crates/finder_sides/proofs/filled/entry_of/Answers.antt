@@ -3,41 +3,40 @@ use Prim.Native.Nat.{ℕ, ◌+◌, ◌*◌, ◌<◌}
 use native.Mathlib.Omega.{arith}
 use lib.Dec.{lit<}
 use Rattle.finder_sides.proofs.FillLaws.{place_lt, entry-unknown, valuation_lt, entry_known}
-use borrow.Author.Rules.{rules}
 use Rattle.finder_sides.proofs.filled.entry_of.Goals as goal
 
 pub overflow_add-result : goal.overflow_add-result
 overflow_add-result c =
     let place_at : (d : ℕ) → d < 3 → c.args.side + d * c.in-Unknown.power < 2187 =
-        λ d. λ h. place_lt c.args.n c.args.side c.told_by.result c.requires.0 c.requires.1 c.told_by.ensures
+    λ d. λ h. place_lt c.args.n c.args.side c.told_by.result c.requires.0 c.requires.1 c.told_by.ensures
     c.in-Unknown.power c.in-Unknown.is d h in
     omega (arith, place_at 1 (lit< tt))
 
 pub bounds-table-side : goal.bounds-table-side
 bounds-table-side c =
     let place_at : (d : ℕ) → d < 3 → c.args.side + d * c.in-Unknown.power < 2187 =
-        λ d. λ h. place_lt c.args.n c.args.side c.told_by.result c.requires.0 c.requires.1 c.told_by.ensures
+    λ d. λ h. place_lt c.args.n c.args.side c.told_by.result c.requires.0 c.requires.1 c.told_by.ensures
     c.in-Unknown.power c.in-Unknown.is d h in
     omega (arith, place_at 1 (lit< tt))
 
 pub overflow_mul-result : goal.overflow_mul-result
 overflow_mul-result c =
     let place_at : (d : ℕ) → d < 3 → c.args.side + d * c.in-Unknown.power < 2187 =
-        λ d. λ h. place_lt c.args.n c.args.side c.told_by.result c.requires.0 c.requires.1 c.told_by.ensures
+    λ d. λ h. place_lt c.args.n c.args.side c.told_by.result c.requires.0 c.requires.1 c.told_by.ensures
     c.in-Unknown.power c.in-Unknown.is d h in
     omega (arith, place_at 2 (lit< tt))
 
 pub overflow_add-result-in-Unknown : goal.overflow_add-result-in-Unknown
 overflow_add-result-in-Unknown c =
     let place_at : (d : ℕ) → d < 3 → c.args.side + d * c.in-Unknown.power < 2187 =
-        λ d. λ h. place_lt c.args.n c.args.side c.told_by.result c.requires.0 c.requires.1 c.told_by.ensures
+    λ d. λ h. place_lt c.args.n c.args.side c.told_by.result c.requires.0 c.requires.1 c.told_by.ensures
     c.in-Unknown.power c.in-Unknown.is d h in
     omega (arith, place_at 2 (lit< tt))
 
 pub bounds-table-side-in-Unknown : goal.bounds-table-side-in-Unknown
 bounds-table-side-in-Unknown c =
     let place_at : (d : ℕ) → d < 3 → c.args.side + d * c.in-Unknown.power < 2187 =
-        λ d. λ h. place_lt c.args.n c.args.side c.told_by.result c.requires.0 c.requires.1 c.told_by.ensures
+    λ d. λ h. place_lt c.args.n c.args.side c.told_by.result c.requires.0 c.requires.1 c.told_by.ensures
     c.in-Unknown.power c.in-Unknown.is d h in
     omega (arith, place_at 2 (lit< tt))
 

@@ -1,9 +1,8 @@
 -- `finder_sides::filled::fill` meets its contract. The loop has filled the entries from the side up.
-use mathlib.Core.Path.{◌≡◌, ◌∙◌}
-use Prim.Native.Nat.{ℕ, ◌≤◌, ◌^◌, ◌-◌}
+use mathlib.Core.Path.{◌∙◌}
+use Prim.Native.Nat.{◌-◌}
 use native.Mathlib.Omega.{arith}
-use lib.ListN.{length, length-set, get_or}
-use Rattle.finder_sides.specs.Inner.{FilledFrom}
+use lib.ListN.{length-set}
 use Rattle.finder_sides.proofs.CountLaws.{sides-most}
 use Rattle.finder_sides.proofs.FillLaws.{filled_more, past_more, filled-all, zeros_long, zeros_at}
 use Rattle.finder_sides.proofs.filled.fill.Goals as goal

@@ -1,23 +1,22 @@
 -- `finder_sides::goal::learnt` meets its contract. The loop has met the tables of the first j learn formulas.
-use borrow.Author.Rules.{rules}
-use mathlib.Core.Path.{◌≡◌, subst}
-use Prim.Native.Nat.{◌≤◌, ◌-◌, min}
+use mathlib.Core.Path.{subst}
+use Prim.Native.Nat.{◌≤◌, ◌-◌}
 use native.Mathlib.Omega.{arith}
 use Rattle.finder_sides.specs.Tables.{Learnt}
 use native.Mathlib.Nat.{min-le_right}
-use Rattle.finder_sides.proofs.GoalLaws.{LearntTo, learnt-none, learnt-more, learnt-all}
+use Rattle.finder_sides.proofs.GoalLaws.{learnt-none, learnt-more, learnt-all}
 use Rattle.finder_sides.proofs.goal.learnt.Goals as goal
 
 pub fill-table-requires : goal.fill-table-requires
 fill-table-requires c =
     let few : c.up_to_seven-settings.result ≤ 7 =
-        rw c.up_to_seven-settings.ensures (min-le_right _ 7) in
+    rw c.up_to_seven-settings.ensures (min-le_right _ 7) in
     few
 
 pub loop-j-init : goal.loop-j-init
 loop-j-init c =
     let few : c.up_to_seven-settings.result ≤ 7 =
-        rw c.up_to_seven-settings.ensures (min-le_right _ 7) in
+    rw c.up_to_seven-settings.ensures (min-le_right _ 7) in
     (c.up_to_seven-settings.ensures, few, omega arith, learnt-none c.args.learn.now (few) c.fill-table.ensures)
 
 pub settled-one-requires : goal.settled-one-requires

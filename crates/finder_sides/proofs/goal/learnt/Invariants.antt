@@ -1,11 +1,7 @@
 -- `finder_sides::goal::learnt` meets its contract. The loop has met the tables of the first j learn formulas.
-use borrow.Author.Rules.{rules}
-use mathlib.Core.Path.{◌≡◌, subst}
+use mathlib.Core.Path.{◌≡◌}
 use Prim.Native.Nat.{◌≤◌, ◌-◌, min}
-use native.Mathlib.Omega.{arith}
-use Rattle.finder_sides.specs.Tables.{Learnt}
-use native.Mathlib.Nat.{min-le_right}
-use Rattle.finder_sides.proofs.GoalLaws.{LearntTo, learnt-none, learnt-more, learnt-all}
+use Rattle.finder_sides.proofs.GoalLaws.{LearntTo}
 use Rattle.finder_sides.proofs.goal.learnt.Given as goal
 
 abbrev pub invariant-loop-j : goal.invariant-loop-j

@@ -1,9 +1,8 @@
 -- `finder_sides::goal::meet` meets its contract. The loop has stored the entries below the side.
-use borrow.Author.Rules.{rules}
 use mathlib.Core.Path.{◌≡◌, refl, ◌∙◌}
-use Prim.Native.Nat.{ℕ, ◌≤◌, ◌<◌, ◌-◌}
+use Prim.Native.Nat.{◌-◌}
 use native.Mathlib.Omega.{arith}
-use lib.ListN.{length, length-set, get_or}
+use lib.ListN.{length-set, get_or}
 use Rattle.finder_sides.specs.Inner.{both_of}
 use Rattle.finder_sides.proofs.ListLaws.{each_more}
 use Rattle.finder_sides.proofs.goal.meet.Goals as goal

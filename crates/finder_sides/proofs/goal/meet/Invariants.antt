@@ -1,11 +1,8 @@
 -- `finder_sides::goal::meet` meets its contract. The loop has stored the entries below the side.
-use borrow.Author.Rules.{rules}
-use mathlib.Core.Path.{◌≡◌, refl, ◌∙◌}
+use mathlib.Core.Path.{◌≡◌}
 use Prim.Native.Nat.{ℕ, ◌≤◌, ◌<◌, ◌-◌}
-use native.Mathlib.Omega.{arith}
-use lib.ListN.{length, length-set, get_or}
+use lib.ListN.{length, get_or}
 use Rattle.finder_sides.specs.Inner.{both_of}
-use Rattle.finder_sides.proofs.ListLaws.{each_more}
 use Rattle.finder_sides.proofs.goal.meet.Given as goal
 
 abbrev pub invariant-loop-side : goal.invariant-loop-side

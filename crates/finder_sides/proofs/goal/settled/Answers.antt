@@ -1,5 +1,4 @@
 -- `finder_sides::goal::settled` meets its contract: the columns of a learn formula, filled.
-use borrow.Author.Rules.{rules}
 use lib.ListN.{drop}
 use Rattle.finder_sides.proofs.GoalLaws.{settled-table}
 use Rattle.finder_sides.proofs.goal.settled.Goals as goal

@@ -1,5 +1,4 @@
 -- `finder_sides::posts::acting_on` meets its contract: by the bit of the mask.
-use borrow.Author.Rules.{rules}
 use mathlib.Core.Path.{sym, ◌∙◌}
 use Rattle.finder_sides.specs.Tables.{acting_on}
 use Rattle.finder_sides.proofs.posts.acting_on.Goals as goal

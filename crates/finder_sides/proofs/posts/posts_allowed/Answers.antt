@@ -1,11 +1,10 @@
 -- `finder_sides::posts::posts_allowed` meets its contract. The loop has filled the tables of the first settings.
-use borrow.Author.Rules.{rules}
-use mathlib.Core.Path.{◌≡◌, sym, subst}
-use Prim.Native.Nat.{◌≤◌, ◌-◌, min}
+use mathlib.Core.Path.{sym, subst}
+use Prim.Native.Nat.{◌-◌}
 use native.Mathlib.Omega.{arith}
 use Rattle.finder_sides.specs.Tables.{acting_on, PostTables}
 use native.Mathlib.Nat.{min-le_right}
-use Rattle.finder_sides.proofs.PostLaws.{RowsTo, no_rows, more_rows, all-rows, post-row}
+use Rattle.finder_sides.proofs.PostLaws.{no_rows, more_rows, all-rows, post-row}
 use Rattle.finder_sides.proofs.posts.posts_allowed.Goals as goal
 
 pub loop-setting-init : goal.loop-setting-init

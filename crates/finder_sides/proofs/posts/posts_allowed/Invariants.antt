@@ -1,15 +1,12 @@
 -- `finder_sides::posts::posts_allowed` meets its contract. The loop has filled the tables of the first settings.
-use borrow.Author.Rules.{rules}
-use mathlib.Core.Path.{◌≡◌, sym, subst}
+use mathlib.Core.Path.{◌≡◌}
 use Prim.Native.Nat.{◌≤◌, ◌-◌, min}
-use native.Mathlib.Omega.{arith}
-use Rattle.finder_sides.specs.Tables.{acting_on, PostTables}
-use native.Mathlib.Nat.{min-le_right}
-use Rattle.finder_sides.proofs.PostLaws.{RowsTo, no_rows, more_rows, all-rows, post-row}
+use Rattle.finder_sides.specs.Tables.{acting_on}
+use Rattle.finder_sides.proofs.PostLaws.{RowsTo}
 use Rattle.finder_sides.proofs.posts.posts_allowed.Given as goal
 
 abbrev pub invariant-loop-setting : goal.invariant-loop-setting
-invariant-loop-setting l =     (l.settings ≡ min l.n 7) × (l.settings ≤ 7) × (l.setting ≤ l.settings) × RowsTo l.settings l.book (acting_on l.team l.held) l.right l.setting l.tables
+invariant-loop-setting l = (l.settings ≡ min l.n 7) × (l.settings ≤ 7) × (l.setting ≤ l.settings) × RowsTo l.settings l.book (acting_on l.team l.held) l.right l.setting l.tables
 
 abbrev pub decreases-loop-setting : goal.decreases-loop-setting
 decreases-loop-setting l = l.settings - l.setting

@@ -1,9 +1,6 @@
 -- `finder_sides::told::told_by` meets its contract. The loop has read the lowest i settings, all of them told.
-use mathlib.Core.Path.{sym, ◌∙◌}
 use Prim.Native.Nat.{◌≤◌, ◌-◌}
-use native.Mathlib.Omega.{arith}
-use Rattle.finder_sides.proofs.ToldLaws.{ToldTo, nothing_told, the_digit, one-more-told, value-most, weight_most, told-all}
-use Rattle.finder_sides.proofs.CountLaws.{power_most}
+use Rattle.finder_sides.proofs.ToldLaws.{ToldTo}
 use Rattle.finder_sides.proofs.told.told_by.Given as goal
 
 abbrev pub invariant-loop-i : goal.invariant-loop-i

@@ -1,14 +1,7 @@
 -- The cycle of the three readers meets its contracts. What is left of the text falls with each byte that is passed; at one place a sum calls a product and a
 -- product a unit, so the measure is three times what is left, plus 2 for a sum and 1 for a product. Each return is a law of PartLaws or BrokenLaws.
-use mathlib.Core.Path.{sym, ◌∙◌}
-use borrow.Author.Rules.{rules}
-use native.Mathlib.Omega.{arith}
 use Prim.Native.Nat.{◌+◌, ◌-◌, ◌*◌}
 use lib.ListN.{length}
-use Rattle.formula_grammar.specs.Grammar as G
-use Rattle.formula_grammar.proofs.PartLaws.{as_read, inside, negated-read, bracketed-read, product_one, product_more, sum_one, sum_more}
-use Rattle.formula_grammar.proofs.BrokenLaws.{as_broken, negated-broken, bracketed-broken, unclosed, no_unit, no_product, product_broken, sum-broken}
-use Prim.Native.Nat.{ℕ, ◌<◌}
 use Rattle.formula_grammar.proofs.parts.+product_sum_unit.Given as goal
 
 abbrev pub decreases-product : goal.decreases-product

@@ -1,5 +1,4 @@
 -- `atom` meets its contract: each of the one-byte units, and else nothing goes on.
-use borrow.Author.Rules.{rules}
 use mathlib.Core.Path.{sym, ap, ◌∙◌}
 use native.Mathlib.Omega.{arith}
 use Rattle.formula_grammar.specs.Signs.{is_letter}

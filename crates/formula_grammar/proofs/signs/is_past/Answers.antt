@@ -1,7 +1,6 @@
 -- `is_past` meets its contract: of a letter, its distance from `a`.
 use mathlib.Core.Path.{sym, ◌∙◌}
 use Rattle.formula_grammar.proofs.ScanLaws.{letter-low, past-letter, past-none}
-use borrow.Author.Rules.{rules}
 use Rattle.formula_grammar.proofs.signs.is_past.Goals as goal
 
 pub overflow_sub-result : goal.overflow_sub-result

@@ -2,7 +2,6 @@
 use mathlib.Core.Path.{sym, ap, ◌∙◌}
 use mathlib.Core.Bool.{not}
 use Rattle.formula_grammar.proofs.ScanLaws.{letter-not_stray, sign_not_stray}
-use borrow.Author.Rules.{rules}
 use Rattle.formula_grammar.proofs.signs.is_stray.Goals as goal
 
 pub returns-then-is_letter : goal.returns-then-is_letter

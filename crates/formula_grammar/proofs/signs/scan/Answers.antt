@@ -1,10 +1,8 @@
 -- `scan` meets its contract. The loop has found no foreign byte among the first i.
-use borrow.Author.Rules.{rules}
 use Prim.Native.Nat.{◌-◌}
 use mathlib.Core.Path.{sym, ◌∙◌}
-use lib.ListN.{length}
 use native.Mathlib.Omega.{arith}
-use Rattle.formula_grammar.proofs.ScanLaws.{CleanTo, stray_first, past_first, clean-more}
+use Rattle.formula_grammar.proofs.ScanLaws.{stray_first, past_first, clean-more}
 use Rattle.formula_grammar.proofs.signs.scan.Goals as goal
 
 pub loop-i-init : goal.loop-i-init

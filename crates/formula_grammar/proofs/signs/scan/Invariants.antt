@@ -1,10 +1,7 @@
 -- `scan` meets its contract. The loop has found no foreign byte among the first i.
-use borrow.Author.Rules.{rules}
 use Prim.Native.Nat.{◌-◌}
-use mathlib.Core.Path.{sym, ◌∙◌}
 use lib.ListN.{length}
-use native.Mathlib.Omega.{arith}
-use Rattle.formula_grammar.proofs.ScanLaws.{CleanTo, stray_first, past_first, clean-more}
+use Rattle.formula_grammar.proofs.ScanLaws.{CleanTo}
 use Rattle.formula_grammar.proofs.signs.scan.Given as goal
 
 abbrev pub invariant-loop-i : goal.invariant-loop-i

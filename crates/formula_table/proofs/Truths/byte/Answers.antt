@@ -2,7 +2,6 @@
 use mathlib.Core.Path.{ap}
 use Prim.Native.Nat.{ℕ, ◌*◌, ◌/◌, ◌%◌, ◌^◌}
 use Rattle.formula_table.specs.Two.{words_byte}
-use borrow.Author.Rules.{rules}
 use Rattle.formula_table.proofs.Truths.byte.Goals as goal
 
 pub returns : goal.returns

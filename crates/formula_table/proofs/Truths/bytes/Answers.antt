@@ -1,10 +1,7 @@
 -- `Truths::bytes` meets its contract. The loop has stored the first j bytes.
-use borrow.Author.Rules.{rules}
-use Prim.Native.Nat.{ℕ, ◌-◌, ◌<◌}
-use mathlib.Core.Path.{◌≡◌, refl, ◌∙◌}
-use lib.ListN.{length, get_or, length-set}
+use mathlib.Core.Path.{refl, ◌∙◌}
+use lib.ListN.{length-set}
 use native.Mathlib.Omega.{arith}
-use Rattle.formula_table.specs.Two.{words_byte}
 use Rattle.formula_table.proofs.TwoWords.{stored}
 use Rattle.formula_table.proofs.Truths.bytes.Goals as goal
 

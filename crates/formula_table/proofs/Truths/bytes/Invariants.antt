@@ -1,11 +1,8 @@
 -- `Truths::bytes` meets its contract. The loop has stored the first j bytes.
-use borrow.Author.Rules.{rules}
 use Prim.Native.Nat.{ℕ, ◌-◌, ◌<◌}
-use mathlib.Core.Path.{◌≡◌, refl, ◌∙◌}
-use lib.ListN.{length, get_or, length-set}
-use native.Mathlib.Omega.{arith}
+use mathlib.Core.Path.{◌≡◌}
+use lib.ListN.{length, get_or}
 use Rattle.formula_table.specs.Two.{words_byte}
-use Rattle.formula_table.proofs.TwoWords.{stored}
 use Rattle.formula_table.proofs.Truths.bytes.Given as goal
 
 abbrev pub invariant-loop-j : goal.invariant-loop-j

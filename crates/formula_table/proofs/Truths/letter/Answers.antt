@@ -2,7 +2,6 @@
 use native.Mathlib.Omega.{arith}
 use Rattle.formula_table.proofs.TwoWords.{letter-holds, last_letter-holds, past-letter-holds, letters}
 use lib.Arith.{lt_of_le-ne}
-use borrow.Author.Rules.{rules}
 use Rattle.formula_table.proofs.Truths.letter.Goals as goal
 
 pub returns-then-i-eq6 : goal.returns-then-i-eq6

@@ -1,7 +1,6 @@
 -- `Truths::within` meets its contract: the masks by a computed test over their entries.
 use native.Mathlib.Omega.{arith}
 use Rattle.formula_table.proofs.TwoWords.{within_low, within_six, within_seven, masks}
-use borrow.Author.Rules.{rules}
 use Rattle.formula_table.proofs.Truths.within.Goals as goal
 
 pub returns-then-n-ge-SETTINGS_MOST : goal.returns-then-n-ge-SETTINGS_MOST

@@ -1,5 +1,4 @@
 -- `copy` meets its contract: what is there of the run and fits is as good as all of it.
-use borrow.Author.Rules.{rules}
 use mathlib.Core.Path.{ap, ◌∙◌}
 use native.Mathlib.Omega.{arith}
 use Prim.Native.Nat.{ℕ, ◌-◌, min}

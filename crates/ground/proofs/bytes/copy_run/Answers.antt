@@ -1,10 +1,8 @@
 -- `copy_run` meets its contract: after i turns the first i bytes of the part stand in the room.
 use borrow.Author.Rules.{rules}
-use mathlib.Core.Path.{◌≡◌, refl}
-use Prim.Native.Nat.{◌≤◌, ◌-◌}
+use mathlib.Core.Path.{refl}
 use native.Mathlib.Omega.{arith}
-use lib.ListN.{length, take, drop, length-set}
-use lib.Seq.{sets}
+use lib.ListN.{take, drop, length-set}
 use Rattle.ground.proofs.Lists.{write_step, write_done, get_d_part, length_part_there}
 use Rattle.ground.proofs.bytes.copy_run.Goals as goal
 

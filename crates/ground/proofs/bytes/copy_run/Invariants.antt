@@ -1,11 +1,8 @@
 -- `copy_run` meets its contract: after i turns the first i bytes of the part stand in the room.
-use borrow.Author.Rules.{rules}
-use mathlib.Core.Path.{◌≡◌, refl}
+use mathlib.Core.Path.{◌≡◌}
 use Prim.Native.Nat.{◌≤◌, ◌-◌}
-use native.Mathlib.Omega.{arith}
-use lib.ListN.{length, take, drop, length-set}
+use lib.ListN.{length, take, drop}
 use lib.Seq.{sets}
-use Rattle.ground.proofs.Lists.{write_step, write_done, get_d_part, length_part_there}
 use Rattle.ground.proofs.bytes.copy_run.Given as goal
 
 abbrev pub invariant-loop-i : goal.invariant-loop-i

@@ -1,5 +1,4 @@
 -- `zeros` meets its contract: what fits of the run is as good as all of it.
-use borrow.Author.Rules.{rules}
 use mathlib.Core.Path.{ap, ◌∙◌}
 use Prim.Native.Nat.{ℕ}
 use lib.ListN.{replicate}

@@ -1,10 +1,8 @@
 -- `zeros_run` meets its contract: after i turns i zero bytes stand in the room.
 use borrow.Author.Rules.{rules}
-use mathlib.Core.Path.{◌≡◌, refl}
-use Prim.Native.Nat.{◌≤◌, ◌-◌}
+use mathlib.Core.Path.{refl}
 use native.Mathlib.Omega.{arith}
-use lib.ListN.{length, take, replicate, length-set, length-replicate, get_or-replicate}
-use lib.Seq.{sets}
+use lib.ListN.{replicate, length-set, length-replicate, get_or-replicate}
 use Rattle.ground.proofs.Lists.{write_step, write_done}
 use Rattle.ground.proofs.bytes.zeros_run.Goals as goal
 

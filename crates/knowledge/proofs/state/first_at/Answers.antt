@@ -1,5 +1,4 @@
 -- `knowledge::state::first_at` meets its contract: by those of its three calls.
-use borrow.Author.Rules.{rules}
 use mathlib.Core.Path.{◌∙◌, ap₂}
 use Rattle.knowledge_acts.specs.Seven.{first_digit}
 use Rattle.knowledge.specs.Number.{first_at}

@@ -1,5 +1,4 @@
 -- `knowledge_acts::act::byte_of` meets its contract: within the seven settings and the eight posts the byte is at most 168.
-use borrow.Author.Rules.{rules}
 use borrow.Author.Tests.{lt-ltb, le-ltb}
 use Rattle.knowledge_acts.proofs.act.byte_of.Goals as goal
 

@@ -1,5 +1,4 @@
 -- `knowledge_acts::act::offers` meets its contract: by the two tests.
-use borrow.Author.Rules.{rules}
 use borrow.Author.Tests.{lt-ltb, le-ltb}
 use Rattle.knowledge_acts.proofs.act.offers.Goals as goal
 

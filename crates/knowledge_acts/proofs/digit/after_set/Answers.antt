@@ -1,5 +1,4 @@
 -- `knowledge_acts::digit::after_set` meets its contract: the constant table agrees with the table of specs/, by a test at each digit.
-use borrow.Author.Rules.{rules}
 use mathlib.Core.List.{List, [], ◌∷◌}
 use mathlib.Core.Path.{◌≡◌, sym}
 use mathlib.Core.Bool.{true, false}

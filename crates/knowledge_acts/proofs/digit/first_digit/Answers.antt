@@ -1,5 +1,4 @@
 -- `knowledge_acts::digit::first_digit` meets its contract: a known start value has the digit that a look gives.
-use borrow.Author.Rules.{rules}
 use mathlib.Core.Path.{◌∙◌, sym}
 use Rattle.knowledge_acts.specs.Seven.{first_digit}
 use Rattle.knowledge_acts.proofs.Seven.{first-known}

@@ -1,7 +1,6 @@
 -- `knowledge_judging::goal::is_settled` meets its contract: the make formula, then the learn formulas.
-use borrow.Author.Tests.{not-true, not-false, lt-leb}
+use borrow.Author.Tests.{lt-leb}
 use Rattle.knowledge_judging.proofs.GoalLaws.{goal-not, goal-learnt}
-use borrow.Author.Rules.{rules}
 use Rattle.knowledge_judging.proofs.goal.is_settled.Goals as goal
 
 pub returns-then-n-gt-MOST : goal.returns-then-n-gt-MOST

@@ -1,5 +1,4 @@
 -- `knowledge_judging::judging::has_value` meets its contract: by the value.
-use borrow.Author.Rules.{rules}
 use mathlib.Core.Path.{ap, ◌∙◌}
 use mathlib.Core.Bool.{not}
 use Prim.Native.Nat.{ℕ}

@@ -1,5 +1,4 @@
 -- `knowledge_judging::judging::judge` meets its contract: by the count of settings, then true at all, then false at all.
-use borrow.Author.Rules.{rules}
 use mathlib.Core.Path.{sym, ◌∙◌}
 use borrow.Author.Tests.{le-leb, lt-leb}
 use Rattle.knowledge.specs.Judgement.{judgement}

@@ -1,5 +1,4 @@
 -- `knowledge_judging::judging::next` meets its contract: seven bits and one stay within a byte.
-use borrow.Author.Rules.{rules}
 use Prim.Native.Nat.{◌-◌, ◌<◌}
 use native.Mathlib.Omega.{arith}
 use lib.Bits.{bit_or, or_lt}

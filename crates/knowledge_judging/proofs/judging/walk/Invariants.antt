@@ -1,11 +1,8 @@
 -- `knowledge_judging::judging::walk` meets its contract. The loop's invariant: the table has the value with every part of the unknown settings below `some`.
 -- The measure is what is left below 128, since each turn goes up.
-use borrow.Author.Rules.{rules}
-use mathlib.Core.Path.{sym, ◌∙◌, subst}
 use Prim.Native.Nat.{◌-◌, ◌<◌}
-use native.Mathlib.Omega.{arith}
 use lib.ListN.{drop}
-use Rattle.knowledge_judging.proofs.WalkLaws.{WalkedTo, none_walked, walked_not, walked_all, walked_on, walked_up}
+use Rattle.knowledge_judging.proofs.WalkLaws.{WalkedTo}
 use Rattle.knowledge_judging.proofs.judging.walk.Given as goal
 
 abbrev pub invariant-loop-side : goal.invariant-loop-side

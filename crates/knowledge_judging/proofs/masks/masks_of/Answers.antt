@@ -1,13 +1,11 @@
 -- `knowledge_judging::masks::masks_of` meets its contract. The loop's invariant: the first i settings are in the masks. The measure is what is left of
 -- the n settings.
-use borrow.Author.Rules.{rules}
-use mathlib.Core.Path.{◌≡◌, sym}
+use mathlib.Core.Path.{sym}
 use native.Mathlib.Nat.{pow-zero}
-use Prim.Native.Nat.{◌^◌, ◌≤◌, ◌-◌}
+use Prim.Native.Nat.{◌-◌}
 use native.Mathlib.Omega.{arith}
 use Rattle.knowledge.specs.Number.{digit_in}
-use Rattle.knowledge_judging.specs.Sides.{told_of}
-use Rattle.knowledge_judging.proofs.MaskLaws.{MasksTo, no_masks, masks_turn, mask_fits, bit-most, bit-next, all_masks, side_three}
+use Rattle.knowledge_judging.proofs.MaskLaws.{no_masks, masks_turn, mask_fits, bit-most, bit-next, all_masks, side_three}
 use Rattle.knowledge_judging.proofs.masks.masks_of.Goals as goal
 
 pub loop-i-init : goal.loop-i-init
@@ -22,7 +20,7 @@ overflow_add-unknown c =
 pub overflow_add-values : goal.overflow_add-values
 overflow_add-values c =
     let inv = c.loop-i.invariant in
-    let fits = mask_fits inv.3.values-small (omega (arith, inv.1, c.loop-i-test.true)) inv.2 c.bit_if-values.ensures.1 in
+    let fits = mask_fits inv.3.values_small (omega (arith, inv.1, c.loop-i-test.true)) inv.2 c.bit_if-values.ensures.1 in
     omega (arith, fits)
 
 pub overflow_mul-bit : goal.overflow_mul-bit

@@ -6,7 +6,6 @@ use Rattle.knowledge_acts.specs.Acts.{setting_of}
 use Rattle.knowledge_acts.specs.declared.act.Act.{Act}
 use Rattle.knowledge.proofs.States.{set-number, look_number}
 use Rattle.plancheck.proofs.ReadingLaws.{set_goes, look_parts}
-use borrow.Author.Rules.{rules}
 use Rattle.plancheck.proofs.reading.outcomes_of.Goals as goal
 
 pub returns-in-Set : goal.returns-in-Set

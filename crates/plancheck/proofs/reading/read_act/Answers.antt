@@ -1,9 +1,7 @@
 -- `read_act` meets its contract: 17 before 18, and 32 after it.
 use mathlib.Core.Path.{sym, ◌∙◌}
 use native.Mathlib.Omega.{arith}
-use borrow.Author.Tests.{not-true, not-false}
 use Rattle.plancheck.proofs.ReadingLaws.{permits-at, offered-setting, act_unknown, act_forbidden, act_idle, act_done}
-use borrow.Author.Rules.{rules}
 use Rattle.plancheck.proofs.reading.read_act.Goals as goal
 
 pub returns-then-not-offered : goal.returns-then-not-offered

@@ -1,7 +1,6 @@
 -- `read_byte` meets its contract: a stop, an act, or nothing.
 use Rattle.knowledge.specs.Goal.{goal_of}
 use Rattle.plancheck.proofs.ReadingLaws.{byte-stops, byte-unsettled, byte_nothing, byte_act}
-use borrow.Author.Rules.{rules}
 use Rattle.plancheck.proofs.reading.read_byte.Goals as goal
 
 pub returns-then-is_settled : goal.returns-then-is_settled

@@ -5,7 +5,6 @@ use Rattle.knowledge.specs.Goal.{goal_of}
 use Rattle.question.proofs.AskLaws.{start_is, as_valid, as_not}
 use Rattle.question.proofs.SystemLaws.{few, lawful, start_small}
 use Rattle.plancheck.proofs.AnswerLaws.{question_row, long-row, verdict-checks}
-use borrow.Author.Rules.{rules}
 use Rattle.plancheck.proofs.walk.check.Goals as goal
 
 pub returns-then-plan-gt-PLAN_MOST : goal.returns-then-plan-gt-PLAN_MOST

@@ -1,7 +1,6 @@
 -- `turn` meets its contract: by how the reading stands.
 use native.Mathlib.Omega.{arith}
 use Rattle.plancheck.proofs.StandingLaws.{open_held, room_for, turn_open, turn_whole, turn_failed}
-use borrow.Author.Rules.{rules}
 use Rattle.plancheck.proofs.walk.turn.Goals as goal
 
 pub read_byte-requires : goal.read_byte-requires

@@ -1,12 +1,6 @@
 -- `walk` meets its contract: after each turn the standing and the bytes that are left give the answer of the whole plan.
-use borrow.Author.Rules.{rules}
-use Prim.Native.Nat.{◌-◌, ◌≤◌}
-use native.Mathlib.Omega.{arith}
-use lib.ListN.{length}
-use Rattle.knowledge.specs.Goal.{goal_of}
-use Rattle.plan.specs.Plans.{Lawful}
-use Rattle.question.specs.Question.{system_of}
-use Rattle.plancheck.proofs.StandingLaws.{Walking, walking_first, walking_on, walking_done}
+use Prim.Native.Nat.{◌-◌}
+use Rattle.plancheck.proofs.StandingLaws.{walking_first, walking_on, walking_done}
 use Rattle.plancheck.proofs.walk.walk.Goals as goal
 
 pub loop-at-init : goal.loop-at-init

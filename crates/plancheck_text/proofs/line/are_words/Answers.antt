@@ -1,7 +1,6 @@
 -- `are_words` meets its contract, form by form.
 use mathlib.Core.Path.{refl, sym, ◌∙◌}
 use mathlib.Core.Bool.{true, false}
-use borrow.Author.Rules.{rules}
 use Rattle.plancheck_text.specs.Lines.{is_stop, is_look, is_set}
 use Rattle.plancheck_text.proofs.LineLaws.{words_by}
 use Rattle.plancheck_text.proofs.line.are_words.Goals as goal

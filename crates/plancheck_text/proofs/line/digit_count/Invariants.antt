@@ -1,12 +1,8 @@
 -- `digit_count` meets its contract: the first i bytes are digits, so what is left to be counted begins at i.
-use mathlib.Core.Path.{◌≡◌, refl, sym, ap, ◌∙◌}
-use Prim.Native.Nat.{ℕ, ◌+◌, ◌-◌, ◌≤◌}
-use native.Mathlib.Numerals.{add-one}
-use native.Mathlib.Omega.{arith}
+use mathlib.Core.Path.{◌≡◌}
+use Prim.Native.Nat.{◌+◌, ◌-◌, ◌≤◌}
 use lib.ListN.{length, drop}
-use borrow.Author.Tests.{not-true, not-false}
 use Rattle.plancheck_text.specs.Lines.{digit_count}
-use Rattle.plancheck_text.proofs.LineLaws.{digits-past, digits_step}
 use Rattle.plancheck_text.proofs.line.digit_count.Given as goal
 
 abbrev pub invariant-loop-i : goal.invariant-loop-i

@@ -1,12 +1,8 @@
 -- `has_form` meets its contract: the bytes before i fit the form, so what is left to be judged begins at i.
-use mathlib.Core.Path.{◌≡◌, refl, sym, ◌∙◌}
-use Prim.Native.Nat.{◌-◌, ◌≤◌}
-use native.Mathlib.Numerals.{add-one}
-use native.Mathlib.Omega.{arith}
+use mathlib.Core.Path.{◌≡◌}
+use Prim.Native.Nat.{◌-◌}
 use lib.ListN.{length, drop}
-use borrow.Author.Tests.{not-true, not-false}
 use Rattle.plancheck_text.specs.Lines.{has_form}
-use Rattle.plancheck_text.proofs.LineLaws.{form_lengths, form_step, form_whole}
 use Rattle.plancheck_text.proofs.line.has_form.Given as goal
 
 abbrev pub invariant-loop-i : goal.invariant-loop-i

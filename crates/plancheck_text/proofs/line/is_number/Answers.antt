@@ -1,11 +1,10 @@
 -- `is_number` meets its contract: there are digits, and they are all of it.
-use mathlib.Core.Path.{refl, sym, ap, ◌∙◌}
+use mathlib.Core.Path.{refl, sym, ap}
 use mathlib.Core.Bool.{true, false}
 use Prim.Native.Nat.{ℕ}
 use native.Mathlib.Omega.{arith}
 use lib.Dec.{eqb}
 use lib.ListN.{length}
-use borrow.Author.Rules.{rules}
 use borrow.Author.Tests.{lt-ltb, le-ltb}
 use Rattle.plancheck_text.proofs.LineLaws.{number_by}
 use Rattle.plancheck_text.proofs.line.is_number.Goals as goal

@@ -1,10 +1,9 @@
 -- `is_plan_line` meets its contract: there is a depth, and what follows it names a stop or an act.
 use mathlib.Core.Path.{refl, sym, ap, ◌∙◌}
-use mathlib.Core.Bool.{Bool, true, false, ◌||◌}
+use mathlib.Core.Bool.{true, false, ◌||◌}
 use mathlib.Core.List.{List}
 use Prim.Native.Nat.{ℕ}
 use native.Mathlib.Omega.{arith}
-use borrow.Author.Rules.{rules}
 use borrow.Author.Tests.{lt-ltb, le-ltb}
 use Rattle.plancheck_text.specs.Lines.{digit_count, is_stop, is_look, is_set}
 use Rattle.plancheck_text.proofs.LineLaws.{digits-most, after_depth_lem, plan-line_by}

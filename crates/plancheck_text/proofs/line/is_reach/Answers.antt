@@ -1,10 +1,6 @@
 -- `is_reach` meets its contract: the word, and then a number.
 use mathlib.Core.Path.{refl, sym, ap, ◌∙◌}
 use mathlib.Core.Bool.{true, false}
-use native.Mathlib.Omega.{arith}
-use lib.ListN.{length}
-use borrow.Author.Rules.{rules}
-use borrow.Author.Tests.{not-true, not-false}
 use Rattle.ground.specs.Text.{bytes}
 use Rattle.sheet_words.proofs.Fronts.{begins-length}
 use Rattle.sheet_words.proofs.Pieces.{tail}

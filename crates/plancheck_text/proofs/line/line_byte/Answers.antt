@@ -1,7 +1,6 @@
 -- `line_byte` meets its contract: the byte of what follows the depth.
 use mathlib.Core.Path.{ap, ◌∙◌}
 use native.Mathlib.Omega.{arith}
-use borrow.Author.Rules.{rules}
 use Rattle.plancheck_text.specs.Lines.{words_byte, line_byte}
 use Rattle.plancheck_text.proofs.LineLaws.{digits-most, after_depth_lem}
 use Rattle.plancheck_text.proofs.line.line_byte.Goals as goal

@@ -1,7 +1,6 @@
 -- `stands_for` meets its contract, sign by sign.
-use mathlib.Core.Path.{refl, sym, ap, ◌∙◌}
+use mathlib.Core.Path.{refl, sym, ◌∙◌}
 use mathlib.Core.Bool.{true, false}
-use borrow.Author.Rules.{rules}
 use borrow.Author.Tests.{eq-eqb, ne_eqb}
 use Rattle.plancheck_text.proofs.LineLaws.{stands_by}
 use Rattle.plancheck_text.proofs.line.stands_for.Goals as goal

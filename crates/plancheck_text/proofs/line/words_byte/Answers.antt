@@ -1,7 +1,6 @@
 -- `words_byte` meets its contract: a stop, a look, or a set.
 use mathlib.Core.Path.{refl, sym, ◌∙◌}
 use mathlib.Core.Bool.{true, false}
-use borrow.Author.Rules.{rules}
 use Rattle.plancheck_text.specs.Lines.{is_stop, is_look}
 use Rattle.plancheck_text.proofs.LineLaws.{byte_by, look_from, set_from}
 use Rattle.plancheck_text.proofs.line.words_byte.Goals as goal

@@ -1,10 +1,8 @@
 -- `lines` meets its contract: what the plan's first byte names tells its form, and each part of it begins further on, so that fewer bytes
 -- are left, which is the measure.
-use borrow.Author.Rules.{rules}
 use mathlib.Core.Path.{sym, ap, ◌∙◌}
-use Prim.Native.Nat.{ℕ, ◌-◌, ◌<◌}
+use Prim.Native.Nat.{◌-◌}
 use native.Mathlib.Omega.{arith}
-use lib.ListN.{length}
 use Rattle.knowledge_acts.specs.declared.act.Named.TheVariants.{One}
 use Rattle.knowledge_acts.proofs.Acts.{byte_of_act}
 use Rattle.print_room.proofs.Writing.{wrote-length}

@@ -1,5 +1,4 @@
 -- `act_line` meets its contract: the letter and the digits are bytes, and the array is the act's text.
-use borrow.Author.Rules.{rules}
 use native.Mathlib.Omega.{arith}
 use Rattle.print_answer.proofs.listing.act_line.Goals as goal
 

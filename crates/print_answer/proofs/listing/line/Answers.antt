@@ -1,5 +1,4 @@
 -- `line` meets its contract: its four pieces one after the other.
-use borrow.Author.Rules.{rules}
 use native.Mathlib.Omega.{arith}
 use Rattle.print_room.proofs.Writing.{wrote_then}
 use Rattle.print_answer.proofs.Lined.{numbered-length}

@@ -1,6 +1,5 @@
 -- `question::permit::permits` meets its contract: by the kind of act; of a set first by the mask of held settings and last by what its digit tells, of a
 -- look first by the digit.
-use borrow.Author.Rules.{rules}
 use borrow.Author.Tests.{lt-leb}
 use mathlib.Core.Path.{sym, ◌∙◌}
 use Rattle.knowledge.specs.Number.{digit_in}

@@ -1,5 +1,4 @@
 -- `question::permit::tells` meets its contract: by the value, what the digit tells is compared with the value's side.
-use borrow.Author.Rules.{rules}
 use Rattle.question.proofs.permit.tells.Goals as goal
 
 pub returns-then-value : goal.returns-then-value

@@ -1,6 +1,4 @@
 -- `question::permit::unless_told` meets its contract: where the digit tells the value, by what was said before.
-use borrow.Author.Rules.{rules}
-use borrow.Author.Tests.{not-true, not-false}
 use mathlib.Core.Path.{sym, ◌∙◌}
 use Rattle.question.proofs.permit.unless_told.Goals as goal
 

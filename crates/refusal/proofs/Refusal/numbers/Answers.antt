@@ -4,7 +4,6 @@ use mathlib.Core.Path.{◌≡◌, sym, ap, ◌∙◌}
 use Rattle.refusal.specs.declared.Refusal.{Refusal}
 use Rattle.refusal.specs.declared.Numbers.{Numbers}
 use Rattle.refusal.specs.Refusals.{numbers}
-use Rattle.refusal.proofs.Refusal.numbers.Goals as goal
 
 shown : {r s : Refusal} {x : Numbers} → x ≡ numbers s → r ≡ s → x ≡ numbers r
 shown told arm = told ∙ ap numbers (sym arm)

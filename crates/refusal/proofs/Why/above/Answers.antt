@@ -1,5 +1,4 @@
 -- `Why::above` meets its contract: case by case.
-use borrow.Author.Rules.{rules}
 use Rattle.refusal.proofs.Why.above.Goals as goal
 
 pub returns-in-KnownSetting : goal.returns-in-KnownSetting

@@ -6,7 +6,6 @@ use lib.ListN.{length, length-replicate}
 use lib.Seq.{length-take-le}
 use Rattle.sheet.specs.Inner.{learn_in}
 use Rattle.sheet.proofs.DeskQuestion.{book_length, desk_found}
-use borrow.Author.Rules.{rules}
 use Rattle.sheet.proofs.asking.find.Goals as goal
 
 pub slice_bounds-find-end : goal.slice_bounds-find-end
@@ -15,7 +14,7 @@ slice_bounds-find-end c = sym (ap length c.write_book.ensures ∙ book_length c.
 pub slice_bounds-find-end-3 : goal.slice_bounds-find-end-3
 slice_bounds-find-end-3 c =
     let asked = c.requires.holds.asked in
-    sym (length-take-le _ _ (omega (arith, asked.learn-size, asked.asks-most)))
+    sym (length-take-le _ _ (omega (arith, asked.learn_size, asked.asks_most)))
 
 pub returns : goal.returns
 unfolding learn_in

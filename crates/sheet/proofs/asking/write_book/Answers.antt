@@ -3,7 +3,6 @@ use mathlib.Core.Path.{sym}
 use Rattle.sheet.specs.Inner.{rights_in}
 use Rattle.sheet.proofs.DeskRights.{rights_length}
 use Rattle.sheet.proofs.DeskQuestion.{desk_written}
-use borrow.Author.Rules.{rules}
 use Rattle.sheet.proofs.asking.write_book.Goals as goal
 
 pub slice_bounds-write-end : goal.slice_bounds-write-end

@@ -1,6 +1,5 @@
 -- `refuse` meets its contract: the refusal's numbers are printed.
 use Rattle.sheet_ask.proofs.FoundLaws.{numbers-printed}
-use borrow.Author.Rules.{rules}
 use Rattle.sheet_ask.proofs.tell.refuse.Goals as goal
 
 pub returns : goal.returns

@@ -4,7 +4,6 @@ use lib.Seq.{length-take-le}
 use Rattle.finder.specs.declared.answer.Answer.{Answer}
 use Rattle.sheet_ask.specs.Inner.{Readable}
 use Rattle.sheet_ask.proofs.FoundLaws.{tells_reach, tells_cannot, tells-refused}
-use borrow.Author.Rules.{rules}
 use Rattle.sheet_ask.proofs.tell.tell.Goals as goal
 
 pub slice_bounds-reach-end : goal.slice_bounds-reach-end

@@ -2,7 +2,6 @@
 use Prim.Native.Nat.{ℕ}
 use lib.ListN.{length-replicate}
 use Rattle.sheet_ask.proofs.TwoLaws.{two-readable, two-told}
-use borrow.Author.Rules.{rules}
 use Rattle.sheet_ask.proofs.two.answered_legs.Goals as goal
 
 pub tell-requires : goal.tell-requires

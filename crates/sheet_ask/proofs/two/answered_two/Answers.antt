@@ -5,18 +5,17 @@ use Prim.Native.Nat.{ℕ, ◌^◌}
 use native.Mathlib.Nat.{min-eq_left}
 use native.Mathlib.Omega.{arith}
 use Rattle.question.proofs.SystemLaws.{few}
-use borrow.Author.Rules.{rules}
 use Rattle.sheet_ask.proofs.two.answered_two.Goals as goal
 
 pub returns-then-ranks-count : goal.returns-then-ranks-count
 returns-then-ranks-count c =
     let size : c.numbers-count.result ≡ 7 ^ c.args.settings = c.numbers-count.ensures ∙ ap (λ (k : ℕ). 7 ^ k) (min-eq_left (few c.requires.2.1.first)) in
-    inl (omega (arith, size, c.if-ranks-count.true), record { ranks-kept = refl; printed = c.refuse.ensures })
+    inl (omega (arith, size, c.if-ranks-count.true), record { ranks_kept = refl; printed = c.refuse.ensures })
 
 pub returns-then-ranks-count-2 : goal.returns-then-ranks-count-2
 returns-then-ranks-count-2 c =
     let size : c.numbers-count.result ≡ 7 ^ c.args.settings = c.numbers-count.ensures ∙ ap (λ (k : ℕ). 7 ^ k) (min-eq_left (few c.requires.2.1.first)) in
-    inr (inl (omega (arith, size, c.if-ranks-count.false), omega (arith, size, c.if-ranks-count.false, c.if-ranks-count-2.true), record { ranks-kept = refl; printed = c.refuse-then-ranks-count-2.ensures }))
+    inr (inl (omega (arith, size, c.if-ranks-count.false), omega (arith, size, c.if-ranks-count.false, c.if-ranks-count-2.true), record { ranks_kept = refl; printed = c.refuse-then-ranks-count-2.ensures }))
 
 pub answered_legs-requires : goal.answered_legs-requires
 answered_legs-requires c =

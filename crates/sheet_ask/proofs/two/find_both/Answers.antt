@@ -1,6 +1,5 @@
 -- `find_both` meets its contract: the finder refuses nothing, and its second table is copied behind the first.
 use Rattle.sheet_ask.proofs.TwoLaws.{two-found}
-use borrow.Author.Rules.{rules}
 use Rattle.sheet_ask.proofs.two.find_both.Goals as goal
 
 pub find_legs-answer-requires : goal.find_legs-answer-requires
@@ -8,5 +7,4 @@ find_legs-answer-requires c = (c.requires.learnt, c.requires.learnt2)
 
 pub returns : goal.returns
 returns c =
-    let zeros : tie.After-ranks-room = c in
-    two-found _ _ _ c.requires _ _ _ _ c.find_legs-answer.ensures zeros.ranks-room.ensures c.copy.ensures
+    two-found _ _ _ c.requires _ _ _ _ c.find_legs-answer.ensures c.ranks_room-ranks2.ensures c.copy.ensures

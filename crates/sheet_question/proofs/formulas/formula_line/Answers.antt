@@ -2,7 +2,6 @@
 use Rattle.sheet_words.specs.Steps.{next}
 use Rattle.sheet_question.specs.declared.desk.Due.TheVariants.{Asks}
 use Rattle.sheet_question.proofs.Turns.{faulty, formula_refused, formula_accepted, formula_taken}
-use borrow.Author.Rules.{rules}
 use Rattle.sheet_question.proofs.formulas.formula_line.Goals as goal
 
 pub placed-requires : goal.placed-requires

@@ -1,7 +1,6 @@
 -- `learning` meets its contract: the table is written, and counted.
 use mathlib.Core.Path.{refl}
 use Rattle.sheet_question.specs.Places.{learn_desk}
-use borrow.Author.Rules.{rules}
 use Rattle.sheet_question.proofs.formulas.learning.Goals as goal
 
 pub returns : goal.returns

@@ -2,7 +2,6 @@
 use mathlib.Core.Path.{sym, ap, ◌∙◌, subst}
 use Rattle.sheet_question.specs.Places.{Room, placed_desk}
 use Rattle.sheet_question.specs.declared.formulas.Place.{Place}
-use borrow.Author.Rules.{rules}
 use Rattle.sheet_question.proofs.formulas.placed.Goals as goal
 
 pub learning-requires : goal.learning-requires

@@ -1,5 +1,4 @@
 -- `put_table` meets its contract: sixteen bytes from the table's start are all of it.
-use borrow.Author.Rules.{rules}
 use mathlib.Core.Path.{ap, ◌∙◌}
 use native.Mathlib.Omega.{arith}
 use lib.Seq.{sets, take_all}

@@ -1,6 +1,5 @@
 -- `any_line` meets its contract: a line that is passed over changes nothing, and any other is the line that is due.
 use Rattle.sheet_question.proofs.LineTurns.{passed_on, read-on}
-use borrow.Author.Rules.{rules}
 use Rattle.sheet_question.proofs.line.any_line.Goals as goal
 
 pub returns-then-is_passed : goal.returns-then-is_passed

@@ -1,12 +1,10 @@
 -- `ask_line` meets its contract, way by way.
 use mathlib.Core.Path.{sym, ◌∙◌}
-use borrow.Author.Tests.{not-true, not-false}
 use Rattle.ground.specs.Text.{bytes}
 use Rattle.refusal.specs.declared.Refusal.TheVariants.{Malformed}
 use Rattle.sheet_words.proofs.Fronts.{begins-length}
 use Rattle.sheet_question.proofs.Turns.{faulty}
 use Rattle.sheet_question.proofs.LineTurns.{ask_other, ask_fifth, ask_read}
-use borrow.Author.Rules.{rules}
 use Rattle.sheet_question.proofs.line.ask_line.Goals as goal
 
 pub returns-then-not-begins : goal.returns-then-not-begins
@@ -34,7 +32,7 @@ slice_bounds-formula_line-start c =
     begins-length (bytes "ask ") a.line.now (sym c.begins.ensures ∙ c.if-not-begins.false))
 
 pub formula_line-requires : goal.formula_line-requires
-formula_line-requires c = (c.if-desk-ge-ASKS_MOST.false, c.requires.1.learn-size)
+formula_line-requires c = (c.if-desk-ge-ASKS_MOST.false, c.requires.1.learn_size)
 
 pub returns : goal.returns
 returns c =

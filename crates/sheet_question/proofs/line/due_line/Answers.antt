@@ -3,7 +3,6 @@ use mathlib.Core.Path.{sym, subst}
 use Rattle.sheet_question.specs.Desk.{Steps}
 use Rattle.sheet_question.specs.declared.desk.Due.{Due}
 use Rattle.sheet_question.specs.LineSteps.{due_step}
-use borrow.Author.Rules.{rules}
 use Rattle.sheet_question.proofs.line.due_line.Goals as goal
 
 pub team_line-requires : goal.team_line-requires

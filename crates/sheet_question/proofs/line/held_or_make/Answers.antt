@@ -3,7 +3,6 @@ use mathlib.Core.Path.{sym, ◌∙◌, subst}
 use Rattle.sheet_question.specs.Desk.{Steps}
 use Rattle.sheet_question.specs.LineSteps.{AskedStep}
 use Rattle.sheet_question.proofs.StepLaws.{held_by}
-use borrow.Author.Rules.{rules}
 use mathlib.Core.Bool.{true, false}
 use Rattle.sheet_question.proofs.line.held_or_make.Goals as goal
 

@@ -1,7 +1,5 @@
 -- `is_passed` meets its contract, by whether the text may have such lines.
-use borrow.Author.Tests.{not-true, not-false}
 use Rattle.sheet_question.proofs.StepLaws.{none_passed, some_passed}
-use borrow.Author.Rules.{rules}
 use Rattle.sheet_question.proofs.line.is_passed.Goals as goal
 
 pub returns-then-not-passes : goal.returns-then-not-passes

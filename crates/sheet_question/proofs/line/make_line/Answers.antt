@@ -1,12 +1,10 @@
 -- `make_line` meets its contract, way by way.
 use mathlib.Core.Path.{sym, ◌∙◌}
-use borrow.Author.Tests.{not-true, not-false}
 use Rattle.ground.specs.Text.{bytes}
 use Rattle.refusal.specs.declared.Refusal.TheVariants.{Malformed}
 use Rattle.sheet_words.proofs.Fronts.{begins-length}
 use Rattle.sheet_question.proofs.Turns.{faulty}
 use Rattle.sheet_question.proofs.LineTurns.{make-other, make-read}
-use borrow.Author.Rules.{rules}
 use Rattle.sheet_question.proofs.line.make_line.Goals as goal
 
 pub returns-then-not-begins : goal.returns-then-not-begins

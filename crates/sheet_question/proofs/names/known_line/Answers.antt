@@ -2,7 +2,6 @@
 use native.Mathlib.Omega.{arith}
 use Rattle.sheet_question.proofs.Turns.{faulty}
 use Rattle.sheet_question.proofs.NameTurns.{known-not, known-taken}
-use borrow.Author.Rules.{rules}
 use Rattle.sheet_question.proofs.names.known_line.Goals as goal
 
 pub names_line-named-requires : goal.names_line-named-requires

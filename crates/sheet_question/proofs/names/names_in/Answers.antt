@@ -2,9 +2,7 @@
 use mathlib.Core.Path.{sym, ◌∙◌}
 use lib.ListN.{length}
 use native.Mathlib.Omega.{arith}
-use borrow.Author.Tests.{not-true, not-false}
 use Rattle.sheet_question.proofs.NameTurns.{inside, names-other, names_alone, names_unaccompanied, names_spaceless, names-some}
-use borrow.Author.Rules.{rules}
 use Rattle.sheet_question.proofs.names.names_in.Goals as goal
 
 pub returns-then-not-begins : goal.returns-then-not-begins

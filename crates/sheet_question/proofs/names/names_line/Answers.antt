@@ -1,7 +1,6 @@
 -- `names_line` meets its contract, by what the line names.
 use Rattle.sheet_question.specs.Forms.{name_words, is_names}
 use Rattle.sheet_question.proofs.NameTurns.{names-malformed, names-twice, names_once}
-use borrow.Author.Rules.{rules}
 use Rattle.sheet_question.proofs.names.names_line.Goals as goal
 
 pub returns-then-marks : goal.returns-then-marks

@@ -8,7 +8,6 @@ use Rattle.sheet_question.specs.Question.{QuestionMeaning}
 use Rattle.sheet_question.specs.Reads.{ReadsQuestion}
 use Rattle.sheet_question.proofs.ReadLaws.{faulted_by, went_on_by, refused-is}
 use Rattle.sheet_question.proofs.SecondLaws.{team-faults, team_goes_on}
-use borrow.Author.Rules.{rules}
 use Rattle.sheet_question.proofs.second.from_team.Goals as goal
 
 pub lines-requires : goal.lines-requires

@@ -4,7 +4,6 @@ use Rattle.refusal.specs.declared.Refusal.TheVariants.{SheetLength}
 use Rattle.sheet_question.specs.Reads.{within}
 use Rattle.sheet_question.proofs.ReadLaws.{refused-is, within-fits}
 use Rattle.sheet_question.proofs.SecondLaws.{second_too_long, second-read}
-use borrow.Author.Rules.{rules}
 use Rattle.sheet_question.proofs.second.second_leg.Goals as goal
 
 pub returns-then-text-gt-TEXT_MOST : goal.returns-then-text-gt-TEXT_MOST

@@ -1,11 +1,9 @@
 -- `second_lines` meets its contract: what is left from `at` on is what was to be read from the start, while lines are passed over.
 use mathlib.Core.Path.{◌≡◌, refl, sym, ap, ◌∙◌, subst}
-use Prim.Native.Nat.{ℕ, suc, ◌+◌, ◌-◌, ◌≤◌}
+use Prim.Native.Nat.{ℕ, suc, ◌+◌, ◌-◌}
 use native.Mathlib.Numerals.{add-one}
 use native.Mathlib.Omega.{arith}
 use lib.ListN.{length, drop, take, length-drop}
-use lib.Seq.{length-take-le}
-use borrow.Author.Tests.{not-true, not-false}
 use Rattle.refusal.specs.declared.Refusal.TheVariants.{Malformed}
 use Rattle.sheet_words.specs.Words.{split, newline}
 use Rattle.sheet_words.proofs.Pieces.{part, piece_is, tail}
@@ -16,7 +14,6 @@ use Rattle.sheet_question.specs.Question.{QuestionMeaning}
 use Rattle.sheet_question.specs.Reads.{ReadsQuestion}
 use Rattle.sheet_question.proofs.ReadLaws.{refused-is}
 use Rattle.sheet_question.proofs.SecondLaws.{second-ends, second_passes, second-begins}
-use borrow.Author.Rules.{rules}
 use Rattle.sheet_question.proofs.second.second_lines.Goals as goal
 
 pub loop-before-init : goal.loop-before-init

@@ -1,5 +1,4 @@
 -- `sized` meets its contract: the rights of which none is stated, and no mark.
-use borrow.Author.Rules.{rules}
 use Rattle.sheet_rules.proofs.HoldLaws.{sized-rules}
 use Rattle.sheet_rules.proofs.desk.sized.Goals as goal
 

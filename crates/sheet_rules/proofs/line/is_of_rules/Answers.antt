@@ -1,7 +1,6 @@
 -- `is_of_rules` meets its contract, test by test.
 use mathlib.Core.Path.{refl, sym, ◌∙◌}
 use mathlib.Core.Bool.{true, false}
-use borrow.Author.Rules.{rules}
 use Rattle.sheet_rules.proofs.FormLaws.{of_rules_by}
 use Rattle.sheet_rules.proofs.line.is_of_rules.Goals as goal
 

@@ -1,7 +1,6 @@
 -- `is_passed` meets its contract: no line is passed over where the text has none such.
 use mathlib.Core.Path.{sym, ap, ◌∙◌}
 use mathlib.Core.Bool.{Bool, ◌&&◌}
-use borrow.Author.Rules.{rules}
 use Rattle.sheet_words.specs.Words.{passed_over}
 use Rattle.sheet_rules.proofs.line.is_passed.Goals as goal
 

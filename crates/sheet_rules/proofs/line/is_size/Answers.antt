@@ -1,10 +1,9 @@
 -- `is_size` meets its contract, test by test.
 use mathlib.Core.Path.{refl, sym, ap, ◌∙◌}
 use mathlib.Core.Bool.{true, false}
-use borrow.Author.Tests.{not-true, not-false, eq-eqb, ne_eqb}
+use borrow.Author.Tests.{eq-eqb, ne_eqb}
 use Rattle.sheet_words.specs.Words.{among}
 use Rattle.sheet_rules.proofs.FormLaws.{size_by}
-use borrow.Author.Rules.{rules}
 use Rattle.sheet_rules.proofs.line.is_size.Goals as goal
 
 pub returns-then-not-begins : goal.returns-then-not-begins

@@ -2,7 +2,6 @@
 use mathlib.Core.Path.{sym, ◌∙◌, subst}
 use Prim.Native.Nat.{ℕ, ◌-◌, ◌<◌}
 use native.Mathlib.Omega.{arith}
-use borrow.Author.Tests.{not-true, not-false}
 use Rattle.refusal.specs.declared.Refusal.TheVariants.{Malformed, SheetSettings}
 use Rattle.sheet_rules.specs.Rules.{sized}
 use Rattle.sheet_rules.specs.Desk.{OnDesk}
@@ -10,7 +9,6 @@ use Rattle.sheet_rules.specs.Forms.{digit_at}
 use Rattle.sheet_rules.proofs.Turns.{faulty, taken}
 use Rattle.sheet_rules.proofs.FormLaws.{size_bounds, digit_of}
 use Rattle.sheet_rules.proofs.StepLaws.{size-malformed, size_large, size-next}
-use borrow.Author.Rules.{rules}
 use Rattle.sheet_rules.proofs.line.size_line.Goals as goal
 
 pub returns-then-not-is_size : goal.returns-then-not-is_size

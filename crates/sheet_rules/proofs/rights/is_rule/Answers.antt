@@ -3,10 +3,9 @@ use mathlib.Core.Path.{refl, sym, ap, ◌∙◌}
 use mathlib.Core.Bool.{true, false}
 use Prim.Native.Nat.{ℕ}
 use lib.Dec.{eqb}
-use borrow.Author.Tests.{not-true, not-false, eq-eqb, ne_eqb}
+use borrow.Author.Tests.{eq-eqb, ne_eqb}
 use Rattle.sheet_words.specs.Words.{among}
 use Rattle.sheet_rules.proofs.FormLaws.{rule_by}
-use borrow.Author.Rules.{rules}
 use Rattle.sheet_rules.proofs.rights.is_rule.Goals as goal
 
 pub returns-then-not-begins : goal.returns-then-not-begins

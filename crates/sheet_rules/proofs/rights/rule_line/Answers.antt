@@ -80,7 +80,7 @@ formula_line-requires c =
       slot_fits h.0 a.desk h.1 a.right w line b (p.result - 97) (q.result - 49)
           (ap (λ (x : ℕ). x - 97) p.ensures) (ap (λ (x : ℕ). x - 49) q.ensures) slot.result slot.ensures,
       h.1.rights_size,
-      h.1.stated-size,
+      h.1.stated_size,
     )
 
 pub returns : goal.returns

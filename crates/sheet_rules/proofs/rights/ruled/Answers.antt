@@ -1,7 +1,6 @@
 -- `ruled` meets its contract: the table is written, and its mark.
 use mathlib.Core.Path.{refl}
 use Rattle.sheet_rules.specs.Turns.{ruled_desk}
-use borrow.Author.Rules.{rules}
 use Rattle.sheet_rules.proofs.rights.ruled.Goals as goal
 
 pub returns : goal.returns

@@ -1,5 +1,4 @@
 -- `slot_of` meets its contract: the setting's tables, and the place of the table among them, counted in tables.
-use borrow.Author.Rules.{rules}
 use mathlib.Core.Path.{ap}
 use Prim.Native.Nat.{ℕ, ◌+◌, ◌*◌, ◌/◌}
 use native.Mathlib.Omega.{arith}

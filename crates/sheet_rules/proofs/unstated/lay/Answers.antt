@@ -1,11 +1,9 @@
 -- `lay` meets its contract: one place after the other.
-use borrow.Author.Rules.{rules}
 use mathlib.Core.Path.{◌≡◌, ap, ◌∙◌}
-use Prim.Native.Nat.{◌-◌, ◌≤◌, ◌*◌}
+use Prim.Native.Nat.{◌-◌, ◌*◌}
 use native.Mathlib.Omega.{arith}
 use lib.ListN.{length}
 use lib.Seq.{sets}
-use Rattle.sheet_rules.specs.Turns.{Laid}
 use Rattle.sheet_rules.proofs.HoldLaws.{laid_none, laid_more, unstated-length}
 use Rattle.sheet_rules.proofs.unstated.lay.Goals as goal
 

@@ -1,12 +1,9 @@
 -- `lay` meets its contract: one place after the other.
-use borrow.Author.Rules.{rules}
-use mathlib.Core.Path.{◌≡◌, ap, ◌∙◌}
-use Prim.Native.Nat.{◌-◌, ◌≤◌, ◌*◌}
-use native.Mathlib.Omega.{arith}
+use mathlib.Core.Path.{◌≡◌}
+use Prim.Native.Nat.{◌-◌, ◌≤◌}
 use lib.ListN.{length}
 use lib.Seq.{sets}
 use Rattle.sheet_rules.specs.Turns.{Laid}
-use Rattle.sheet_rules.proofs.HoldLaws.{laid_none, laid_more, unstated-length}
 use Rattle.sheet_rules.proofs.unstated.lay.Given as goal
 
 abbrev pub invariant-loop-slot : goal.invariant-loop-slot

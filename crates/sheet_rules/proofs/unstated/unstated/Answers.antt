@@ -1,5 +1,4 @@
 -- `unstated` meets its contract: the text of each kind.
-use borrow.Author.Rules.{rules}
 use Rattle.sheet_rules.specs.Rules.{unstated}
 use Rattle.sheet_rules.proofs.unstated.unstated.Goals as goal
 

@@ -1,5 +1,4 @@
 -- `unstated_rights` meets its contract: the two tables, laid out.
-use borrow.Author.Rules.{rules}
 use Rattle.sheet_rules.proofs.unstated.unstated_rights.Goals as goal
 
 pub lay-requires : goal.lay-requires
@@ -11,6 +10,6 @@ returns c =
       looks = c.unstated_table.result;
       sets = c.unstated_table-2.result;
       look_table = c.unstated_table.ensures;
-      set-table = c.unstated_table-2.ensures;
+      set_table = c.unstated_table-2.ensures;
       laid = c.lay.ensures;
     }

@@ -1,5 +1,4 @@
 -- `unstated_table` meets its contract: the text is a formula, so it is read.
-use borrow.Author.Rules.{rules}
 use Rattle.sheet_rules.proofs.HoldLaws.{unstated-read}
 use Rattle.sheet_rules.proofs.unstated.unstated_table.Goals as goal
 

@@ -3,7 +3,6 @@ use mathlib.Core.Path.{sym, ap, ◌∙◌}
 use native.Mathlib.Omega.{arith}
 use lib.ListN.{length}
 use Rattle.sheet_words.proofs.NameLaws.{length-bare, bare_true}
-use borrow.Author.Rules.{rules}
 use Rattle.sheet_words.proofs.names.bare_length.Goals as goal
 
 pub returns-then-word-lt1 : goal.returns-then-word-lt1

@@ -3,7 +3,6 @@ use mathlib.Core.Path.{ap}
 use Prim.Native.Nat.{ℕ}
 use lib.Dec.{eqb}
 use Rattle.sheet_words.specs.Words.{is_false}
-use borrow.Author.Rules.{rules}
 use Rattle.sheet_words.proofs.names.is_false.Goals as goal
 
 pub returns : goal.returns

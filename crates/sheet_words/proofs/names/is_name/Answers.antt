@@ -1,10 +1,8 @@
 -- `is_name` meets its contract, test by test.
 use mathlib.Core.Path.{sym, ap, ◌∙◌}
 use mathlib.Core.Bool.{Bool, not, ◌||◌}
-use borrow.Author.Tests.{not-true, not-false}
 use Rattle.sheet_words.specs.Words.{among}
 use Rattle.sheet_words.proofs.NameLaws.{name_unsigned, name_long, name_sign}
-use borrow.Author.Rules.{rules}
 use Rattle.sheet_words.proofs.names.is_name.Goals as goal
 
 pub returns-then-not-either : goal.returns-then-not-either

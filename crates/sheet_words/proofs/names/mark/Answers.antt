@@ -1,7 +1,6 @@
 -- `mark` meets its contract: each field is one callee's.
 use mathlib.Core.Path.{ap, ◌∙◌}
 use mathlib.Core.Bool.{Bool, ◌||◌}
-use borrow.Author.Rules.{rules}
 use Rattle.sheet_words.proofs.names.mark.Goals as goal
 
 pub returns : goal.returns

@@ -1,13 +1,12 @@
 -- `marks_of` meets its contract: the words before `at` are names and are marked, and the rest is still to come.
-use mathlib.Core.Path.{◌≡◌, refl, sym, ◌∙◌, subst}
+use mathlib.Core.Path.{refl, sym, ◌∙◌, subst}
 use mathlib.Core.List.{List, []}
 use Prim.Native.Nat.{ℕ, suc, ◌-◌, ◌≤◌}
 use native.Mathlib.Numerals.{add-one}
 use native.Mathlib.Omega.{arith}
-use lib.ListN.{length, drop}
-use borrow.Author.Tests.{not-true, not-false}
+use lib.ListN.{drop}
 use Rattle.ground.proofs.Bools.{true→T}
-use Rattle.sheet_words.specs.Words.{split, space, all_names}
+use Rattle.sheet_words.specs.Words.{split, space}
 use Rattle.sheet_words.specs.Marks.{are_names}
 use Rattle.sheet_words.proofs.Pieces.{part, piece_is}
 use Rattle.sheet_words.proofs.NameLaws.{names_fail, names-on, names_end, name_least, name_most, Marks_to, marks-none, mark_is, marks-more}

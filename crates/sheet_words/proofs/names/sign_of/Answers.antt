@@ -4,7 +4,6 @@ use mathlib.Core.List.{List}
 use Prim.Native.Nat.{ℕ}
 use lib.ListN.{get_or}
 use Rattle.sheet_words.proofs.NameLaws.{sign_false, bare_true}
-use borrow.Author.Rules.{rules}
 use Rattle.sheet_words.proofs.names.sign_of.Goals as goal
 
 pub returns-then-is_false : goal.returns-then-is_false

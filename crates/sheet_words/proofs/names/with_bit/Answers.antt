@@ -1,6 +1,5 @@
 -- `with_bit` meets its contract, bit by bit.
 use Rattle.sheet_words.proofs.NameLaws.{with_bit}
-use borrow.Author.Rules.{rules}
 use Rattle.sheet_words.proofs.names.with_bit.Goals as goal
 
 pub returns : goal.returns

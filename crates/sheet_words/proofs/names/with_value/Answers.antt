@@ -4,7 +4,6 @@ use mathlib.Core.Bool.{Bool, ◌&&◌, ◌||◌}
 use lib.Dec.{eqb}
 use Rattle.ground.specs.Digits.{bit}
 use Rattle.ground.proofs.Bools.{or_false}
-use borrow.Author.Rules.{rules}
 use Rattle.sheet_words.proofs.names.with_value.Goals as goal
 
 pub returns-then-value : goal.returns-then-value

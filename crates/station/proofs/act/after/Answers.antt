@@ -1,5 +1,4 @@
 -- `after` meets its contract: by what the byte names.
-use borrow.Author.Rules.{rules}
 use mathlib.Core.Path.{sym, ◌∙◌}
 use native.Mathlib.Omega.{arith}
 use Rattle.knowledge_acts.proofs.Acts.{byte_of_act}

@@ -1,7 +1,5 @@
 -- `allows` meets its contract: the act's rule is read where it stands in the book.
 use mathlib.Core.Path.{◌∙◌}
-use native.Mathlib.Omega.{arith}
-use borrow.Author.Rules.{rules}
 use Rattle.station.proofs.ActLaws.{allowed-there, allowed-past}
 use Rattle.station.proofs.act.allows.Goals as goal
 

@@ -1,5 +1,4 @@
 -- `can_record` meets its contract: by the kind of act.
-use borrow.Author.Rules.{rules}
 use Rattle.station.proofs.act.can_record.Goals as goal
 
 pub returns-in-Set : goal.returns-in-Set

@@ -1,5 +1,4 @@
 -- `is_of_book` meets its contract: by the two tests.
-use borrow.Author.Rules.{rules}
 use borrow.Author.Tests.{lt-ltb, le-ltb}
 use Rattle.station.specs.Station.{of_book}
 use Rattle.station.proofs.act.is_of_book.Goals as goal

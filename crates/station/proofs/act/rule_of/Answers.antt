@@ -1,5 +1,4 @@
 -- `rule_of` meets its contract: by that of the call.
-use borrow.Author.Rules.{rules}
 use Rattle.station.specs.Inner.{rule_at}
 use Rattle.station.proofs.act.rule_of.Goals as goal
 

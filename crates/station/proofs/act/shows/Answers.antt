@@ -2,7 +2,6 @@
 use mathlib.Core.Path.{◌≡◌, refl, ap, ◌∙◌}
 use mathlib.Core.Bool.{Bool, true, false}
 use mir.Val.{bool_byte}
-use borrow.Author.Rules.{rules}
 use Rattle.station.specs.Station.{seen_as}
 use Rattle.station.proofs.act.shows.Goals as goal
 

@@ -1,5 +1,4 @@
 -- `judge` meets its contract: by what the act byte names.
-use borrow.Author.Rules.{rules}
 use mathlib.Core.Path.{sym, ◌∙◌}
 use Rattle.station.proofs.RecordLaws.{judged_nothing}
 use Rattle.station.proofs.judge.judge.Goals as goal

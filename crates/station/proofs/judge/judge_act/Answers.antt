@@ -1,7 +1,5 @@
 -- `judge_act` meets its contract: one test after the other.
 use mathlib.Core.Path.{sym, ◌∙◌}
-use borrow.Author.Rules.{rules}
-use borrow.Author.Tests.{not-true, not-false}
 use Rattle.station.specs.Shift.{IsRecord}
 use Rattle.knowledge_acts.specs.declared.act.Named.TheVariants.{One}
 use Rattle.station.proofs.RecordLaws.{judged-other, judged-second, is_one, judged_barred, judged_unlike, judged-faultless}
@@ -22,7 +20,7 @@ returns-then-not-can_record c =
 pub returns-then-not-allows : goal.returns-then-not-allows
 returns-then-not-allows c =
     let is : let a = c.args in IsRecord a.n a.m (One a.act) a.seen a.act =
-        let a = c.args in
+    let a = c.args in
     is_one a.n a.m a.book.now a.present.0 a.at a.seen a.act
     (sym c.is_of_book.ensures ∙ c.if-not-is_of_book.false) (sym c.can_record.ensures ∙ c.if-not-can_record.false) in
     let a = c.args in
@@ -32,7 +30,7 @@ returns-then-not-allows c =
 pub returns-then-seen-shows : goal.returns-then-seen-shows
 returns-then-seen-shows c =
     let is : let a = c.args in IsRecord a.n a.m (One a.act) a.seen a.act =
-        let a = c.args in
+    let a = c.args in
     is_one a.n a.m a.book.now a.present.0 a.at a.seen a.act
     (sym c.is_of_book.ensures ∙ c.if-not-is_of_book.false) (sym c.can_record.ensures ∙ c.if-not-can_record.false) in
     let a = c.args in
@@ -42,7 +40,7 @@ returns-then-seen-shows c =
 pub returns : goal.returns
 returns c =
     let is : let a = c.args in IsRecord a.n a.m (One a.act) a.seen a.act =
-        let a = c.args in
+    let a = c.args in
     is_one a.n a.m a.book.now a.present.0 a.at a.seen a.act
     (sym c.is_of_book.ensures ∙ c.if-not-is_of_book.false) (sym c.can_record.ensures ∙ c.if-not-can_record.false) in
     let a = c.args in

@@ -1,11 +1,8 @@
 -- `play` meets its contract: each turn reads the record after those that were done.
-use borrow.Author.Rules.{rules}
-use mathlib.Core.Path.{◌≡◌, refl}
+use mathlib.Core.Path.{◌≡◌}
 use Prim.Native.Nat.{◌-◌, ◌/◌, ◌%◌}
-use native.Mathlib.Omega.{arith}
 use lib.ListN.{length}
-use Rattle.station.specs.Shift.{Reached, act_byte, seen_byte}
-use Rattle.station.proofs.ShiftLaws.{reached-first, reached-more, plays-stopped, plays-whole}
+use Rattle.station.specs.Shift.{Reached}
 use Rattle.station.proofs.shift.play.Given as goal
 
 abbrev pub invariant-loop-running : goal.invariant-loop-running

@@ -1,12 +1,6 @@
 -- `replay` meets its contract: the book's refusals, then 26, then the records.
-use borrow.Author.Rules.{rules}
-use mathlib.Core.Path.{◌≡◌}
-use mathlib.Core.List.{List}
-use Prim.Native.Nat.{ℕ}
 use native.Mathlib.Omega.{arith}
-use Rattle.book_sound.specs.Sound.{Sound}
 use Rattle.book_sound.proofs.SoundLaws.{judged_book, judged-refused}
-use Rattle.station.specs.Replay.{ShiftFits}
 use Rattle.station.proofs.ReplayLaws.{valuations_of, book_refused, shift_refused, replays}
 use Rattle.station.proofs.shift.replay.Goals as goal
 

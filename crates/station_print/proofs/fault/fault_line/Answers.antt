@@ -3,7 +3,6 @@ use mathlib.Core.List.{[], ◌∷◌, ◌++◌}
 use Rattle.ground.specs.Text.{bytes}
 use Rattle.print_room.proofs.Writing.{wrote_then, ends-left, ends-right}
 use Rattle.station_print.specs.Faults.{place_text, record_words, fault_numbered, why_text, fault_text}
-use borrow.Author.Rules.{rules}
 use Rattle.station_print.proofs.fault.fault_line.Goals as goal
 
 pub place-to-requires : goal.place-to-requires

@@ -1,12 +1,10 @@
 -- `place` meets its contract: the index, and of a text the line.
 use mathlib.Core.Path.{sym, ap, ◌∙◌}
-use borrow.Author.Tests.{not-true, not-false}
 use Rattle.ground.specs.Text.{bytes}
 use Rattle.print_room.specs.Decimal.{decimal}
 use Rattle.print_room.proofs.Writing.{wrote_then, ends-left, ends-right, wrote_as, ends_as}
 use Rattle.station_print.specs.Faults.{place_text}
 use Rattle.station_print.proofs.FaultLaws.{place-bytes, place-line}
-use borrow.Author.Rules.{rules}
 use Rattle.station_print.proofs.fault.place.Goals as goal
 
 pub word-to-requires : goal.word-to-requires

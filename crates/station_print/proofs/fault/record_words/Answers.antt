@@ -5,7 +5,6 @@ use Rattle.ground.specs.Text.{bytes}
 use Rattle.print_room.specs.Decimal.{decimal}
 use Rattle.print_room.proofs.Writing.{wrote_then, ends-left, ends-right, wrote_as, ends_as}
 use Rattle.station_print.proofs.FaultLaws.{record_said, record_unsaid}
-use borrow.Author.Rules.{rules}
 use Rattle.station_print.proofs.fault.record_words.Goals as goal
 
 pub record_text-requires : goal.record_text-requires

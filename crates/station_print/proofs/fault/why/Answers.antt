@@ -8,7 +8,6 @@ use Rattle.station.specs.Shift.{RecordFault}
 use Rattle.station_print.specs.Settings.{setting_words}
 use Rattle.station_print.specs.Faults.{why_text}
 use Rattle.station_print.proofs.FaultLaws.{numbered_27, numbered_28, numbered_29}
-use borrow.Author.Rules.{rules}
 use Rattle.station_print.proofs.fault.why.Goals as goal
 
 pub word-requires : goal.word-requires

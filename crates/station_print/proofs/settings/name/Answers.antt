@@ -4,7 +4,6 @@ use mathlib.Core.List.{[], ◌∷◌}
 use Rattle.ground.specs.Text.{bytes}
 use Rattle.print_room.proofs.Writing.{wrote_then, ends-left, ends-right, wrote_as, ends_as}
 use Rattle.station_print.specs.Settings.{between, setting_name}
-use borrow.Author.Rules.{rules}
 use Rattle.station_print.proofs.settings.name.Goals as goal
 
 pub write_between-to-requires : goal.write_between-to-requires

@@ -1,10 +1,9 @@
 -- `names` meets its contract. The loop's invariant: the first i settings were written.
 use mathlib.Core.Path.{sym, ap, ◌≡◌}
-use Prim.Native.Nat.{ℕ, ◌≤◌, ◌-◌}
+use Prim.Native.Nat.{ℕ, ◌-◌}
 use native.Mathlib.Omega.{arith}
 use Rattle.ground.specs.Digits.{bit}
 use Rattle.book_sound.specs.Sound.{in_order}
-use Rattle.print_room.specs.Wrote.{Wrote}
 use Rattle.print_room.proofs.Writing.{wrote-length, wrote_none, wrote_as, ends_as}
 use Rattle.station_print.specs.Settings.{setting_name, setting_names}
 use Rattle.station_print.proofs.Writing.{order_more, order_ends}

@@ -4,7 +4,6 @@ use Prim.Native.Nat.{◌+◌}
 use Rattle.ground.specs.Text.{bytes}
 use Rattle.print_room.proofs.Writing.{wrote_then, ends-left, ends-right}
 use Rattle.station_print.specs.Settings.{between, verb, on_off}
-use borrow.Author.Rules.{rules}
 use Rattle.station_print.proofs.settings.setting_word.Goals as goal
 
 pub write_between-to-requires : goal.write_between-to-requires

@@ -4,7 +4,6 @@ use Prim.Native.Nat.{ℕ}
 use Rattle.print_room.proofs.Writing.{wrote_none, wrote_as, ends_as}
 use Rattle.station_print.specs.Settings.{between}
 use Rattle.station_print.proofs.SettingsLaws.{between-later}
-use borrow.Author.Rules.{rules}
 use Rattle.station_print.proofs.settings.write_between.Goals as goal
 
 pub returns-then-i-eq0 : goal.returns-then-i-eq0

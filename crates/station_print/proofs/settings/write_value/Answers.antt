@@ -2,7 +2,6 @@
 use mathlib.Core.Path.{sym, ap}
 use Rattle.print_room.proofs.Writing.{wrote_as, ends_as}
 use Rattle.station_print.specs.Settings.{on_off}
-use borrow.Author.Rules.{rules}
 use Rattle.station_print.proofs.settings.write_value.Goals as goal
 
 pub word-requires : goal.word-requires

@@ -3,7 +3,6 @@ use mathlib.Core.Path.{sym, ap}
 use Rattle.print_room.proofs.Writing.{wrote_as, ends_as}
 use Rattle.station_print.specs.Settings.{verb}
 use Rattle.station_print.proofs.SettingsLaws.{verb-later}
-use borrow.Author.Rules.{rules}
 use Rattle.station_print.proofs.settings.write_verb.Goals as goal
 
 pub word-requires : goal.word-requires

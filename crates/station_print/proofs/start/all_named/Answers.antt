@@ -1,9 +1,8 @@
 -- `all_named` meets its contract. The loop's invariant: the first i bits are set.
 use mathlib.Core.Path.{◌≡◌, refl, sym, ap, ◌∙◌}
 use mathlib.Core.Bool.{true}
-use Prim.Native.Nat.{ℕ, ◌≤◌, ◌-◌}
+use Prim.Native.Nat.{ℕ, ◌-◌}
 use native.Mathlib.Omega.{arith}
-use borrow.Author.Tests.{not-true, not-false}
 use Rattle.ground.specs.Digits.{bit}
 use Rattle.ground.specs.Search.{all}
 use Rattle.station_print.proofs.StartLaws.{all-fails, all_more}

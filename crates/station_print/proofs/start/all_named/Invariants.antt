@@ -1,12 +1,9 @@
 -- `all_named` meets its contract. The loop's invariant: the first i bits are set.
-use mathlib.Core.Path.{◌≡◌, refl, sym, ap, ◌∙◌}
+use mathlib.Core.Path.{◌≡◌}
 use mathlib.Core.Bool.{true}
-use Prim.Native.Nat.{ℕ, ◌≤◌, ◌-◌}
-use native.Mathlib.Omega.{arith}
-use borrow.Author.Tests.{not-true, not-false}
+use Prim.Native.Nat.{◌≤◌, ◌-◌}
 use Rattle.ground.specs.Digits.{bit}
 use Rattle.ground.specs.Search.{all}
-use Rattle.station_print.proofs.StartLaws.{all-fails, all_more}
 use Rattle.station_print.proofs.start.all_named.Given as goal
 
 abbrev pub invariant-loop-i : goal.invariant-loop-i

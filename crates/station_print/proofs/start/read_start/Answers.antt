@@ -1,9 +1,7 @@
 -- `read_start` meets its contract, by the marks of its words.
 use mathlib.Core.Path.{sym, ◌∙◌}
-use borrow.Author.Tests.{not-true, not-false}
 use Rattle.station_print.specs.Start.{start_words}
 use Rattle.station_print.proofs.StartLaws.{stray_nothing, twice_nothing, some_nothing, all-settings}
-use borrow.Author.Rules.{rules}
 use Rattle.station_print.proofs.start.read_start.Goals as goal
 
 pub returns-then-marks : goal.returns-then-marks

@@ -5,7 +5,6 @@ use Rattle.refusal.specs.declared.Refusal.TheVariants.{SheetLength, Shift, NoRec
 use Rattle.station_text.specs.Meaning.{shift_text, print_meaning}
 use Rattle.station_text.proofs.BytesLaws.{too_long, odd_length, with_stray, text_too_long, prints-text}
 use Rattle.station_text.proofs.ToldLaws.{tells-refused, tells-given}
-use borrow.Author.Rules.{rules}
 use Rattle.station_text.proofs.bytes.print.Goals as goal
 
 pub returns-then-shift-gt-SHIFT_MOST : goal.returns-then-shift-gt-SHIFT_MOST

@@ -1,9 +1,8 @@
 -- `records_said` meets its contract: the records before the place are said, and those from there on are still to be judged.
-use mathlib.Core.Path.{◌≡◌, sym, ap, ◌∙◌}
-use Prim.Native.Nat.{ℕ, ◌+◌, ◌*◌, ◌-◌, ◌≤◌}
+use mathlib.Core.Path.{sym, ap, ◌∙◌}
+use Prim.Native.Nat.{ℕ, ◌+◌, ◌*◌, ◌-◌}
 use native.Mathlib.Omega.{arith}
-use lib.ListN.{length, drop}
-use borrow.Author.Tests.{not-true, not-false}
+use lib.ListN.{drop}
 use Rattle.station_text.specs.Meaning.{records_said}
 use Rattle.station_text.proofs.BytesLaws.{said_turn, said_end}
 use Rattle.station_text.proofs.bytes.records_said.Goals as goal

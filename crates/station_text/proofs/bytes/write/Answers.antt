@@ -1,10 +1,9 @@
 -- `write` meets its contract: the lines of the records before `at` were written, and those of the records from there on are still to come.
-use mathlib.Core.Path.{◌≡◌, refl, sym, ap, ◌∙◌}
+use mathlib.Core.Path.{refl, sym, ap, ◌∙◌}
 use mathlib.Core.List.{List, [], ◌++◌, append_assoc, append-nil}
-use Prim.Native.Nat.{ℕ, ◌+◌, ◌*◌, ◌-◌, ◌≤◌}
+use Prim.Native.Nat.{ℕ, ◌+◌, ◌-◌}
 use native.Mathlib.Omega.{arith}
-use lib.ListN.{length, get_or, drop}
-use Rattle.print_room.specs.Wrote.{Wrote}
+use lib.ListN.{get_or, drop}
 use Rattle.print_room.proofs.Writing.{wrote_then, wrote-length}
 use Rattle.print_answer.specs.Listed.{line}
 use Rattle.station_text.specs.Records.{record_text}

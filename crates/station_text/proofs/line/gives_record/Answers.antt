@@ -3,7 +3,6 @@ use mathlib.Core.Path.{refl, sym, ◌∙◌}
 use mathlib.Core.Bool.{true, false}
 use Rattle.station_text.specs.Lines.{is_look, is_set}
 use Rattle.station_text.proofs.LineLaws.{gives_by}
-use borrow.Author.Rules.{rules}
 use Rattle.station_text.proofs.line.gives_record.Goals as goal
 
 pub returns-then-has_form : goal.returns-then-has_form

@@ -2,7 +2,6 @@
 use mathlib.Core.Path.{refl, sym, ◌∙◌}
 use mathlib.Core.Bool.{true, false}
 use Rattle.station_text.proofs.LineLaws.{line_by}
-use borrow.Author.Rules.{rules}
 use Rattle.station_text.proofs.line.is_line.Goals as goal
 
 pub returns-then-passed_over : goal.returns-then-passed_over

@@ -4,7 +4,6 @@ use mathlib.Core.Bool.{true, false}
 use Rattle.plancheck_text.proofs.LineLaws.{look_from, set_from}
 use Rattle.station_text.specs.Lines.{is_look}
 use Rattle.station_text.proofs.LineLaws.{act_by}
-use borrow.Author.Rules.{rules}
 use Rattle.station_text.proofs.line.line_act.Goals as goal
 
 pub returns-then-has_form : goal.returns-then-has_form

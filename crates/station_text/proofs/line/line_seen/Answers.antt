@@ -4,7 +4,6 @@ use mathlib.Core.Bool.{true, false}
 use Prim.Native.Nat.{ℕ, ◌-◌}
 use Rattle.station_text.specs.Lines.{is_look}
 use Rattle.station_text.proofs.LineLaws.{seen_by}
-use borrow.Author.Rules.{rules}
 use Rattle.station_text.proofs.line.line_seen.Goals as goal
 
 pub returns-then-has_form : goal.returns-then-has_form

@@ -2,7 +2,6 @@
 use mathlib.Core.Path.{sym, ◌∙◌}
 use mathlib.Core.Bool.{true, false}
 use Rattle.station_text.proofs.LineLaws.{records_by}
-use borrow.Author.Rules.{rules}
 use Rattle.station_text.proofs.line.records_in.Goals as goal
 
 pub returns-then-gives_record : goal.returns-then-gives_record

@@ -5,11 +5,9 @@ use mathlib.Core.List.{[], ◌∷◌}
 use Prim.Native.Nat.{ℕ}
 use native.Mathlib.Omega.{arith}
 use lib.ListN.{length}
-use borrow.Author.Tests.{not-true, not-false}
 use Rattle.print_room.proofs.Writing.{wrote_then}
 use Rattle.station_text.proofs.LineLaws.{record_by}
 use Rattle.station_text.proofs.ToldLaws.{wrote_as}
-use borrow.Author.Rules.{rules}
 use Rattle.station_text.proofs.line.write_record.Goals as goal
 
 pub returns-then-not-gives_record : goal.returns-then-not-gives_record

@@ -3,7 +3,6 @@ use mathlib.Core.Path.{sym, ap, ◌∙◌}
 use Rattle.knowledge_acts.specs.declared.act.Named.{Named}
 use Rattle.knowledge_acts.specs.declared.act.Named.TheVariants.{One}
 use Rattle.station_text.specs.Records.{seen_in, is_record}
-use borrow.Author.Rules.{rules}
 use Rattle.station_text.proofs.record.is_record.Goals as goal
 
 pub returns-in-Nothing : goal.returns-in-Nothing

@@ -9,14 +9,13 @@ use Rattle.print_room.specs.Wrote.{Ends}
 use Rattle.print_room.proofs.Writing.{wrote_then, ends-left, ends-right}
 use Rattle.station_text.specs.Records.{words_of, record_text}
 use Rattle.station_text.proofs.ToldLaws.{wrote_as}
-use borrow.Author.Rules.{rules}
 use Rattle.station_text.proofs.record.record_text.Goals as goal
 
 pub word-to-requires : goal.word-to-requires
 unfolding record_text
 word-to-requires c =
     let e = sym c.of_byte.ensures ∙ c.in-One.is ∙ ap One c.in-Set.is in
-    ends-left (bytes "c ") _ (subst (λ (n : Named). Ends c.args.to (words_of n c.args.seen)) e c.requires)
+    ends-left (bytes "set ") _ (subst (λ (n : Named). Ends c.args.to (words_of n c.args.seen)) e c.requires)
 
 pub write_names-requires : goal.write_names-requires
 unfolding record_text
@@ -29,7 +28,7 @@ pub word-to-requires-in-Look : goal.word-to-requires-in-Look
 unfolding record_text
 word-to-requires-in-Look c =
     let e = sym c.of_byte.ensures ∙ c.in-One.is ∙ ap One c.in-Look.is in
-    ends-left (bytes "c ") _ (subst (λ (n : Named). Ends c.args.to (words_of n c.args.seen)) e c.requires)
+    ends-left (bytes "look ") _ (subst (λ (n : Named). Ends c.args.to (words_of n c.args.seen)) e c.requires)
 
 pub write_names-requires-in-Look : goal.write_names-requires-in-Look
 unfolding record_text

@@ -1,5 +1,4 @@
 -- `write_names` meets its contract: the letter and the digits are bytes, and the array is `P G V`.
-use borrow.Author.Rules.{rules}
 use Rattle.station_text.proofs.record.write_names.Goals as goal
 
 pub returns : goal.returns

@@ -6,7 +6,6 @@ use Rattle.sheet_words.specs.Words.{split, newline}
 use Rattle.station_text.specs.Meaning.{lines_bytes, read_meaning}
 use Rattle.station_text.proofs.TextLaws.{too_long, with_stray, without_stray}
 use Rattle.station_text.proofs.ToldLaws.{tells-refused, tells-given}
-use borrow.Author.Rules.{rules}
 use Rattle.station_text.proofs.text.read.Goals as goal
 
 pub returns-then-text-gt-SHIFT_MOST : goal.returns-then-text-gt-SHIFT_MOST

@@ -1,11 +1,10 @@
 -- `write` meets its contract: the records of the lines before `at` were written, and those of the lines from there on are still to come.
-use mathlib.Core.Path.{◌≡◌, refl, sym, ap, ◌∙◌}
+use mathlib.Core.Path.{refl, sym, ap, ◌∙◌}
 use mathlib.Core.List.{List, [], ◌++◌, append_assoc, append-nil}
-use Prim.Native.Nat.{ℕ, ◌+◌, ◌*◌, ◌-◌, ◌≤◌}
+use Prim.Native.Nat.{ℕ, ◌+◌, ◌-◌}
 use native.Mathlib.Numerals.{add-one}
 use native.Mathlib.Omega.{arith}
-use lib.ListN.{length, drop}
-use Rattle.print_room.specs.Wrote.{Wrote}
+use lib.ListN.{drop}
 use Rattle.print_room.proofs.Writing.{wrote_then, wrote-length}
 use Rattle.sheet_words.specs.Words.{split, newline}
 use Rattle.sheet_words.proofs.Pieces.{part, PieceEnd, piece_is}
@@ -25,7 +24,7 @@ shape_of-room-then-text-end c = wrote-length c.loop-at.invariant.3.1
 pub returns-then-text-end : goal.returns-then-text-end
 returns-then-text-end c =
     let line-here : (PieceEnd c.args.text.now c.loop-at.at newline c.piece_end-end.result) =
-        piece_is _ c.loop-at.at newline c.piece_end-end.result c.loop-at.invariant.0 c.piece_end-end.ensures in
+    piece_is _ c.loop-at.at newline c.piece_end-end.result c.loop-at.invariant.0 c.piece_end-end.ensures in
     let l = c.loop-at in
     let z = l.invariant.3 in
     wrote_as (sym (append-nil z.0) ∙ ap (λ (t : List ℕ). z.0 ++ t) (sym (bytes_end (line-here) c.if-text-end.true)) ∙ z.2) z.1
@@ -33,19 +32,19 @@ returns-then-text-end c =
 pub slice_bounds-write_record-count : goal.slice_bounds-write_record-count
 slice_bounds-write_record-count c =
     let line-here : (PieceEnd c.args.text.now c.loop-at.at newline c.piece_end-end.result) =
-        piece_is _ c.loop-at.at newline c.piece_end-end.result c.loop-at.invariant.0 c.piece_end-end.ensures in
+    piece_is _ c.loop-at.at newline c.piece_end-end.result c.loop-at.invariant.0 c.piece_end-end.ensures in
     (line-here).from
 
 pub slice_bounds-write_record-start : goal.slice_bounds-write_record-start
 slice_bounds-write_record-start c =
     let line-here : (PieceEnd c.args.text.now c.loop-at.at newline c.piece_end-end.result) =
-        piece_is _ c.loop-at.at newline c.piece_end-end.result c.loop-at.invariant.0 c.piece_end-end.ensures in
+    piece_is _ c.loop-at.at newline c.piece_end-end.result c.loop-at.invariant.0 c.piece_end-end.ensures in
     (line-here).from
 
 pub slice_bounds-write_record-end : goal.slice_bounds-write_record-end
 slice_bounds-write_record-end c =
     let line-here : (PieceEnd c.args.text.now c.loop-at.at newline c.piece_end-end.result) =
-        piece_is _ c.loop-at.at newline c.piece_end-end.result c.loop-at.invariant.0 c.piece_end-end.ensures in
+    piece_is _ c.loop-at.at newline c.piece_end-end.result c.loop-at.invariant.0 c.piece_end-end.ensures in
     (line-here).within
 
 pub write_record-to-requires : goal.write_record-to-requires
@@ -60,13 +59,13 @@ overflow_add-at c = omega (arith, c.if-text-end.false)
 pub loop-at-smaller : goal.loop-at-smaller
 loop-at-smaller c =
     let line-here : (PieceEnd c.args.text.now c.loop-at.at newline c.piece_end-end.result) =
-        piece_is _ c.loop-at.at newline c.piece_end-end.result c.loop-at.invariant.0 c.piece_end-end.ensures in
+    piece_is _ c.loop-at.at newline c.piece_end-end.result c.loop-at.invariant.0 c.piece_end-end.ensures in
     omega (arith, (line-here).from, c.if-text-end.false)
 
 pub loop-at-preserved : goal.loop-at-preserved
 loop-at-preserved c =
     let line-here : (PieceEnd c.args.text.now c.loop-at.at newline c.piece_end-end.result) =
-        piece_is _ c.loop-at.at newline c.piece_end-end.result c.loop-at.invariant.0 c.piece_end-end.ensures in
+    piece_is _ c.loop-at.at newline c.piece_end-end.result c.loop-at.invariant.0 c.piece_end-end.ensures in
     let l = c.loop-at in
     let p = line-here in
     let s = c.args.text.now in

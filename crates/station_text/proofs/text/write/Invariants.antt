@@ -1,23 +1,15 @@
 -- `write` meets its contract: the records of the lines before `at` were written, and those of the lines from there on are still to come.
-use mathlib.Core.Path.{◌≡◌, refl, sym, ap, ◌∙◌}
-use mathlib.Core.List.{List, [], ◌++◌, append_assoc, append-nil}
+use mathlib.Core.Path.{◌≡◌}
+use mathlib.Core.List.{List, ◌++◌}
 use Prim.Native.Nat.{ℕ, ◌+◌, ◌*◌, ◌-◌, ◌≤◌}
-use native.Mathlib.Numerals.{add-one}
-use native.Mathlib.Omega.{arith}
 use lib.ListN.{length, drop}
 use Rattle.print_room.specs.Wrote.{Wrote}
-use Rattle.print_room.proofs.Writing.{wrote_then, wrote-length}
 use Rattle.sheet_words.specs.Words.{split, newline}
-use Rattle.sheet_words.proofs.Pieces.{part, PieceEnd, piece_is}
 use Rattle.station_text.specs.Meaning.{lines_bytes}
-use Rattle.station_text.specs.Lines.{line_record}
-use Rattle.station_text.proofs.LineLaws.{record_length}
-use Rattle.station_text.proofs.TextLaws.{bytes_end, bytes_turn}
-use Rattle.station_text.proofs.ToldLaws.{wrote_as}
 use Rattle.station_text.proofs.text.write.Given as goal
 
 abbrev pub invariant-loop-at : goal.invariant-loop-at
-invariant-loop-at l =     (l.at ≤ length l.text) × (l.to ≤ 2 * l.at) × (length l.text ≤ 2097152)
+invariant-loop-at l = (l.at ≤ length l.text) × (l.to ≤ 2 * l.at) × (length l.text ≤ 2097152)
     × ((done : List ℕ) × Wrote l.initial.room 0 done l.room l.to × (done ++ lines_bytes (split newline (drop l.at l.text)) ≡ lines_bytes (split newline l.text)))
 
 abbrev pub decreases-loop-at : goal.decreases-loop-at

@@ -1,5 +1,4 @@
 -- `knowledge::Knowledge::after_set` meets its contract: by those of its three calls.
-use borrow.Author.Rules.{rules}
 use Rattle.knowledge.proofs.state.Knowledge.after_set.Goals as goal
 
 pub returns : goal.returns

@@ -1,5 +1,4 @@
 -- `knowledge::Knowledge::at_start` meets its contract: each digit by that of its call.
-use borrow.Author.Rules.{rules}
 use Rattle.knowledge.specs.Number.{first_digits}
 use Rattle.knowledge.proofs.state.Knowledge.at_start.Goals as goal
 

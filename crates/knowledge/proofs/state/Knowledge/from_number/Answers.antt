@@ -1,5 +1,4 @@
 -- `knowledge::Knowledge::from_number` meets its contract: the digits as they are written out.
-use borrow.Author.Rules.{rules}
 use native.Mathlib.Nat.{div-one}
 use Rattle.ground.specs.Digits.{digit}
 use Rattle.knowledge.specs.Number.{digits_of}

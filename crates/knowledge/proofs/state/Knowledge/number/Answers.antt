@@ -1,5 +1,4 @@
 -- `knowledge::Knowledge::number` meets its contract: seven bytes, each times its power, have a sum that fits.
-use borrow.Author.Rules.{rules}
 use native.Mathlib.Omega.{arith}
 use Rattle.knowledge.specs.Number.{sum_of}
 use Rattle.knowledge.proofs.state.Knowledge.number.Goals as goal

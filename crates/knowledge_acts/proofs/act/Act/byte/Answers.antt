@@ -1,5 +1,4 @@
 -- `knowledge_acts::Act::byte` meets its contract: by the kind of act.
-use borrow.Author.Rules.{rules}
 use Rattle.knowledge_acts.specs.Acts.{plan_byte, byte_of}
 use Rattle.knowledge_acts.proofs.act.Act.byte.Goals as goal
 

@@ -1,5 +1,4 @@
 -- `knowledge_acts::Act::of_byte` meets its contract: by the tests of the byte.
-use borrow.Author.Rules.{rules}
 use mathlib.Core.Path.{ap}
 use native.Mathlib.Omega.{arith}
 use borrow.Author.Tests.{lt-ltb, le-leb, lt-leb}

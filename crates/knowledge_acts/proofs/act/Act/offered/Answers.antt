@@ -1,5 +1,4 @@
 -- `knowledge_acts::Act::offered` meets its contract: by that of the call, for either kind of act.
-use borrow.Author.Rules.{rules}
 use Rattle.knowledge_acts.specs.Acts.{offered}
 use Rattle.knowledge_acts.proofs.act.Act.offered.Goals as goal
 

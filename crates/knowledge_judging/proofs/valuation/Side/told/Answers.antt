@@ -1,5 +1,4 @@
 -- `knowledge_judging::valuation::Side::told` meets its contract: in each arm by what its own column of the digits tells.
-use borrow.Author.Rules.{rules}
 use mathlib.Core.Path.{ap, ◌∙◌}
 use Rattle.knowledge_acts.specs.Seven.{start_told, now_told}
 use Rattle.knowledge_judging.proofs.valuation.Side.told.Goals as goal

@@ -1,5 +1,4 @@
 -- `knowledge_judging::valuation::Valuation::finds` meets its contract: in each arm by that of its own type's `finds`.
-use borrow.Author.Rules.{rules}
 use Rattle.knowledge_judging.proofs.valuation.Valuation.finds.Goals as goal
 
 pub returns-in-AtStart : goal.returns-in-AtStart

@@ -1,7 +1,6 @@
 -- `after` meets its contract: by what the byte came to.
 use mathlib.Core.Path.{ap, sym, subst, ◌∙◌}
 use Rattle.plancheck.specs.Inner.{HasRoom, after_byte}
-use borrow.Author.Rules.{rules}
 use Rattle.plancheck.proofs.standing.Standing.after.Goals as goal
 
 pub parted-requires : goal.parted-requires

@@ -1,5 +1,4 @@
 -- `ended` meets its contract: by how the reading stands.
-use borrow.Author.Rules.{rules}
 use Rattle.plancheck.proofs.standing.Standing.ended.Goals as goal
 
 pub returns-in-Open : goal.returns-in-Open

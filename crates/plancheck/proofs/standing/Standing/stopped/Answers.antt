@@ -1,7 +1,6 @@
 -- `stopped` meets its contract: by whether any number waits.
 use mathlib.Core.Path.{◌∙◌}
 use Rattle.plancheck.proofs.StandingLaws.{stopped_none, stopped-some}
-use borrow.Author.Rules.{rules}
 use Rattle.plancheck.proofs.standing.Standing.stopped.Goals as goal
 
 pub returns-then-count-eq0 : goal.returns-then-count-eq0
