@@ -2,11 +2,6 @@
 use mathlib.Core.Path.{sym}
 use Prim.Native.Nat.{ℕ}
 use lib.ListN.{length-replicate}
-<<<<<<< HEAD
-=======
-use lib.Seq.{length-take-le}
-use Rattle.program_files.specs.Input.{InRoom}
->>>>>>> 9ee6d7273855d6b1af9b307ec42e03386fa33ed5
 use Rattle.program_check.proofs.check_plan.Goals as goal
 
 pub slice_bounds-read_named-end : goal.slice_bounds-read_named-end
