@@ -10,31 +10,27 @@ use Rattle.program_replay.proofs.replay.Goals as goal
 pub slice_bounds-out-end : goal.slice_bounds-out-end
 slice_bounds-out-end c =
     let a = c.args in
-    let printed : text_bytes c.print-told.result ≤ 151 =
-        printed-most a.book.now a.start.now a.shift.now (λ i. omega (arith, c.type_inv.shift i)) _ _ _ c.print-told.ensures in
+    let printed = printed-most a.book.now a.start.now a.shift.now (λ i. omega (arith, c.type_inv.shift i)) _ _ _ c.print-told.ensures in
     let most = subst (λ (r : ReplayTold). text_bytes r ≤ 151) c.in-Done.is printed in
     omega (arith, most, c.print-told.auto.out)
 
 pub slice_bounds-deliver-end : goal.slice_bounds-deliver-end
 slice_bounds-deliver-end c =
     let a = c.args in
-    let printed : text_bytes c.print-told.result ≤ 151 =
-        printed-most a.book.now a.start.now a.shift.now (λ i. omega (arith, c.type_inv.shift i)) _ _ _ c.print-told.ensures in
+    let printed = printed-most a.book.now a.start.now a.shift.now (λ i. omega (arith, c.type_inv.shift i)) _ _ _ c.print-told.ensures in
     let most = subst (λ (r : ReplayTold). text_bytes r ≤ 151) c.in-Done.is printed in
     sym (length-take-le _ _ (omega (arith, most, c.print-told.auto.out)))
 
 pub slice_bounds-out-end-in-Stopped : goal.slice_bounds-out-end-in-Stopped
 slice_bounds-out-end-in-Stopped c =
     let a = c.args in
-    let printed : text_bytes c.print-told.result ≤ 151 =
-        printed-most a.book.now a.start.now a.shift.now (λ i. omega (arith, c.type_inv.shift i)) _ _ _ c.print-told.ensures in
+    let printed = printed-most a.book.now a.start.now a.shift.now (λ i. omega (arith, c.type_inv.shift i)) _ _ _ c.print-told.ensures in
     let most = subst (λ (r : ReplayTold). text_bytes r ≤ 151) c.in-Stopped.is printed in
     omega (arith, most, c.print-told.auto.out)
 
 pub slice_bounds-stop-end : goal.slice_bounds-stop-end
 slice_bounds-stop-end c =
     let a = c.args in
-    let printed : text_bytes c.print-told.result ≤ 151 =
-        printed-most a.book.now a.start.now a.shift.now (λ i. omega (arith, c.type_inv.shift i)) _ _ _ c.print-told.ensures in
+    let printed = printed-most a.book.now a.start.now a.shift.now (λ i. omega (arith, c.type_inv.shift i)) _ _ _ c.print-told.ensures in
     let most = subst (λ (r : ReplayTold). text_bytes r ≤ 151) c.in-Stopped.is printed in
     sym (length-take-le _ _ (omega (arith, most, c.print-told.auto.out)))

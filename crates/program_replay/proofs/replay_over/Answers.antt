@@ -2,7 +2,6 @@
 use mathlib.Core.Path.{sym}
 use Prim.Native.Nat.{ℕ}
 use lib.ListN.{length-replicate}
-use borrow.Author.Rules.{rules}
 use Rattle.program_replay.proofs.replay_over.Goals as goal
 
 pub slice_bounds-replay_named-end : goal.slice_bounds-replay_named-end

@@ -1,7 +1,7 @@
 -- `names` meets its contract. The loop's invariant: the names of the first i settings were written.
 use mathlib.Core.Bool.{Bool}
 use mathlib.Core.Path.{◌≡◌, ap}
-use Prim.Native.Nat.{ℕ, ◌-◌}
+use Prim.Native.Nat.{ℕ}
 use native.Mathlib.Omega.{arith}
 use Rattle.print_room.proofs.Writing.{wrote-length, wrote_as}
 use Rattle.program_salvage.specs.Closed.{closed_name, closed_names}
