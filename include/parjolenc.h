@@ -204,27 +204,25 @@ enum {
 #define PJ_RANKS_ROOM(n) \
     ((n) == 1 ? 7 : (n) == 2 ? 49 : (n) == 3 ? 343 : (n) == 4 ? 2401 : (n) == 5 ? 16807 : (n) == 6 ? 117649 : 823543)
 
-// Stack that a call takes at most, whatever its arguments, rounded up to 4,096 bytes. It is measured and not proved:
+// Stack that a call takes at most, whatever its arguments, rounded up to 1,024 bytes at least. It is measured and not proved:
 // tests/host/stack.c paints a stack, calls the function where it goes deepest, and finds the lowest byte that changed.
-// On x86-64, with the library that kit 5b made on 2026-11-16, in the order below: 102,768 bytes (255 brackets: 400 each
-// and 768), 248, 232, 168 (seven damaged blocks), 104,056 (a plan of height 254: 208 for each act and 51,224), 104,168
-// (the same plan, of a first leg: 208 for each act and 51,336), 897,680 (the same plan: 288 for each height and
-// 824,528, of which 823,543 are what it remembers), 680, 138,704 and 118,464 (a look rule of 255 brackets), 960,792
-// (two legs, the first of height 254; 960,776 with one, since there is room for a second leg's 823,543 ranks whichever
-// way it goes), and 184.
+// On x86-64, with the library that rattle-kit-13f made on 2026-11-26, in the order below: 82,160 bytes (255 brackets), 232,
+// 216, 184 (seven damaged blocks), 71,439 (a plan of height 254), 104,367 (the same plan, of a first leg), 893,720 (the same
+// plan; 823,543 of them are what it remembers), 648, 125,824 and 105,440 (a look rule of 255 brackets), 961,215 (two
+// legs, the first of height 254; 928,415 with one), and 184.
 // memcpy and memset are counted, but the first call of one in a process takes more where the dynamic linker binds it then:
-// 3,152 bytes were seen, for which there is room, since nothing that calls itself calls them.
+// pj_book_write took 3,432 bytes so, and pj_find 74,152, for which there is room.
 enum {
-    PJ_STACK_FORMULA_READ = 106496,
+    PJ_STACK_FORMULA_READ = 86016,
     PJ_STACK_BOOK_READ = 4096,
     PJ_STACK_BOOK_WRITE = 4096,
     PJ_STACK_BOOK_SALVAGE = 4096,
-    PJ_STACK_FIND = 106496,
+    PJ_STACK_FIND = 74752,
     PJ_STACK_FIND_TWO = 106496,
-    PJ_STACK_FIND_PLAIN = 901120,
+    PJ_STACK_FIND_PLAIN = 897024,
     PJ_STACK_PLAN_CHECK = 4096,
-    PJ_STACK_SHEET = 139264,
-    PJ_STACK_RULES = 118784,
+    PJ_STACK_SHEET = 126976,
+    PJ_STACK_RULES = 106496,
     PJ_STACK_ASK = 962560,
     PJ_STACK_REPLAY = 4096
 };

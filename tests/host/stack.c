@@ -152,7 +152,7 @@ int main(void) {
     climb_rights(7, rights, make);
     book_write();
     lines_of("team 1\nknown\nmake a&b&c&d&e&f&", 'g', 1);
-    holds("pj_ask, a plan of height 254", asked, PJ_STACK_ASK);
+    below("pj_ask, a plan of height 254", asked, PJ_STACK_ASK);
     test("which was found", same_text(out, "reach 254\n"));
     lines_of("team 1\nknown\nmake ", '(', 255);
     below("pj_ask, a make formula of 255 brackets", asked, PJ_STACK_ASK);
@@ -161,7 +161,7 @@ int main(void) {
     below("pj_ask, a learn formula of 255 brackets", asked, PJ_STACK_ASK);
     test("which is refused", result == 12 && same_text(out, "refused 4 5\n"));
     lines_of("team 1\nknown\nmake a&b&c&d&e&f&g\nthen\nteam 1\nmake a&b&c&d&e&f&", 'g', 1);
-    below("pj_ask, two legs, the first of height 254", asked, PJ_STACK_ASK);
+    holds("pj_ask, two legs, the first of height 254", asked, PJ_STACK_ASK);
     test("which was found", same_text(out, "reach 254\n"));
     return closing();
 }
