@@ -1,9 +1,8 @@
 -- `salvage` meets its contract: each way out is the first refusal in the order, or none; then the head block and those of the settings are one
 -- run from the first byte of the room on.
 use mathlib.Core.Path.{refl}
-use mathlib.Core.List.{List}
-use Prim.Native.Nat.{ℕ}
 use native.Mathlib.Omega.{arith}
+use borrow.Author.Rules.{rules}
 use Rattle.ground.proofs.Answers.{told, untold}
 use Rattle.book_sound.specs.Rows.{Whole}
 use Rattle.book_sound.proofs.BookLaws.{whole_length}
@@ -19,62 +18,35 @@ returns-then-not-is_whole c =
 
 pub returns-then-not-head_stands : goal.returns-then-not-head_stands
 returns-then-not-head_stands c =
-    let book-1 : List ℕ =
-    c.args.book.now in
-    let whole : Whole (book-1) =
-    told (Whole (book-1)) c.is_whole.result c.is_whole.ensures c.if-not-is_whole.false in
+    let whole : Whole c.args.book.now = search (rules, told) in
     let b = c.args.book.now in (
-      refuse_head b c.args.room.now (whole)
+      refuse_head b c.args.room.now whole
           (untold (HeadStands b) c.head_stands.result c.head_stands.ensures c.if-not-head_stands.true),
       refl,
     )
 
 pub returns-then-room-book : goal.returns-then-room-book
 returns-then-room-book c =
-    let book-1 : List ℕ =
-    c.args.book.now in
-    let whole : Whole (book-1) =
-    told (Whole (book-1)) c.is_whole.result c.is_whole.ensures c.if-not-is_whole.false in
-    let book-2 : List ℕ =
-    book-1 in
-    let head : HeadStands (book-2) =
-    told (HeadStands (book-2)) c.head_stands.result c.head_stands.ensures c.if-not-head_stands.false in
-    (refuse_room c.args.book.now c.args.room.now (whole) (head) c.if-room-book.true, refl)
+    let whole : Whole c.args.book.now = search (rules, told) in
+    let head : HeadStands c.args.book.now = search (rules, told) in
+    (refuse_room c.args.book.now c.args.room.now whole head c.if-room-book.true, refl)
 
 pub marks_of-marks-requires : goal.marks_of-marks-requires
 marks_of-marks-requires c =
-    let book-1 : List ℕ =
-    c.args.book.now in
-    let whole : Whole (book-1) =
-    told (Whole (book-1)) c.is_whole.result c.is_whole.ensures c.if-not-is_whole.false in
-    let book-2 : List ℕ =
-    book-1 in
-    let head : HeadStands (book-2) =
-    told (HeadStands (book-2)) c.head_stands.result c.head_stands.ensures c.if-not-head_stands.false in
-    omega (arith, c.peek-n.ensures, head-n-most (head).says (whole))
+    let whole : Whole c.args.book.now = search (rules, told) in
+    let head : HeadStands c.args.book.now = search (rules, told) in
+    omega (arith, c.peek-n.ensures, head-n-most head.says whole)
 
 pub lay_book-requires : goal.lay_book-requires
 lay_book-requires c =
-    let book-1 : List ℕ =
-    c.args.book.now in
-    let whole : Whole (book-1) =
-    told (Whole (book-1)) c.is_whole.result c.is_whole.ensures c.if-not-is_whole.false in
-    let book-2 : List ℕ =
-    book-1 in
-    let head : HeadStands (book-2) =
-    told (HeadStands (book-2)) c.head_stands.result c.head_stands.ensures c.if-not-head_stands.false in
-    omega (arith, c.peek-n.ensures, head-n-most (head).says (whole), whole_length (whole), c.if-room-book.false)
+    let whole : Whole c.args.book.now = search (rules, told) in
+    let head : HeadStands c.args.book.now = search (rules, told) in
+    omega (arith, c.peek-n.ensures, head-n-most head.says whole, whole_length whole, c.if-room-book.false)
 
 pub returns : goal.returns
 returns c =
-    let book-1 : List ℕ =
-    c.args.book.now in
-    let whole : Whole (book-1) =
-    told (Whole (book-1)) c.is_whole.result c.is_whole.ensures c.if-not-is_whole.false in
-    let book-2 : List ℕ =
-    book-1 in
-    let head : HeadStands (book-2) =
-    told (HeadStands (book-2)) c.head_stands.result c.head_stands.ensures c.if-not-head_stands.false in
+    let whole : Whole c.args.book.now = search (rules, told) in
+    let head : HeadStands c.args.book.now = search (rules, told) in
     let a = c.args in
-    salvages_to a.book.now a.room.now (whole) (head) _ _ _ _ _ c.if-room-book.false c.peek-n.ensures
+    salvages_to a.book.now a.room.now whole head _ _ _ _ _ c.if-room-book.false c.peek-n.ensures
     c.peek.ensures c.marks_of-marks.ensures c.ones-count.ensures c.lay_book.ensures

@@ -27,7 +27,7 @@ returns-then-text-end c =
     let l = c.loop-from in
     let end = c.piece_end-end in
     let p = piece_is s l.at newline end.result l.invariant.0 end.ensures in
-    sym (stray_ended s l.at end.result p c.if-text-end.true l.number (omega (arith, c.if-at-text.false))) ∙ l.invariant.3
+    sym (stray_ended s l.at end.result p c.if-text-end.true l.number (omega arith)) ∙ l.invariant.3
 
 pub slice_bounds-is_plan_line-count : goal.slice_bounds-is_plan_line-count
 slice_bounds-is_plan_line-count c =

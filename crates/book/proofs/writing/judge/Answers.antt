@@ -18,67 +18,54 @@ returns-then-n-gt-SETTINGS_MOST c =
 
 pub returns-then-m-lt1 : goal.returns-then-m-lt1
 returns-then-m-lt1 c =
-    let settings : SettingsFit c.args.n =
-    record { least = c.if-n-lt1.false; most = c.if-n-gt-SETTINGS_MOST.false } in
+    let settings : SettingsFit c.args.n = record { least = omega arith; most = omega arith } in
     let a = c.args in
-    refuse_posts a.n a.m a.rights.now a.room.now (settings) (λ p. omega (arith, p.least))
+    refuse_posts a.n a.m a.rights.now a.room.now settings (λ p. omega (arith, p.least))
 
 pub returns-then-m-gt-POSTS_MOST : goal.returns-then-m-gt-POSTS_MOST
 returns-then-m-gt-POSTS_MOST c =
-    let settings : SettingsFit c.args.n =
-    record { least = c.if-n-lt1.false; most = c.if-n-gt-SETTINGS_MOST.false } in
+    let settings : SettingsFit c.args.n = record { least = omega arith; most = omega arith } in
     let a = c.args in
-    refuse_posts a.n a.m a.rights.now a.room.now (settings) (λ p. omega (arith, p.most))
+    refuse_posts a.n a.m a.rights.now a.room.now settings (λ p. omega (arith, p.most))
 
 pub returns-then-rights-n : goal.returns-then-rights-n
 returns-then-rights-n c =
-    let settings : SettingsFit c.args.n =
-    record { least = c.if-n-lt1.false; most = c.if-n-gt-SETTINGS_MOST.false } in
-    let posts : PostsFit c.args.m =
-    record { least = c.if-m-lt1.false; most = c.if-m-gt-POSTS_MOST.false } in
+    let settings : SettingsFit c.args.n = record { least = omega arith; most = omega arith } in
+    let posts : PostsFit c.args.m = record { least = omega arith; most = omega arith } in
     let a = c.args in
-    refuse_size a.n a.m a.rights.now a.room.now (settings) (posts) c.if-rights-n.true
+    refuse_size a.n a.m a.rights.now a.room.now settings posts c.if-rights-n.true
 
 pub returns-then-stray-n : goal.returns-then-stray-n
 returns-then-stray-n c =
-    let settings : SettingsFit c.args.n =
-    record { least = c.if-n-lt1.false; most = c.if-n-gt-SETTINGS_MOST.false } in
-    let posts : PostsFit c.args.m =
-    record { least = c.if-m-lt1.false; most = c.if-m-gt-POSTS_MOST.false } in
-    let strays : (let a = c.args in
-    Lowest a.n (λ i. Tables a.n a.m (tables_of a.rights.now i)) c.first_stray-stray.result) =
+    let settings : SettingsFit c.args.n = record { least = omega arith; most = omega arith } in
+    let posts : PostsFit c.args.m = record { least = omega arith; most = omega arith } in
+    let strays : Lowest c.args.n (λ i. Tables c.args.n c.args.m (tables_of c.args.rights.now i)) c.first_stray-stray.result =
     c.first_stray-stray.ensures in
     let a = c.args in
-    refuse_tables a.n a.m a.rights.now a.room.now (settings) (posts) c.if-rights-n.false
-    (strays) c.if-stray-n.true
+    refuse_tables a.n a.m a.rights.now a.room.now settings posts (omega arith)
+    strays c.if-stray-n.true
 
 pub returns-then-room-n : goal.returns-then-room-n
 returns-then-room-n c =
-    let settings : SettingsFit c.args.n =
-    record { least = c.if-n-lt1.false; most = c.if-n-gt-SETTINGS_MOST.false } in
-    let posts : PostsFit c.args.m =
-    record { least = c.if-m-lt1.false; most = c.if-m-gt-POSTS_MOST.false } in
-    let strays : (let a = c.args in
-    Lowest a.n (λ i. Tables a.n a.m (tables_of a.rights.now i)) c.first_stray-stray.result) =
+    let settings : SettingsFit c.args.n = record { least = omega arith; most = omega arith } in
+    let posts : PostsFit c.args.m = record { least = omega arith; most = omega arith } in
+    let strays : Lowest c.args.n (λ i. Tables c.args.n c.args.m (tables_of c.args.rights.now i)) c.first_stray-stray.result =
     c.first_stray-stray.ensures in
     let a = c.args in
-    refuse_room a.n a.m a.rights.now a.room.now (settings) (posts) c.if-rights-n.false
-    (lowest-all (strays) c.if-stray-n.false) (omega (arith, c.if-room-n))
+    refuse_room a.n a.m a.rights.now a.room.now settings posts (omega arith)
+    (lowest-all strays (omega arith)) (omega (arith, c.if-room-n))
 
 pub returns : goal.returns
 returns c =
-    let settings : SettingsFit c.args.n =
-    record { least = c.if-n-lt1.false; most = c.if-n-gt-SETTINGS_MOST.false } in
-    let posts : PostsFit c.args.m =
-    record { least = c.if-m-lt1.false; most = c.if-m-gt-POSTS_MOST.false } in
-    let strays : (let a = c.args in
-    Lowest a.n (λ i. Tables a.n a.m (tables_of a.rights.now i)) c.first_stray-stray.result) =
+    let settings : SettingsFit c.args.n = record { least = omega arith; most = omega arith } in
+    let posts : PostsFit c.args.m = record { least = omega arith; most = omega arith } in
+    let strays : Lowest c.args.n (λ i. Tables c.args.n c.args.m (tables_of c.args.rights.now i)) c.first_stray-stray.result =
     c.first_stray-stray.ensures in (
       record {
         settings = settings;
         posts = posts;
-        size = c.if-rights-n.false;
-        tables = lowest-all (strays) c.if-stray-n.false;
+        size = omega arith;
+        tables = lowest-all strays (omega arith);
       },
       omega (arith, c.if-room-n),
     )

@@ -23,7 +23,7 @@ returns-then-said-shift c =
     let s = a.shift.now in
     let said = c.records_said-said in
     tells-refused (print_meaning s) a.out.now (NoRecord said.result)
-    (with_stray s (omega (arith, c.if-shift-gt-SHIFT_MOST.false)) c.if-shift-ne0.false said.result (sym said.ensures) c.if-said-shift.true)
+    (with_stray s (omega (arith, c.if-shift-gt-SHIFT_MOST.false)) (omega arith) said.result (sym said.ensures) c.if-said-shift.true)
 
 pub returns-then-write-gt-SHIFT_MOST : goal.returns-then-write-gt-SHIFT_MOST
 returns-then-write-gt-SHIFT_MOST c =
@@ -31,7 +31,7 @@ returns-then-write-gt-SHIFT_MOST c =
     let s = a.shift.now in
     let said = c.records_said-said in
     tells-refused (print_meaning s) a.out.now SheetLength
-    (text_too_long s (omega (arith, c.if-shift-gt-SHIFT_MOST.false)) c.if-shift-ne0.false said.result (sym said.ensures) c.if-said-shift.false
+    (text_too_long s (omega (arith, c.if-shift-gt-SHIFT_MOST.false)) (omega arith) said.result (sym said.ensures) c.if-said-shift.false
     (omega (arith, c.if-write-gt-SHIFT_MOST.true, c.write.ensures.next_place)))
 
 pub returns : goal.returns
@@ -40,6 +40,6 @@ returns c =
     let s = a.shift.now in
     let said = c.records_said-said in
     tells-given (print_meaning s) a.out.now (shift_text s) _ _
-    (prints-text s (omega (arith, c.if-shift-gt-SHIFT_MOST.false)) c.if-shift-ne0.false said.result (sym said.ensures) c.if-said-shift.false
+    (prints-text s (omega (arith, c.if-shift-gt-SHIFT_MOST.false)) (omega arith) said.result (sym said.ensures) c.if-said-shift.false
     (omega (arith, c.if-write-gt-SHIFT_MOST.false, c.write.ensures.next_place)))
     c.write-2.ensures

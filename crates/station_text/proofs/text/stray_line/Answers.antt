@@ -23,7 +23,7 @@ returns-then-text-end c =
     let line-here : (PieceEnd c.args.text.now c.loop-at.at newline c.piece_end-end.result) =
     piece_is _ c.loop-at.at newline c.piece_end-end.result c.loop-at.invariant.0 c.piece_end-end.ensures in
     let l = c.loop-at in
-    sym (stray_ended (line-here) c.if-text-end.true l.number (omega (arith, c.if-at-text.false))) ∙ l.invariant.3
+    sym (stray_ended (line-here) c.if-text-end.true l.number (omega arith)) ∙ l.invariant.3
 
 pub slice_bounds-is_line-count : goal.slice_bounds-is_line-count
 slice_bounds-is_line-count c =
