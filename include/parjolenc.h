@@ -206,26 +206,26 @@ enum {
 
 // Stack that a call takes at most, whatever its arguments, rounded up. It is measured and not proved: tests/host/stack.c paints
 // a stack, calls the function where it goes deepest, and finds the lowest byte that changed. On x86-64, with the library
-// that rattle-kit-13f made on 2026-11-26, in the order below: 82,160 bytes (255 brackets), 232, 216, 184 (seven damaged
-// blocks), 71,439 (a plan of height 254), 104,367 (the same plan, of a first leg), 893,720 (the same plan; 823,543 of them
-// are what it remembers), 648, 125,824 and 105,440 (a look rule of 255 brackets), 961,215 (two legs, the first of height
-// 254; 928,415 with one), and 184.
+// that rattle-kit-13f made on 2026-11-27, in the order below: 65,600 bytes (255 brackets), 288, 248, 184 (seven damaged
+// blocks), 71,112 (a plan of height 254), 88,760 (the same plan, of a first leg), 877,512 (the same plan; 823,543 of them
+// are what it remembers), 624, 108,832 and 88,592 (a look rule of 255 brackets), 945,432 (two legs, the first of height
+// 254; 927,944 with one), and 240.
 // memcpy and memset are counted. Where the dynamic linker binds them in the first call of a process, that call takes more: with
-// glibc 2.36 on a processor with AVX-512 3,432 bytes were seen of pj_book_write and pj_book_salvage, 74,152 of pj_find,
-// 107,112 of pj_find_two and 963,944 of pj_ask, and of the others nothing that counts. These are counted too (first.c). Another
+// glibc 2.36 on a processor with AVX-512 3,496 bytes were seen of pj_book_write, 3,432 of pj_book_salvage, 74,344 of pj_find, up to 2,745
+// more than the above of pj_find_two and pj_ask, and of the others nothing that counts. These are counted too (first.c). Another
 // dynamic linker may take more there: a host that lends a stack of just this size had best be linked with `-z now`.
 enum {
-    PJ_STACK_FORMULA_READ = 86016,
+    PJ_STACK_FORMULA_READ = 69632,
     PJ_STACK_BOOK_READ = 4096,
     PJ_STACK_BOOK_WRITE = 4096,
     PJ_STACK_BOOK_SALVAGE = 4096,
-    PJ_STACK_FIND = 75264,
-    PJ_STACK_FIND_TWO = 108032,
-    PJ_STACK_FIND_PLAIN = 897024,
+    PJ_STACK_FIND = 74752,
+    PJ_STACK_FIND_TWO = 92672,
+    PJ_STACK_FIND_PLAIN = 880640,
     PJ_STACK_PLAN_CHECK = 4096,
-    PJ_STACK_SHEET = 126976,
-    PJ_STACK_RULES = 106496,
-    PJ_STACK_ASK = 965120,
+    PJ_STACK_SHEET = 110592,
+    PJ_STACK_RULES = 90112,
+    PJ_STACK_ASK = 949248,
     PJ_STACK_REPLAY = 4096
 };
 

@@ -7,7 +7,7 @@ use native.Mathlib.Omega.{arith}
 use lib.ListN.{length, get_or, drop}
 use lib.Seq.{get_or-take}
 use Rattle.ground.specs.Bounds.{SettingsFit, PostsFit}
-use Rattle.ground.specs.Search.{Lowest}
+use Rattle.ground.specs.Search.{LowestAt}
 use Rattle.ground.proofs.Answers.{lowest-map}
 use Rattle.refusal.specs.declared.Refusal.{Refusal}
 use Rattle.refusal.specs.declared.Refusal.TheVariants.{Settings, BookLength, Head, StrayBit, Room}
@@ -66,9 +66,9 @@ module _ (n m : ℕ) (rights room : List ℕ) where
       refuse_size never = first_past settings (first_past posts (first-when never))
 
       module _ (size : length rights ≡ 256 * n) where
-        pub refuse_tables : {r : ℕ} → Lowest n (λ i. Tables n m (tables_of rights i)) r → r < n → First (write_rows n m rights room) (StrayBit (r + 1))
+        pub refuse_tables : {r : ℕ} → LowestAt n (λ i. Tables n m (tables_of rights i)) r → First (write_rows n m rights room) (StrayBit (1 + r))
         unfolding write_rows
-        refuse_tables low h =
+        refuse_tables low =
             first_past settings
             (first_past posts
             (first_past size
@@ -77,8 +77,7 @@ module _ (n m : ℕ) (rights room : List ℕ) where
             (lowest-map
             (λ i _ t. subst (λ x. Tables n m (tables_of rights x)) (sym (down i)) t)
             (λ i _ t. subst (λ x. Tables n m (tables_of rights x)) (down i) t)
-            low)
-            h))))
+            low)))))
 
         module _ (all : (i : ℕ) → i < n → Tables n m (tables_of rights i)) where
           pub refuse_room : length room < 512 * (1 + n) → First (write_rows n m rights room) Room

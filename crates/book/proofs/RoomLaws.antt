@@ -5,16 +5,12 @@ use Prim.Native.Nat.{ℕ, ◌+◌, ◌-◌, ◌*◌, ◌≤◌}
 use native.Mathlib.Omega.{arith}
 use lib.ListN.{length, drop}
 use lib.Seq.{sets}
-use Rattle.refusal.specs.declared.Refusal.{Refusal}
-use Rattle.book.specs.declared.writing.WriteAnswer.{WriteAnswer}
-use Rattle.book.specs.declared.writing.WriteAnswer.TheVariants.{Written, Refused as NotWritten}
 use Rattle.book_sound.specs.Sound.{Sound, rights_of, tables_of}
 use Rattle.book.specs.Rows.{write_rows}
 use Rattle.book_block.specs.Kinds.{Tables}
 use Rattle.book_block.specs.Sealed.{head_block}
 use Rattle.book.specs.Written.{setting_blocks, book_of, Writable}
-use Rattle.refusal.specs.Order.{First, Clear}
-use Rattle.book.specs.Inner.{MayWrite}
+use Rattle.refusal.specs.Order.{Clear}
 use Rattle.ground.proofs.Lists.{filled}
 use Rattle.refusal.proofs.OrderLaws.{clear_none, clear-past, clear-when, clear-lowest}
 use Rattle.book_block.proofs.SealLaws.{run_on}
@@ -28,14 +24,6 @@ pub read-room : {book : List ℕ} (room after : List ℕ) {n m : ℕ} → Sound 
 read-room {book} room after {n} sound h p = filled room after (rights_of book n) (256 * n) (length_rights book n (omega (arith, sound.size))) h p
 
 -- ---- writing
-
-pub may_write : (n m : ℕ) (rights room : List ℕ) (answer : WriteAnswer) → MayWrite n m rights room answer → answer ≡ Written
-    → Writable n m rights × (512 * (1 + n) ≤ length room)
-may_write n m rights room answer w e = subst (MayWrite n m rights room) e w
-
-pub may-not_write : (n m : ℕ) (rights room : List ℕ) (answer : WriteAnswer) (r : Refusal) → MayWrite n m rights room answer → answer ≡ NotWritten r
-    → First (write_rows n m rights room) r
-may-not_write n m rights room answer r w e = subst (MayWrite n m rights room) e w
 
 pub write_room : (n m : ℕ) (rights room headed after : List ℕ) → Writable n m rights → 512 * (1 + n) ≤ length room
     → headed ≡ sets room 0 (head_block n m) → after ≡ sets headed 512 (setting_blocks rights n) → after ≡ book_of n m rights ++ drop (512 * (1 + n)) room

@@ -7,10 +7,9 @@ use Prim.Native.Nat.{ℕ, ◌+◌, ◌*◌, ◌≤◌, ◌<◌}
 use native.Mathlib.Omega.{arith}
 use lib.ListN.{length, get_or, take, drop}
 use lib.Seq.{take_at}
-use Rattle.book_sound.specs.declared.ReadAnswer.{ReadAnswer}
-use Rattle.book_sound.specs.declared.ReadAnswer.TheVariants.{Book, Refused}
-use Rattle.book.specs.declared.writing.WriteAnswer.{WriteAnswer}
-use Rattle.book.specs.declared.writing.WriteAnswer.TheVariants.{Written, Refused as NotWritten}
+use Rattle.std.specs.Prelude.{Result, Ok, Err}
+use Rattle.book_sound.specs.declared.Size.{Size}
+use Rattle.book_sound.specs.Promise.{size}
 use Rattle.book_sound.specs.Sound.{Sound, rights_of}
 use Rattle.book.specs.Written.{book_of, Writable}
 use Rattle.refusal.specs.declared.Refusal.{Refusal}
@@ -33,29 +32,29 @@ use Rattle.book.proofs.RoundTrip.{book_again, read_writable, written-sound, righ
 -- ---- one result alone
 
 -- `read`
-pub reads-one : (book room : List ℕ) (a b : ReadAnswer) (x y : List ℕ) → ReadsBook book room a x → ReadsBook book room b y → (a ≡ b) × (x ≡ y)
-reads-one book room (Book n m) (Book k l) x y p q =
+pub reads-one : (book room : List ℕ) (a b : Result Size Refusal) (x y : List ℕ) → ReadsBook book room a x → ReadsBook book room b y → (a ≡ b) × (x ≡ y)
+reads-one book room (Ok a) (Ok b) x y p q =
     let e = sound-one p.0 q.0 in
-    (ap₂ Book e.0 e.1, p.2 ∙ ap (λ i. rights_of book i ++ drop (256 * i) room) e.0 ∙ sym q.2)
-reads-one book room (Book n m) (Refused r) x y p q = first-clear q.0 (read-clear room p.0 p.1)
-reads-one book room (Refused r) (Book n m) x y p q = first-clear p.0 (read-clear room q.0 q.1)
-reads-one book room (Refused r) (Refused s) x y p q = (ap Refused (first_unique p.0 q.0), p.1 ∙ sym q.1)
+    (ap₂ (λ n m. Ok (size n m)) e.0 e.1, p.2 ∙ ap (λ i. rights_of book i ++ drop (256 * i) room) e.0 ∙ sym q.2)
+reads-one book room (Ok a) (Err r) x y p q = first-clear q.0 (read-clear room p.0 p.1)
+reads-one book room (Err r) (Ok b) x y p q = first-clear p.0 (read-clear room q.0 q.1)
+reads-one book room (Err r) (Err s) x y p q = (ap Err (first_unique p.0 q.0), p.1 ∙ sym q.1)
 
 -- `write`
-pub writes_one : (n m : ℕ) (rights room : List ℕ) (a b : WriteAnswer) (x y : List ℕ) → WritesBook n m rights room a x → WritesBook n m rights room b y → (a ≡ b) × (x ≡ y)
-writes_one n m rights room Written Written x y p q = (refl, p.2 ∙ sym q.2)
-writes_one n m rights room Written (NotWritten r) x y p q = first-clear q.0 (writable_clear room p.0 p.1)
-writes_one n m rights room (NotWritten r) Written x y p q = first-clear p.0 (writable_clear room q.0 q.1)
-writes_one n m rights room (NotWritten r) (NotWritten s) x y p q = (ap NotWritten (first_unique p.0 q.0), p.1 ∙ sym q.1)
+pub writes_one : (n m : ℕ) (rights room : List ℕ) (a b : Result (Unit {0}) Refusal) (x y : List ℕ) → WritesBook n m rights room a x → WritesBook n m rights room b y → (a ≡ b) × (x ≡ y)
+writes_one n m rights room (Ok _) (Ok _) x y p q = (refl, p.2 ∙ sym q.2)
+writes_one n m rights room (Ok _) (Err r) x y p q = first-clear q.0 (writable_clear room p.0 p.1)
+writes_one n m rights room (Err r) (Ok _) x y p q = first-clear p.0 (writable_clear room q.0 q.1)
+writes_one n m rights room (Err r) (Err s) x y p q = (ap Err (first_unique p.0 q.0), p.1 ∙ sym q.1)
 
 -- ---- the round trips
 
 -- a book that reads, written from what was read, is the same bytes
-pub read_then_write : (book room after out : List ℕ) (n m : ℕ) (answer : WriteAnswer) (out' : List ℕ) → ((j : ℕ) → get_or book j 0 < 256)
-    → ReadsBook book room (Book n m) after → WritesBook n m (take (256 * n) after) out answer out' → 512 * (1 + n) ≤ length out
-    → (answer ≡ Written) × (out' ≡ book ++ drop (512 * (1 + n)) out)
+pub read_then_write : (book room after out : List ℕ) (n m : ℕ) (answer : Result (Unit {0}) Refusal) (out' : List ℕ) → ((j : ℕ) → get_or book j 0 < 256)
+    → ReadsBook book room (Ok (size n m)) after → WritesBook n m (take (256 * n) after) out answer out' → 512 * (1 + n) ≤ length out
+    → (answer ≡ Ok tt) × (out' ≡ book ++ drop (512 * (1 + n)) out)
 read_then_write book room after out n m answer out' byte read write h =
-    writes_one n m (take (256 * n) after) out answer Written out' (book ++ drop (512 * (1 + n)) out) write (
+    writes_one n m (take (256 * n) after) out answer (Ok tt) out' (book ++ drop (512 * (1 + n)) out) write (
       subst (Writable n m) (sym same) (read_writable byte read.0),
       h,
       ap (λ (b : List ℕ). b ++ drop (512 * (1 + n)) out) (sym (ap (book_of n m) same ∙ book_again byte read.0)),
@@ -65,11 +64,11 @@ read_then_write book room after out n m answer out' byte read write h =
     same = ap (take (256 * n)) read.2 ∙ take_at (rights_of book n) _ (256 * n) (length_rights book n (omega (arith, read.0.size)))
 
 -- rights that are written read back as the same rights
-pub write_then_read : (n m : ℕ) (rights room after out : List ℕ) (answer : ReadAnswer) (out' : List ℕ)
-    → WritesBook n m rights room Written after → ReadsBook (take (512 * (1 + n)) after) out answer out' → 256 * n ≤ length out
-    → (answer ≡ Book n m) × (out' ≡ rights ++ drop (256 * n) out)
+pub write_then_read : (n m : ℕ) (rights room after out : List ℕ) (answer : Result Size Refusal) (out' : List ℕ)
+    → WritesBook n m rights room (Ok tt) after → ReadsBook (take (512 * (1 + n)) after) out answer out' → 256 * n ≤ length out
+    → (answer ≡ Ok (size n m)) × (out' ≡ rights ++ drop (256 * n) out)
 write_then_read n m rights room after out answer out' write read h =
-    reads-one (take (512 * (1 + n)) after) out answer (Book n m) out' (rights ++ drop (256 * n) out) read (
+    reads-one (take (512 * (1 + n)) after) out answer (Ok (size n m)) out' (rights ++ drop (256 * n) out) read (
       subst (λ b. Sound b n m) (sym same) (written-sound write.0),
       h,
       ap (λ (r : List ℕ). r ++ drop (256 * n) out) (sym (ap (λ b. rights_of b n) same ∙ rights_again write.0)),

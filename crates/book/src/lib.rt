@@ -11,7 +11,7 @@ mod reading;
 mod writing;
 
 pub use reading::read;
-pub use writing::{WriteAnswer, write};
+pub use writing::write;
 
 // The zero bytes before the check: in the head after n and m, 506, and in a setting's block after its
 // tables, 252.

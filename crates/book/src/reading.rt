@@ -5,7 +5,7 @@ ghost use Rattle.book_sound.specs.Sound.{rights_of};
 ghost use Rattle.book.specs.Promise.{ReadsBook};
 
 use book_block::{BLOCK, TABLES};
-use book_sound::{ReadAnswer, sound};
+use book_sound::{Size, sound};
 use ground::copy;
 use refusal::Refusal;
 
@@ -14,27 +14,20 @@ fn copy_rights(book: &[u8], n: usize, room: &mut [u8])
     requires { (n ≤ 7) × (512 * (1 + n) ≤ length book.now) × (256 * n ≤ length room.old) }
     ensures { room.new ≡ sets room.old 0 (rights_of book.now n) }
 {
-    let mut i = 0;
-    while i < n {
+    for i in 0..n {
         copy(book, BLOCK * (1 + i), TABLES, room, TABLES * i);
-        i += 1;
     }
 }
 
-// A book's rights, in the first 256 bytes a setting of the room, or why there are none.
-pub fn read(book: &[u8], room: &mut [u8]) -> ReadAnswer
+// A book's rights, in the first 256 bytes a setting of the room, or why there are none: 6 to 9, or 15.
+pub fn read(book: &[u8], room: &mut [u8]) -> Result<Size, Refusal>
     ensures { ReadsBook book.now room.old result room.new }
 {
-    let answer = sound(book);
-    match answer {
-        ReadAnswer::Refused(refusal) => ReadAnswer::Refused(refusal),
-        ReadAnswer::Book { settings, posts } => {
-            let n = settings as usize;
-            if room.len() < TABLES * n {
-                return ReadAnswer::Refused(Refusal::Room);
-            }
-            copy_rights(book, n, room);
-            ReadAnswer::Book { settings, posts }
-        }
+    let size = sound(book)?;
+    let n = size.settings as usize;
+    if room.len() < TABLES * n {
+        return Err(Refusal::Room);
     }
+    copy_rights(book, n, room);
+    Ok(size)
 }

@@ -15,15 +15,6 @@ use book_block::{BLOCK, TABLES, are_tables, seal};
 use ground::{POSTS_MOST, SETTINGS_MOST, copy, zeros};
 use refusal::Refusal;
 
-// What the writer says.
-#[derive(Clone, Copy)]
-pub enum WriteAnswer {
-    // the book stands at the start of the room
-    Written,
-    // nothing was written
-    Refused(Refusal),
-}
-
 // Writes the head block.
 fn write_head(n: u8, m: u8, room: &mut [u8])
     requires { 512 ≤ length room.old }
@@ -51,69 +42,52 @@ fn write_settings(rights: &[u8], n: usize, room: &mut [u8])
     requires { (n ≤ 7) × (256 * n ≤ length rights.now) × (512 * (1 + n) ≤ length room.old) }
     ensures { room.new ≡ sets room.old 512 (setting_blocks rights.now n) }
 {
-    let mut i = 0;
-    while i < n {
+    for i in 0..n {
         write_setting(rights, i, room);
-        i += 1;
     }
 }
 
-// The lowest of n settings whose tables have a bit that must be zero; n where none has one.
-fn first_stray(rights: &[u8], n: u8, m: u8) -> usize
+// The lowest of n settings whose tables have a bit that must be zero.
+fn first_stray(rights: &[u8], n: u8, m: u8) -> Option<usize>
     ensures { Lowest n (λ i. Tables n m (tables_of rights.now i)) result }
 {
-    let mut i: usize = 0;
-    while i < n as usize {
+    for i in 0..n as usize {
         if !are_tables(rights, TABLES * i, n, m) {
-            return i;
+            return Some(i);
         }
-        i += 1;
     }
-    n as usize
+    None
 }
 
 // The first of the writer's refusals that these numbers, rights and this length of the room meet.
-fn judge(n: usize, m: usize, rights: &[u8], room: &[u8]) -> WriteAnswer
+fn judge(n: usize, m: usize, rights: &[u8], room: &[u8]) -> Result<(), Refusal>
     ensures { MayWrite n m rights.now room.now result }
 {
-    if n < 1 {
-        return WriteAnswer::Refused(Refusal::Settings);
+    if n < 1 || SETTINGS_MOST < n {
+        return Err(Refusal::Settings);
     }
-    if SETTINGS_MOST < n {
-        return WriteAnswer::Refused(Refusal::Settings);
-    }
-    if m < 1 {
-        return WriteAnswer::Refused(Refusal::Head);
-    }
-    if POSTS_MOST < m {
-        return WriteAnswer::Refused(Refusal::Head);
+    if m < 1 || POSTS_MOST < m {
+        return Err(Refusal::Head);
     }
     if rights.len() != TABLES * n {
-        return WriteAnswer::Refused(Refusal::BookLength);
+        return Err(Refusal::BookLength);
     }
-    let stray = first_stray(rights, n as u8, m as u8);
-    if stray < n {
-        let block = stray + 1;
-        return WriteAnswer::Refused(Refusal::StrayBit(block));
+    if let Some(setting) = first_stray(rights, n as u8, m as u8) {
+        return Err(Refusal::StrayBit(1 + setting));
     }
     if room.len() < BLOCK * (1 + n) {
-        return WriteAnswer::Refused(Refusal::Room);
+        return Err(Refusal::Room);
     }
-    WriteAnswer::Written
+    Ok(())
 }
 
 // The book of n settings and m posts with these rights, at the start of the room, or why there is
-// none.
-pub fn write(n: usize, m: usize, rights: &[u8], room: &mut [u8]) -> WriteAnswer
+// none: nothing is written then.
+pub fn write(n: usize, m: usize, rights: &[u8], room: &mut [u8]) -> Result<(), Refusal>
     ensures { WritesBook n m rights.now room.old result room.new }
 {
-    let answer = judge(n, m, rights, room);
-    match answer {
-        WriteAnswer::Refused(refusal) => WriteAnswer::Refused(refusal),
-        WriteAnswer::Written => {
-            write_head(n as u8, m as u8, room);
-            write_settings(rights, n, room);
-            WriteAnswer::Written
-        }
-    }
+    judge(n, m, rights, room)?;
+    write_head(n as u8, m as u8, room);
+    write_settings(rights, n, room);
+    Ok(())
 }

@@ -1,5 +1,5 @@
 -- Byte by byte and bit by bit: a setting's tables have no bit that must be zero exactly where each byte has only its live bits.
-use Rattle.std.proofs.Common.{◌≡◌, ℕ, ◌+◌, ◌-◌, ◌*◌, ◌/◌, ◌%◌, ◌^◌, ◌<◌, ◌≤◌, min, Bool, false, List, get_or, drop, sym, ap, ◌∙◌, subst, ap₂, ⊎_elim, lt_of_le_of_lt, mod-eq_of_lt, one-mul, arith, lit<, get_or-drop, pow_mono, le-leb}
+use Rattle.std.proofs.Common.{◌≡◌, ℕ, ◌+◌, ◌-◌, ◌*◌, ◌/◌, ◌%◌, ◌^◌, ◌<◌, ◌≤◌, min, false, List, get_or, drop, sym, ap, ◌∙◌, ⊎_elim, lt_of_le_of_lt, mod-eq_of_lt, one-mul, arith, lit<, get_or-drop, pow_mono, le-leb}
 use lib.Arith.{lt-one}
 use borrow.Author.Tests.{lt-leb}
 use Rattle.ground.specs.Digits.{bit}
@@ -8,7 +8,6 @@ use Rattle.book_block.specs.declared.rule.Right.{Right}
 use Rattle.book_block.specs.declared.rule.Right.TheVariants.{Look, Set}
 use Rattle.book_block.specs.Rule.{table_place, table}
 use Rattle.book_block.specs.Kinds.{Zeros, Tables}
-use Rattle.ground.specs.Tells.{Tells}
 use Rattle.book_block.specs.Live.{live, Clean}
 use Rattle.ground.proofs.Lists.{get_d_part}
 use Rattle.ground.proofs.Bools.{lt_or_ge}
@@ -21,10 +20,6 @@ live-none n m j h = rw (live, le-leb (32 * m) j h)
 pub live-some : (n m j : ℕ) → j < 32 * m → live n m j ≡ min 8 (2 ^ n - 8 * (j % 16))
 unfolding live
 live-some n m j h = rw (live, lt-leb (32 * m) j h)
-
-pub live-most : (n m j : ℕ) → live n m j ≤ 8
-live-most n m j =
-    ⊎_elim (λ h. rw (live-some n m j h) (omega arith)) (λ h. rw (live-none n m j h) (omega arith)) (lt_or_ge j (32 * m))
 
 -- where byte j of a setting's tables stands: post, right, byte of the table
 pub record Spot (j : ℕ) : Type 0 where
@@ -141,14 +136,3 @@ one_shifted n h =
 -- the bytes of a part are bytes
 pub dropped_small : (bytes : List ℕ) (from : ℕ) → ((j : ℕ) → get_or bytes j 0 < 256) → (j : ℕ) → j < 256 → get_or (drop from bytes) j 0 < 256
 dropped_small bytes from byte j h = rw (get_or-drop from bytes j 0) (byte (from + j))
-
--- one byte of a setting's tables, as it is looked at
-abbrev pub Alive : ℕ → ℕ → List ℕ → ℕ → Type 0
-Alive n m bytes j = get_or bytes j 0 < 2 ^ live n m j
-
-pub byte-tells : (bytes : List ℕ) (from j p l n m : ℕ) (r : Bool) → p ≡ get_or bytes (from + j) 0 → l ≡ live n m j → Tells r (p < 2 ^ l)
-    → Tells r (Alive n m (drop from bytes) j)
-byte-tells bytes from j p l n m r e f t =
-    subst (λ (A : Type 0). Tells r A)
-    (ap₂ (λ x y. x < 2 ^ y) (e ∙ sym (get_or-drop from bytes j 0)) f)
-    t

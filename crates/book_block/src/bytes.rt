@@ -13,10 +13,7 @@ use ground::peek;
 pub(crate) fn byte_at(bytes: &[u8], from: usize, i: usize) -> u8
     ensures { result ≡ slice_index bytes.now (from + i) }
 {
-    if bytes.len() <= from {
-        return 0;
-    }
-    if bytes.len() - from <= i {
+    if bytes.len().saturating_sub(from) <= i {
         return 0;
     }
     peek(bytes, from + i)
@@ -26,14 +23,7 @@ pub(crate) fn byte_at(bytes: &[u8], from: usize, i: usize) -> u8
 pub fn are_zeros(bytes: &[u8], from: usize, first: usize, end: usize) -> bool
     ensures { Tells result (Zeros first end (drop from bytes.now)) }
 {
-    let mut j = first;
-    while j < end {
-        if byte_at(bytes, from, j) != 0 {
-            return false;
-        }
-        j += 1;
-    }
-    true
+    (first..end).all(|j| byte_at(bytes, from, j) == 0)
 }
 
 // Writes a number of 16 bits into the room at `to`, low byte first.
@@ -41,6 +31,5 @@ pub(crate) fn put16(number: u16, room: &mut [u8], to: usize)
     requires { to + 2 ≤ length room.old }
     ensures { room.new ≡ sets room.old to (bytes16 number) }
 {
-    room[to] = (number % 256) as u8;
-    room[to + 1] = (number / 256) as u8;
+    room[to..to + 2].copy_from_slice(&number.to_le_bytes());
 }

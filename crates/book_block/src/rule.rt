@@ -7,7 +7,7 @@ use crate::BLOCK;
 use ground::TABLE;
 
 // The two rules that a setting has for each post.
-#[derive(Clone, Copy)]
+#[derive(Clone, Copy, Debug, PartialEq, Eq)]
 pub enum Right {
     // who may look at the setting
     Look,
@@ -16,6 +16,7 @@ pub enum Right {
 }
 
 // The byte at which a post's table begins, in the tables of one setting.
+#[tactic(auto, unfolding(crate::specs::Rule::table_place))]
 pub fn table_at(post: u8, right: Right) -> usize
     ensures { result ≡ table_place post right }
 {

@@ -13,7 +13,8 @@ use ground::{SETTINGS_MOST, TABLE};
 // How many low bits of byte j of a setting's tables may be set, for n settings and m posts. The tables
 // of seven settings have no bit past 2^n.
 fn live_bits(n: u8, m: u8, j: usize) -> usize
-    ensures { result ≡ live n m j }
+    ensures value { result ≡ live n m j }
+    ensures most { result ≤ 8 }
 {
     if POST * (m as usize) <= j {
         return 0;
@@ -22,14 +23,7 @@ fn live_bits(n: u8, m: u8, j: usize) -> usize
         return BYTE;
     }
     let all: usize = 1 << n;
-    let first = BYTE * (j % TABLE);
-    if all <= first {
-        return 0;
-    }
-    if BYTE <= all - first {
-        return BYTE;
-    }
-    all - first
+    BYTE.min(all.saturating_sub(BYTE * (j % TABLE)))
 }
 
 // Whether only the low `bits` bits of a byte are set.
@@ -37,8 +31,7 @@ fn fits(byte: u8, bits: usize) -> bool
     requires { bits ≤ 8 }
     ensures { Tells result (byte < 2 ^ bits) }
 {
-    let above = (byte as usize) >> bits;
-    if above == 0 { true } else { false }
+    (byte as usize) >> bits == 0
 }
 
 // Whether the tables of a setting, 256 bytes that begin at `from`, have no bit that must be zero where
@@ -46,14 +39,7 @@ fn fits(byte: u8, bits: usize) -> bool
 pub fn are_tables(bytes: &[u8], from: usize, n: u8, m: u8) -> bool
     ensures { Tells result (Tables n m (drop from bytes.now)) }
 {
-    let mut j = 0;
-    while j < TABLES {
-        if !fits(byte_at(bytes, from, j), live_bits(n, m, j)) {
-            return false;
-        }
-        j += 1;
-    }
-    true
+    (0..TABLES).all(|j| fits(byte_at(bytes, from, j), live_bits(n, m, j)))
 }
 
 // Whether the block that begins at `from` is a setting's, where there are n settings and m posts: its
@@ -61,8 +47,5 @@ pub fn are_tables(bytes: &[u8], from: usize, n: u8, m: u8) -> bool
 pub fn is_setting(bytes: &[u8], from: usize, n: u8, m: u8) -> bool
     ensures { Tells result (SettingBlock n m (drop from bytes.now)) }
 {
-    if !are_tables(bytes, from, n, m) {
-        return false;
-    }
-    are_zeros(bytes, from, TABLES, CHECKED)
+    are_tables(bytes, from, n, m) && are_zeros(bytes, from, TABLES, CHECKED)
 }

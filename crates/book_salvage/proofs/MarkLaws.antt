@@ -7,6 +7,9 @@ use native.Mathlib.Nat.{le_refl, pow-succ', one-mul, not-suc-le-zero, lt_of_lt_o
 use native.Mathlib.Numerals.{add-one}
 use native.Mathlib.Omega.{arith}
 use lib.Dec.{eqb, lit<}
+use lib.Count.{ones_step}
+use Rattle.std.specs.Prelude.{count_ones}
+use Rattle.std.proofs.lemmas.Nat.{ones_le_self}
 use lib.Pow.{pow_mono, shl_exact}
 use Rattle.ground.specs.Digits.{digit, bit}
 use Rattle.ground.specs.Tells.{Tells}
@@ -117,9 +120,23 @@ ones-most zero marks = le_refl 0
 ones-most (suc k) marks =
     let d : digit 2 marks k < 2 = digit_lt {b = 2} (lit< tt) marks k in omega (arith, ones-most k marks)
 
-pub ones_step : (k marks count : ℕ) → count ≡ ones k marks → count + marks / 2 ^ k % 2 ≡ ones (k + 1) marks
+-- the marks of a byte, as its bits are counted
+pub ones_counted : (marks : ℕ) → marks < 256 → count_ones marks ≡ ones 8 marks
 unfolding ones digit
-ones_step k marks count e = ap (λ (x : ℕ). x + marks / 2 ^ k % 2) e ∙ ap (λ j. ones j marks) (sym (add-one k))
+ones_counted marks h =
+    omega (
+      arith,
+      h,
+      ones_step marks,
+      ones_step (marks / 2),
+      ones_step (marks / 2 / 2),
+      ones_step (marks / 2 / 2 / 2),
+      ones_step (marks / 2 / 2 / 2 / 2),
+      ones_step (marks / 2 / 2 / 2 / 2 / 2),
+      ones_step (marks / 2 / 2 / 2 / 2 / 2 / 2),
+      ones_step (marks / 2 / 2 / 2 / 2 / 2 / 2 / 2),
+      ones_le_self (marks / 2 / 2 / 2 / 2 / 2 / 2 / 2 / 2),
+    )
 
 pub ones_none : ones 8 0 ≡ 0
 unfolding ones digit

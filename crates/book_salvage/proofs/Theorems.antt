@@ -20,11 +20,11 @@ use Rattle.book_block.specs.Check.{block}
 use Rattle.book_sound.specs.Sound.{Sound}
 use Rattle.book_sound.specs.Rows.{Whole, settings_of, posts_of}
 use Rattle.book_sound.proofs.SoundLaws.{sound-settings, sound-posts, sound-whole, sound-head-right}
-use Rattle.book_salvage.specs.declared.SalvageAnswer.{SalvageAnswer}
-use Rattle.book_salvage.specs.declared.SalvageAnswer.TheVariants.{Salvaged, Refused}
+use Rattle.std.specs.Prelude.{Result, Ok, Err}
+use Rattle.book_salvage.specs.declared.Salvaged.{Salvaged}
 use Rattle.book_salvage.specs.Salvaged.{MarksOf, ones, closed_block, setting_after, salvaged_book}
 use Rattle.book_salvage.specs.Rows.{HeadStands, salvage_rows}
-use Rattle.book_salvage.specs.Promise.{SalvagesTo, Salvages}
+use Rattle.book_salvage.specs.Promise.{salvaged, SalvagesTo, Salvages}
 use Rattle.book_salvage.proofs.MarkLaws.{marks-one, marks-none, ones_none, ones_zero, ones-most, ones-past, marked-small-byte}
 use Rattle.book_salvage.proofs.LaidLaws.{after-marked, after_unmarked, length_salvaged, salvaged_head, salvaged_setting, salvaged_sound, salvaged_same}
 use Rattle.book_salvage.proofs.RefusalLaws.{whole-size, whole-settings, refuse_none}
@@ -33,38 +33,38 @@ use Rattle.book_salvage.proofs.RuleLaws.{rule-kept, rule_closed}
 -- ---- one result alone
 
 to_one : {book room : List ℕ} {a b c d : ℕ} {x y : List ℕ} → SalvagesTo book room a c x → SalvagesTo book room b d y
-    → (Salvaged a c ≡ Salvaged b d) × (x ≡ y)
+    → (salvaged a c ≡ salvaged b d) × (x ≡ y)
 to_one {book} {room} p q =
     let e = marks-one p.marked q.marked in (
-      ap₂ Salvaged e (p.counted ∙ ap (ones 8) e ∙ sym q.counted),
+      ap₂ salvaged e (p.counted ∙ ap (ones 8) e ∙ sym q.counted),
       p.filled ∙ ap (λ k. salvaged_book book k (settings_of book) ++ drop (length book) room) e ∙ sym q.filled,
     )
 
 -- `salvage`: any two results that its contract allows are the same, the room included
-pub salvage_one : (book room : List ℕ) (a b : SalvageAnswer) (x y : List ℕ) → Salvages book room a x → Salvages book room b y → (a ≡ b) × (x ≡ y)
-salvage_one book room (Salvaged a c) (Salvaged b d) x y p q = to_one p q
-salvage_one book room (Salvaged a c) (Refused r) x y p q = first-clear q.0 (refuse_none book room p.whole p.head p.fits)
-salvage_one book room (Refused r) (Salvaged b d) x y p q = first-clear p.0 (refuse_none book room q.whole q.head q.fits)
-salvage_one book room (Refused r) (Refused s) x y p q = (ap Refused (first_unique p.0 q.0), p.1 ∙ sym q.1)
+pub salvage_one : (book room : List ℕ) (a b : Result Salvaged Refusal) (x y : List ℕ) → Salvages book room a x → Salvages book room b y → (a ≡ b) × (x ≡ y)
+salvage_one book room (Ok a) (Ok b) x y p q = let o = to_one p q in (ap Ok o.0, o.1)
+salvage_one book room (Ok a) (Err r) x y p q = first-clear q.0 (refuse_none book room p.whole p.head p.fits)
+salvage_one book room (Err r) (Ok b) x y p q = first-clear p.0 (refuse_none book room q.whole q.head q.fits)
+salvage_one book room (Err r) (Err s) x y p q = (ap Err (first_unique p.0 q.0), p.1 ∙ sym q.1)
 
 -- ---- which answer, exactly: each refusal where it is the first in the order, and a salvaged book where none is given
 
-module _ (book room : List ℕ) (a : SalvageAnswer) (x : List ℕ) (so : Salvages book room a x) where
-  pub refused_exactly : (r : Refusal) → (a ≡ Refused r) ↔ First (salvage_rows book room) r
+module _ (book room : List ℕ) (a : Result Salvaged Refusal) (x : List ℕ) (so : Salvages book room a x) where
+  pub refused_exactly : (r : Refusal) → (a ≡ Err r) ↔ First (salvage_rows book room) r
   refused_exactly r = (
-    λ e. (subst (λ (b : SalvageAnswer). Salvages book room b x) e so).0,
-    λ f. (salvage_one book room a (Refused r) x room so (f, refl)).0,
+    λ e. (subst (λ (b : Result Salvaged Refusal). Salvages book room b x) e so).0,
+    λ f. (salvage_one book room a (Err r) x room so (f, refl)).0,
   )
 
-  pub salvaged_exactly : ((marks : ℕ) × (count : ℕ) × (a ≡ Salvaged marks count)) ↔ (Whole book × HeadStands book × (length book ≤ length room))
+  pub salvaged_exactly : ((marks : ℕ) × (count : ℕ) × (a ≡ Ok (salvaged marks count))) ↔ (Whole book × HeadStands book × (length book ≤ length room))
   salvaged_exactly = (
-    λ (marks, count, e). let s = subst (λ (b : SalvageAnswer). Salvages book room b x) e so in (s.whole, s.head, s.fits),
+    λ (marks, count, e). let s = subst (λ (b : Result Salvaged Refusal). Salvages book room b x) e so in (s.whole, s.head, s.fits),
     λ (whole, head, fits). by a so (refuse_none book room whole head fits),
   )
     where
-      by : (b : SalvageAnswer) → Salvages book room b x → Clear (salvage_rows book room) → (marks : ℕ) × (count : ℕ) × (b ≡ Salvaged marks count)
-      by (Salvaged marks count) s none = (marks, count, refl)
-      by (Refused r) s none = first-clear s.0 none
+      by : (b : Result Salvaged Refusal) → Salvages book room b x → Clear (salvage_rows book room) → (marks : ℕ) × (count : ℕ) × (b ≡ Ok (salvaged marks count))
+      by (Ok a) s none = (a.marks, a.count, refl)
+      by (Err r) s none = first-clear s.0 none
 
 -- ---- the result reads as a book
 
@@ -122,10 +122,10 @@ module _ {book room after : List ℕ} {marks count : ℕ} (s : SalvagesTo book r
 -- ---- a sound book
 
 -- a sound book comes back as its own bytes, with no mark
-pub sound_salvaged : {book : List ℕ} {n m : ℕ} (room : List ℕ) (answer : SalvageAnswer) (after : List ℕ) → Sound book n m → length book ≤ length room
-    → Salvages book room answer after → (answer ≡ Salvaged 0 0) × (after ≡ book ++ drop (length book) room)
+pub sound_salvaged : {book : List ℕ} {n m : ℕ} (room : List ℕ) (answer : Result Salvaged Refusal) (after : List ℕ) → Sound book n m → length book ≤ length room
+    → Salvages book room answer after → (answer ≡ Ok (salvaged 0 0)) × (after ≡ book ++ drop (length book) room)
 sound_salvaged {book} {n} {m} room answer after sound fits so =
-    salvage_one book room answer (Salvaged 0 0) after (book ++ drop (length book) room) so
+    salvage_one book room answer (Ok (salvaged 0 0)) after (book ++ drop (length book) room) so
     (record {
       whole = sound-whole sound;
       head = record { check = sound.checks 0 (omega arith); says = sound-head-right sound };
@@ -141,9 +141,9 @@ sound_salvaged {book} {n} {m} room answer after sound fits so =
     })
 
 -- "Salvaging twice gives the same bytes as once", and no mark the second time
-pub salvaged_twice : {book room after : List ℕ} {marks count : ℕ} (room₂ : List ℕ) (answer : SalvageAnswer) (after₂ : List ℕ)
+pub salvaged_twice : {book room after : List ℕ} {marks count : ℕ} (room₂ : List ℕ) (answer : Result Salvaged Refusal) (after₂ : List ℕ)
     → SalvagesTo book room marks count after → length book ≤ length room₂ → Salvages (take (length book) after) room₂ answer after₂
-    → (answer ≡ Salvaged 0 0) × (after₂ ≡ take (length book) after ++ drop (length book) room₂)
+    → (answer ≡ Ok (salvaged 0 0)) × (after₂ ≡ take (length book) after ++ drop (length book) room₂)
 salvaged_twice {book} {after = after} room₂ answer after₂ s fits so =
     let e : length (take (length book) after) ≡ length book = salvaged_length s in
     let again = sound_salvaged room₂ answer after₂ (salvaged_reads s) (subst (λ k. k ≤ length room₂) (sym e) fits) so in

@@ -34,10 +34,8 @@ fn lay_settings(book: &[u8], marks: u8, n: u8, room: &mut [u8])
     requires { (n ≤ 7) × (512 * (1 + n) ≤ length book.now) × (512 * (1 + n) ≤ length room.old) }
     ensures { room.new ≡ sets room.old 512 (in_order (setting_after book.now marks) n) }
 {
-    let mut i: u8 = 0;
-    while i < n {
+    for i in 0..n {
         lay_setting(book, marks, i, room);
-        i += 1;
     }
 }
 

@@ -17,45 +17,42 @@ use book_block::is_right;
 use book_sound::{is_head, is_whole};
 use closing::lay_book;
 use ground::peek;
-use marking::{marks_of, ones};
+use marking::marks_of;
 use refusal::Refusal;
 
-// What the salvage says.
-#[derive(Clone, Copy)]
-pub enum SalvageAnswer {
-    // the book stands at the start of the room; bit i of `marks` is set where the block of setting i was
-    // replaced, and `count` is how many were
-    Salvaged { marks: u8, count: u8 },
-    // nothing was written: 6, 30 or 15
-    Refused(Refusal),
+// What a salvage has done: bit i of `marks` is set where the block of setting i was replaced, and `count` is
+// how many were.
+#[derive(Clone, Copy, Debug, PartialEq, Eq)]
+pub struct Salvaged {
+    pub marks: u8,
+    pub count: u8,
 }
 
 // Whether the head block can be relied on: its check is right, and it says what a head must.
 fn head_stands(book: &[u8]) -> bool
     ensures { Tells result (HeadStands book.now) }
 {
-    if !is_right(book, 0) {
-        return false;
-    }
-    is_head(book)
+    is_right(book, 0) && is_head(book)
 }
 
-// The book with each damaged setting block closed, at the start of the room, or why there is none.
-pub fn salvage(book: &[u8], room: &mut [u8]) -> SalvageAnswer
+// The book with each damaged setting block closed, at the start of the room, or why there is none: 6, 30 or 15.
+pub fn salvage(book: &[u8], room: &mut [u8]) -> Result<Salvaged, Refusal>
     ensures { Salvages book.now room.old result room.new }
 {
     if !is_whole(book) {
-        return SalvageAnswer::Refused(Refusal::BookLength);
+        return Err(Refusal::BookLength);
     }
     if !head_stands(book) {
-        return SalvageAnswer::Refused(Refusal::SalvageHead);
+        return Err(Refusal::SalvageHead);
     }
     if room.len() < book.len() {
-        return SalvageAnswer::Refused(Refusal::Room);
+        return Err(Refusal::Room);
     }
     let n = peek(book, 0);
     let marks = marks_of(book, n, peek(book, 1));
-    let count = ones(marks);
     lay_book(book, marks, n, room);
-    SalvageAnswer::Salvaged { marks, count }
+    Ok(Salvaged {
+        marks,
+        count: marks.count_ones() as u8,
+    })
 }

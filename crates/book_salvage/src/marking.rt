@@ -3,22 +3,16 @@ ghost use Rattle.std.specs.Prelude.{◌≡◌, not, ℕ, suc, ◌+◌, ◌^◌, 
 ghost use Rattle.ground.specs.Digits.{bit};
 ghost use Rattle.ground.specs.Tells.{Tells};
 ghost use Rattle.book_block.specs.Check.{block};
-ghost use Rattle.book_salvage.specs.Salvaged.{Stands, MarksOf, ones};
+ghost use Rattle.book_salvage.specs.Salvaged.{Stands, MarksOf};
 
 use book_block::{BLOCK, is_right, is_setting};
-
-// The bits of a byte of marks.
-const MARKS: u8 = 8;
 
 // Whether the block of setting i stays: its check is right, and no bit is set that must be zero.
 fn stands(book: &[u8], i: u8, n: u8, m: u8) -> bool
     ensures { Tells result (Stands n m (block book.now (1 + i))) }
 {
     let at = BLOCK * (1 + i as usize);
-    if !is_right(book, at) {
-        return false;
-    }
-    is_setting(book, at, n, m)
+    is_right(book, at) && is_setting(book, at, n, m)
 }
 
 // The marks of the settings below i, with that of setting i.
@@ -38,24 +32,8 @@ pub(crate) fn marks_of(book: &[u8], n: u8, m: u8) -> u8
     ensures { MarksOf book.now n m result }
 {
     let mut marks: u8 = 0;
-    let mut i: u8 = 0;
-    while i < n {
-        let stays = stands(book, i, n, m);
-        marks = with_mark(marks, i, stays);
-        i += 1;
+    for i in 0..n {
+        marks = with_mark(marks, i, stands(book, i, n, m));
     }
     marks
-}
-
-// How many marks there are.
-pub(crate) fn ones(marks: u8) -> u8
-    ensures { result ≡ ones 8 marks }
-{
-    let mut count: u8 = 0;
-    let mut i: u8 = 0;
-    while i < MARKS {
-        count += (marks >> i) % 2;
-        i += 1;
-    }
-    count
 }

@@ -2,7 +2,7 @@
 use mathlib.Core.Path.{◌≡◌, subst}
 use Prim.Native.Nat.{ℕ, ◌+◌, ◌-◌, ◌≤◌, ◌<◌}
 use native.Mathlib.Omega.{arith}
-use Rattle.ground.specs.Search.{Least, Lowest}
+use Rattle.ground.specs.Search.{Least, LowestAt}
 
 back : (k : ℕ) → 1 ≤ k → 1 + (k - 1) ≡ k
 back k h = omega arith
@@ -10,10 +10,10 @@ back k h = omega arith
 pub down : (i : ℕ) → 1 + i - 1 ≡ i
 down i = omega arith
 
-pub least-block : {n r : ℕ} (P : ℕ → Type 0) → Lowest n (λ i. P (1 + i)) r → r < n → Least (λ k. (1 ≤ k) × (k ≤ n) × (P k → ⊥)) (r + 1)
-least-block {n} {r} P low h =
+pub least-block : {n r : ℕ} (P : ℕ → Type 0) → LowestAt n (λ i. P (1 + i)) r → Least (λ k. (1 ≤ k) × (k ≤ n) × (P k → ⊥)) (1 + r)
+least-block {n} {r} P low =
     record {
-      here = (omega arith, omega arith, subst (λ k. P k → ⊥) (omega arith) (low.here h));
+      here = (omega arith, omega (arith, low.within), low.here);
       none_below = λ k l g. g.2 (subst P (back k g.0) (low.before (k - 1) (omega (arith, g.0))));
     }
 

@@ -1,11 +1,12 @@
 -- Each way out of `sound` is the first refusal in the order or none: what was tested before shows that the rows before are not given.
 use mathlib.Core.Path.{◌≡◌, sym, subst}
 use mathlib.Core.List.{List}
+use Rattle.std.specs.Prelude.{Option}
 use Prim.Native.Nat.{ℕ, ◌+◌, ◌-◌, ◌*◌, ◌≤◌, ◌<◌}
 use native.Mathlib.Omega.{arith}
 use lib.Dec.{lit<}
 use lib.ListN.{length, get_or}
-use Rattle.ground.specs.Search.{Lowest}
+use Rattle.ground.specs.Search.{LowestAt, Lowest}
 use Rattle.refusal.specs.declared.Refusal.TheVariants.{BookLength, Check, Head as WrongHead, StrayBit}
 use Rattle.refusal.specs.Order.{First}
 use Rattle.refusal.proofs.OrderLaws.{first-when, first-lowest, first_past, first-later-lowest}
@@ -26,10 +27,10 @@ module _ (book : List ℕ) where
   refuse_length never = first-when never
 
   module _ (whole : Whole book) where
-    pub refuse_check : {r : ℕ} → Lowest (blocks book) (λ k. RightCheck (block book k)) r → r < blocks book → First (book_rows book) (Check r)
+    pub refuse_check : {r : ℕ} → LowestAt (blocks book) (λ k. RightCheck (block book k)) r → First (book_rows book) (Check r)
     unfolding book_rows
-    refuse_check low h =
-        first_past whole (first-lowest (record { here = (h, low.here h); none_below = λ k l g. g.1 (low.before k l) }))
+    refuse_check low =
+        first_past whole (first-lowest (record { here = (low.within, low.here); none_below = λ k l g. g.1 (low.before k l) }))
 
     module _ (checks : (k : ℕ) → k < blocks book → RightCheck (block book k)) where
       pub refuse_head : (RightHead book → ⊥) → First (book_rows book) WrongHead
@@ -37,12 +38,12 @@ module _ (book : List ℕ) where
       refuse_head never = first_past whole (first-later-lowest (λ k g. g.1 (checks k g.0)) (first-when never))
 
       module _ (head : RightHead book) where
-        pub refuse_stray : {r : ℕ} → Lowest (settings_of book) (Settings book) r → r < settings_of book → First (book_rows book) (StrayBit (r + 1))
+        pub refuse_stray : {r : ℕ} → LowestAt (settings_of book) (Settings book) r → First (book_rows book) (StrayBit (1 + r))
         unfolding book_rows
-        refuse_stray low h =
+        refuse_stray low =
             first_past whole
             (first-later-lowest (λ k g. g.1 (checks k g.0))
-            (first_past head (first-lowest (least-block (λ k. SettingBlock (settings_of book) (posts_of book) (block book k)) low h))))
+            (first_past head (first-lowest (least-block (λ k. SettingBlock (settings_of book) (posts_of book) (block book k)) low))))
 
         pub is-sound : ((i : ℕ) → i < settings_of book → Settings book i) → Sound book (settings_of book) (posts_of book)
         unfolding settings_of
@@ -68,11 +69,11 @@ module _ {book : List ℕ} (right : RightHead book) where
   unfolding posts_of
   head-m = sym (first_byte book 1 (lit< tt))
 
-  pub stray_blocks : {r : ℕ} → Lowest (get_or book 0 0) (λ i. SettingBlock (get_or book 0 0) (get_or book 1 0) (block book (1 + i))) r
-      → Lowest (settings_of book) (Settings book) r
-  stray_blocks {r} low =
-      subst (λ n. Lowest n (λ i. SettingBlock n (posts_of book) (block book (1 + i))) r) head-n
-      (subst (λ m. Lowest (get_or book 0 0) (λ i. SettingBlock (get_or book 0 0) m (block book (1 + i))) r) head-m low)
+  pub stray_blocks : (o : Option ℕ) → Lowest (get_or book 0 0) (λ i. SettingBlock (get_or book 0 0) (get_or book 1 0) (block book (1 + i))) o
+      → Lowest (settings_of book) (Settings book) o
+  stray_blocks o low =
+      subst (λ n. Lowest n (λ i. SettingBlock n (posts_of book) (block book (1 + i))) o) head-n
+      (subst (λ m. Lowest (get_or book 0 0) (λ i. SettingBlock (get_or book 0 0) m (block book (1 + i))) o) head-m low)
 
   pub sound-head : Sound book (settings_of book) (posts_of book) → Sound book (get_or book 0 0) (get_or book 1 0)
   sound-head s =

@@ -1,15 +1,15 @@
 -- What a sound book gives: none of 6 to 9, and its two numbers.
 use mathlib.Core.Path.{◌≡◌, subst}
 use mathlib.Core.List.{List}
+use Rattle.std.specs.Prelude.{Result, Ok}
 use Prim.Native.Nat.{ℕ, ◌+◌, ◌<◌}
 use native.Mathlib.Omega.{arith}
 use Rattle.refusal.specs.declared.Refusal.{Refusal}
-use Rattle.refusal.specs.Order.{First, Clear}
+use Rattle.refusal.specs.Order.{Clear}
 use Rattle.refusal.proofs.OrderLaws.{clear_none, clear-past, clear-lowest}
 use Rattle.book_block.specs.Check.{block}
 use Rattle.book_block.specs.Kinds.{SettingBlock}
-use Rattle.book_sound.specs.declared.ReadAnswer.{ReadAnswer}
-use Rattle.book_sound.specs.declared.ReadAnswer.TheVariants.{Book, Refused}
+use Rattle.book_sound.specs.declared.Size.{Size}
 use Rattle.book_sound.specs.Rows.{blocks, Whole, settings_of, posts_of, RightHead, book_rows}
 use Rattle.book_sound.specs.Sound.{Sound}
 use Rattle.book_sound.specs.Promise.{Judges}
@@ -55,10 +55,7 @@ module _ {book : List ℕ} {n m : ℕ} (sound : Sound book n m) where
       (λ i h. rw (sound-settings, sound-posts) (sound.setting i (subst (λ x. i < x) sound-settings h))))
       clear_none)))
 
--- ---- what `sound` found, in the two arms of a `match` on its answer
+-- ---- what `sound` found, where its answer is Ok
 
-pub judged_book : (book : List ℕ) (answer : ReadAnswer) (n m : ℕ) → Judges book answer → answer ≡ Book n m → Sound book n m
-judged_book book answer n m j e = subst (Judges book) e j
-
-pub judged-refused : (book : List ℕ) (answer : ReadAnswer) (r : Refusal) → Judges book answer → answer ≡ Refused r → First (book_rows book) r
-judged-refused book answer r j e = subst (Judges book) e j
+pub judged_book : (book : List ℕ) (answer : Result Size Refusal) (size : Size) → Judges book answer → answer ≡ Ok size → Sound book size.settings size.posts
+judged_book book answer size j e = subst (Judges book) e j

@@ -7,15 +7,15 @@ use Prim.Native.Nat.{ℕ, ◌≤◌, ◌<◌}
 use native.Mathlib.Omega.{arith}
 use Rattle.ground.proofs.Bools.{lt_or_ge}
 use Rattle.refusal.specs.declared.Refusal.{Refusal}
+use Rattle.std.specs.Prelude.{Result, Ok, Err}
 use Rattle.refusal.specs.declared.Refusal.TheVariants.{BookLength}
 use Rattle.refusal.specs.Refusals.{place}
 use Rattle.refusal.specs.Order.{First, Never, when}
 use Rattle.refusal.proofs.OrderLaws.{first_unique, first-clear, when-never, PlacesBelow, first-place-below}
-use Rattle.book_sound.specs.declared.ReadAnswer.{ReadAnswer}
-use Rattle.book_sound.specs.declared.ReadAnswer.TheVariants.{Book, Refused}
+use Rattle.book_sound.specs.declared.Size.{Size}
 use Rattle.book_sound.specs.Sound.{Sound}
 use Rattle.book_sound.specs.Rows.{blocks, Whole, settings_of, book_rows}
-use Rattle.book_sound.specs.Promise.{Judges}
+use Rattle.book_sound.specs.Promise.{size, Judges}
 use Rattle.book_sound.proofs.SoundLaws.{sound-settings, sound-posts, sound-clear}
 
 -- ---- one result alone
@@ -25,11 +25,11 @@ pub sound-one : {book : List ℕ} {n m k l : ℕ} → Sound book n m → Sound b
 sound-one s t = (sym (sound-settings s) ∙ sound-settings t, sym (sound-posts s) ∙ sound-posts t)
 
 -- `sound`
-pub judges_one : (book : List ℕ) (a b : ReadAnswer) → Judges book a → Judges book b → a ≡ b
-judges_one book (Book n m) (Book k l) s t = let e = sound-one s t in ap₂ Book e.0 e.1
-judges_one book (Book n m) (Refused r) s f = first-clear f (sound-clear s)
-judges_one book (Refused r) (Book n m) f s = first-clear f (sound-clear s)
-judges_one book (Refused r) (Refused s) f g = ap Refused (first_unique f g)
+pub judges_one : (book : List ℕ) (a b : Result Size Refusal) → Judges book a → Judges book b → a ≡ b
+judges_one book (Ok a) (Ok b) s t = let e = sound-one s t in ap₂ (λ n m. Ok (size n m)) e.0 e.1
+judges_one book (Ok a) (Err r) s f = first-clear f (sound-clear s)
+judges_one book (Err r) (Ok b) f s = first-clear f (sound-clear s)
+judges_one book (Err r) (Err s) f g = ap Err (first_unique f g)
 
 -- ---- how far a place goes: the C interface packs it beside the number
 

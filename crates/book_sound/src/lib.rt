@@ -5,7 +5,7 @@
 // lowest block. It writes nothing.
 #![tactic(auto)]
 
-ghost use Rattle.std.specs.Prelude.{◌≡◌, ◌+◌, ◌≤◌, length};
+ghost use Rattle.std.specs.Prelude.{◌≡◌, ◌+◌, ◌≤◌};
 ghost use Rattle.ground.specs.Tells.{Tells};
 ghost use Rattle.ground.specs.Search.{Lowest};
 ghost use Rattle.book_block.specs.Check.{block, RightCheck};
@@ -25,113 +25,82 @@ const BLOCKS_MOST: usize = 1 + ground::SETTINGS_MOST;
 // The bytes of the head that say something, n and m; zeros follow.
 const HEAD_USED: usize = 2;
 
-// What `sound` answers, and `book::read` too.
-#[derive(Clone, Copy)]
-pub enum ReadAnswer {
-    // a sound book, with this many settings and posts
-    Book { settings: u8, posts: u8 },
-    // no book: 6 to 9; or, from `book::read` alone, 15, no room
-    Refused(Refusal),
+// The settings and the posts of a sound book.
+#[derive(Clone, Copy, Debug, PartialEq, Eq)]
+pub struct Size {
+    pub settings: u8,
+    pub posts: u8,
 }
 
 // Whether the bytes are 2 to 8 whole blocks.
+#[tactic(auto, unfolding(crate::specs::Rows::blocks))]
 pub fn is_whole(book: &[u8]) -> bool
     ensures { Tells result (Whole book.now) }
 {
-    if book.len() % BLOCK != 0 {
-        return false;
-    }
-    if book.len() / BLOCK < BLOCKS_LEAST {
-        return false;
-    }
-    if BLOCKS_MOST < book.len() / BLOCK {
-        return false;
-    }
-    true
+    let blocks = book.len() / BLOCK;
+    book.len() % BLOCK == 0 && BLOCKS_LEAST <= blocks && blocks <= BLOCKS_MOST
 }
 
-// The lowest of the first `count` blocks whose check is wrong; `count` where none is.
-fn first_wrong(book: &[u8], count: usize) -> usize
+// The lowest of the first `count` blocks whose check is wrong.
+fn first_wrong(book: &[u8], count: usize) -> Option<usize>
     requires { count ≤ 8 }
     ensures { Lowest count (λ k. RightCheck (block book.now k)) result }
 {
-    let mut k = 0;
-    while k < count {
+    for k in 0..count {
         if !is_right(book, BLOCK * k) {
-            return k;
+            return Some(k);
         }
-        k += 1;
     }
-    count
+    None
 }
 
 // How many settings the blocks of a book are for: one fewer than there are; 0 where there is none.
+#[tactic(auto, unfolding(crate::specs::Rows::blocks, crate::specs::Rows::settings_of))]
 fn settings_of(book: &[u8]) -> usize
     ensures { result ≡ settings_of book.now }
 {
-    let blocks = book.len() / BLOCK;
-    if blocks < 1 {
-        return 0;
-    }
-    blocks - 1
+    (book.len() / BLOCK).saturating_sub(1)
 }
 
 // Whether the head says one setting for each block after it, 1 to 8 posts and nothing else.
 pub fn is_head(book: &[u8]) -> bool
     ensures { Tells result (RightHead book.now) }
 {
-    let n = peek(book, 0) as usize;
-    if n != settings_of(book) {
-        return false;
-    }
     let m = peek(book, 1) as usize;
-    if m < 1 {
-        return false;
-    }
-    if POSTS_MOST < m {
-        return false;
-    }
-    are_zeros(book, 0, HEAD_USED, CHECKED)
+    peek(book, 0) as usize == settings_of(book)
+        && 1 <= m
+        && m <= POSTS_MOST
+        && are_zeros(book, 0, HEAD_USED, CHECKED)
 }
 
-// The lowest of n settings whose block has a bit that must be zero; n where none has one.
-fn first_stray(book: &[u8], n: u8, m: u8) -> usize
+// The lowest of n settings whose block has a bit that must be zero.
+fn first_stray(book: &[u8], n: u8, m: u8) -> Option<usize>
     ensures { Lowest n (λ i. SettingBlock n m (block book.now (1 + i))) result }
 {
-    let mut i: usize = 0;
-    while i < n as usize {
+    for i in 0..n as usize {
         if !is_setting(book, BLOCK * (1 + i), n, m) {
-            return i;
+            return Some(i);
         }
-        i += 1;
     }
-    n as usize
+    None
 }
 
-// The numbers of settings and posts of a sound book, or why it is none.
-pub fn sound(book: &[u8]) -> ReadAnswer
+// The numbers of settings and posts of a sound book, or why it is none: 6 to 9.
+pub fn sound(book: &[u8]) -> Result<Size, Refusal>
     ensures { Judges book.now result }
 {
     if !is_whole(book) {
-        return ReadAnswer::Refused(Refusal::BookLength);
+        return Err(Refusal::BookLength);
     }
-    let blocks = book.len() / BLOCK;
-    let wrong = first_wrong(book, blocks);
-    if wrong < blocks {
-        return ReadAnswer::Refused(Refusal::Check(wrong));
+    if let Some(block) = first_wrong(book, book.len() / BLOCK) {
+        return Err(Refusal::Check(block));
     }
     if !is_head(book) {
-        return ReadAnswer::Refused(Refusal::Head);
+        return Err(Refusal::Head);
     }
-    let n = book[0];
-    let m = book[1];
-    let stray = first_stray(book, n, m);
-    if stray < n as usize {
-        let block = stray + 1;
-        return ReadAnswer::Refused(Refusal::StrayBit(block));
+    let (settings, posts) = (book[0], book[1]);
+    if let Some(setting) = first_stray(book, settings, posts) {
+        return Err(Refusal::StrayBit(1 + setting));
     }
-    ReadAnswer::Book {
-        settings: n,
-        posts: m,
-    }
+    Ok(Size { settings, posts })
 }

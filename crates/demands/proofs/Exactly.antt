@@ -6,6 +6,7 @@ use mathlib.Core.Logic.{◌⊎◌, inl, inr, ◌↔◌}
 use mathlib.Core.List.{List, ◌++◌}
 use Prim.Native.Nat.{ℕ, ◌+◌, ◌^◌, ◌≤◌, ◌<◌}
 use lib.ListN.{length}
+use Rattle.std.specs.Prelude.{Some, Result, Ok, Err}
 use Rattle.ground.specs.Search.{Least}
 use Rattle.refusal.specs.declared.Refusal.{Refusal}
 use Rattle.refusal.specs.declared.Why.{Why}
@@ -28,12 +29,10 @@ use Rattle.question.proofs.SystemLaws.{lawful, few}
 use Rattle.finder.specs.Answers.{AnswersFrom}
 use Rattle.finder.specs.Finds.{Finds, find_rows}
 use Rattle.finder.specs.declared.answer.Answer.{Answer}
-use Rattle.finder.specs.declared.answer.Answer.TheVariants.{Reach, Cannot, Refused}
+use Rattle.finder.specs.declared.answer.Answer.TheVariants.{Reach, Cannot}
 use Rattle.finder.proofs.FindLaws.{find_clear}
 use Rattle.finder.proofs.Unique.{answers_unique, find_unique, find_refused}
 use Rattle.plancheck.specs.Checks.{Checks}
-use Rattle.plancheck.specs.declared.answer.CheckAnswer.{CheckAnswer}
-use Rattle.plancheck.specs.declared.answer.CheckAnswer.TheVariants.{Yes, Refused as NotAccepted}
 use Rattle.plancheck.proofs.Theorems.{yes_exact}
 use Rattle.plancheck.proofs.Denied.{DeniedAt, denied_exact}
 use Rattle.print_answer.specs.Printed.{refused_text, cannot_text, reach_text, Prints}
@@ -62,7 +61,7 @@ module _ {n : ℕ} {S : System} (law : Lawful n S) (k : ℕ) (p : Plan) (w : Wri
 -- ---- the answers of `find` to a valid question, with room for the ranks and any plan room
 
 module _ {book : List ℕ} {q : Question} {goal : Goal} {n m : ℕ} (valid : ValidQuestion book q goal n m) (ranks plan : List ℕ)
-    (a : Answer) (r x : List ℕ) (room : 7 ^ n ≤ length ranks) (finds : Finds book q goal ranks plan a r x) where
+    (a : Result Answer Refusal) (r x : List ℕ) (room : 7 ^ n ≤ length ranks) (finds : Finds book q goal ranks plan a r x) where
   answers : AnswersFrom (system_of n book q goal) (start_of q) plan a x
   answers = by finds
     where
@@ -71,68 +70,68 @@ module _ {book : List ℕ} {q : Question} {goal : Goal} {n m : ℕ} (valid : Val
       by (inr (k, o, w, d, f, g)) =
           subst (λ (j : ℕ). AnswersFrom (system_of j book q goal) (start_of q) plan a x) (sound-one w.sound valid.sound).0 g
 
-  is : (b : Answer) (y : List ℕ) → AnswersFrom (system_of n book q goal) (start_of q) plan b y → a ≡ b
+  is : (b : Result Answer Refusal) (y : List ℕ) → AnswersFrom (system_of n book q goal) (start_of q) plan b y → a ≡ b
   is b y g = (answers_unique (lawful valid) (few valid) (start_of q) plan a b x y answers g).0
 
   -- "reach" exactly where the plan written fits the room, with its height and its length
-  pub reach_exactly : (h size : ℕ) → (a ≡ Reach h size)
+  pub reach_exactly : (h size : ℕ) → (a ≡ Ok (Reach h size))
       ↔ ((p : Plan) × Written (system_of n book q goal) (start_of q) p × (h ≡ height p) × (size ≡ length (encode p)) × (size ≤ length plan))
   reach_exactly h size = (
-    λ e. let (least, (p, w, s, l, y)) = subst (λ (b : Answer). AnswersFrom (system_of n book q goal) (start_of q) plan b x) e answers in
+    λ e. let (least, (p, w, s, l, y)) = subst (λ (b : Result Answer Refusal). AnswersFrom (system_of n book q goal) (start_of q) plan b x) e answers in
         (p, w, sym (written-height (system_of n book q goal) p (start_of q) h w (inl least)), s, l),
-    λ (p, w, e, s, l). is (Reach h size) _
+    λ (p, w, e, s, l). is (Ok (Reach h size)) _
         (subst (Least (ReachIn (system_of n book q goal) (start_of q))) (sym e) (written-least (lawful valid) (start_of q) p w), (p, w, s, l, refl)),
   )
 
   -- "cannot" exactly where no plan works
-  pub cannot_exactly : (a ≡ Cannot) ↔ ((p : Plan) → Works (system_of n book q goal) (start_of q) p → ⊥)
+  pub cannot_exactly : (a ≡ Ok Cannot) ↔ ((p : Plan) → Works (system_of n book q goal) (start_of q) p → ⊥)
   cannot_exactly = (
-    λ e. (subst (λ (b : Answer). AnswersFrom (system_of n book q goal) (start_of q) plan b x) e answers).0,
-    λ none. is Cannot plan (none, refl),
+    λ e. (subst (λ (b : Result Answer Refusal). AnswersFrom (system_of n book q goal) (start_of q) plan b x) e answers).0,
+    λ none. is (Ok Cannot) plan (none, refl),
   )
 
   -- 14 exactly where the plan written does not fit
-  pub room_exactly : (a ≡ Refused PlanRoom)
+  pub room_exactly : (a ≡ Err PlanRoom)
       ↔ ((p : Plan) × Written (system_of n book q goal) (start_of q) p × (length plan < length (encode p)))
   room_exactly = (
-    λ e. (subst (λ (b : Answer). AnswersFrom (system_of n book q goal) (start_of q) plan b x) e answers).1,
-    λ p. is (Refused PlanRoom) plan (refl, p, refl),
+    λ e. (subst (λ (b : Result Answer Refusal). AnswersFrom (system_of n book q goal) (start_of q) plan b x) e answers).1,
+    λ p. is (Err PlanRoom) plan (refl, p, refl),
   )
 
 -- ---- 6 to 13 and 31 of `find`, exactly: a refusal that the rows give is given, and leaves both rooms as they were; and one that is given, but for 14, is theirs
 
-module _ (book : List ℕ) (q : Question) (goal : Goal) (ranks plan : List ℕ) (a : Answer) (r x : List ℕ) (finds : Finds book q goal ranks plan a r x) where
-  pub rows-given : (w : Refusal) → First (find_rows book q goal ranks) w → (a ≡ Refused w) × (r ≡ ranks) × (x ≡ plan)
+module _ (book : List ℕ) (q : Question) (goal : Goal) (ranks plan : List ℕ) (a : Result Answer Refusal) (r x : List ℕ) (finds : Finds book q goal ranks plan a r x) where
+  pub rows-given : (w : Refusal) → First (find_rows book q goal ranks) w → (a ≡ Err w) × (r ≡ ranks) × (x ≡ plan)
   rows-given w f =
-      find_unique book q goal ranks plan a (Refused w) r ranks x plan finds
+      find_unique book q goal ranks plan a (Err w) r ranks x plan finds
       (inl (record { why = w; answered = refl; first = f; ranks_kept = refl; plan_kept = refl }))
 
-  pub given-rows : (w : Refusal) → a ≡ Refused w → (w ≡ PlanRoom → ⊥) → First (find_rows book q goal ranks) w
+  pub given-rows : (w : Refusal) → a ≡ Err w → (w ≡ PlanRoom → ⊥) → First (find_rows book q goal ranks) w
   given-rows w e other =
-      elim (find_refused book q goal ranks plan w r x (subst (λ (b : Answer). Finds book q goal ranks plan b r x) e finds)).1 [
+      elim (find_refused book q goal ranks plan w r x (subst (λ (b : Result Answer Refusal). Finds book q goal ranks plan b r x) e finds)).1 [
         | inl f ↦ f.0
         | inr late ↦ absurd (other late.0)
       ]
 
 -- ---- a yes of the plan check says that the question is valid, and that the bytes are those of a plan that works
-pub yes_means : (book : List ℕ) (q : Question) (goal : Goal) (plan : List ℕ) → Checks book q goal plan Yes
+pub yes_means : (book : List ℕ) (q : Question) (goal : Goal) (plan : List ℕ) → Checks book q goal plan (Ok tt)
     → (n : ℕ) × (m : ℕ) × ValidQuestion book q goal n m × (length plan ≤ 32640)
     × ((p : Plan) × Works (system_of n book q goal) (start_of q) p × (plan ≡ encode p))
 yes_means book q goal plan said =
-    let works = (yes_exact said.valid plan Yes said).0 refl in
+    let works = (yes_exact said.valid plan (Ok tt) said).0 refl in
     (said.n, said.m, said.valid, works.0, works.1)
 
 -- ---- 18 "carries a second number": a plan of a valid question gets it exactly where an act is due that this reason denies, in the request's words
 -- (question/proofs/WhyLaws `WhyNot`), and all bytes before it read without a fault
 pub denied : {book : List ℕ} {q : Question} {goal : Goal} {n m : ℕ} → ValidQuestion book q goal n m → (plan : List ℕ) → length plan ≤ 32640
-    → (r : CheckAnswer) → Checks book q goal plan r → (i : ℕ) (why : Why) → (r ≡ NotAccepted (NotPermitted i why)) ↔ DeniedAt n book q goal plan i why
+    → (r : Result (Unit {0}) Refusal) → Checks book q goal plan r → (i : ℕ) (why : Why) → (r ≡ Err (NotPermitted i why)) ↔ DeniedAt n book q goal plan i why
 denied valid plan short r said i why = denied_exact valid plan r said short i why
 
--- "0 for a look at a known setting, 1 surely false, 2 not known", and for a set of a held setting "second number 3": number, place, and one more than that
-pub denied_numbers : (i : ℕ) → (numbers (NotPermitted i KnownSetting) ≡ record { number = 18; place = i; second = 1 + 0 })
-    × (numbers (NotPermitted i SurelyFalse) ≡ record { number = 18; place = i; second = 1 + 1 })
-    × (numbers (NotPermitted i NotKnown) ≡ record { number = 18; place = i; second = 1 + 2 })
-    × (numbers (NotPermitted i HeldSetting) ≡ record { number = 18; place = i; second = 1 + 3 })
+-- "0 for a look at a known setting, 1 surely false, 2 not known", and for a set of a held setting "second number 3": number, place, and that
+pub denied_numbers : (i : ℕ) → (numbers (NotPermitted i KnownSetting) ≡ record { number = 18; place = i; second = Some 0 })
+    × (numbers (NotPermitted i SurelyFalse) ≡ record { number = 18; place = i; second = Some 1 })
+    × (numbers (NotPermitted i NotKnown) ≡ record { number = 18; place = i; second = Some 2 })
+    × (numbers (NotPermitted i HeldSetting) ≡ record { number = 18; place = i; second = Some 3 })
 denied_numbers i = (refl, refl, refl, refl)
 
 -- ---- a sheet that is taken asks a question; either a least working plan is printed with its height, or none works and `cannot` is printed

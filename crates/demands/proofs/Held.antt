@@ -7,6 +7,7 @@ use mathlib.Core.List.{List}
 use Prim.Native.Nat.{ℕ, ◌^◌, ◌≤◌, ◌<◌}
 use native.Mathlib.Omega.{arith}
 use lib.ListN.{get_or}
+use Rattle.std.specs.Prelude.{Ok}
 use Rattle.book_sound.proofs.Theorems.{sound-one}
 use Rattle.knowledge.specs.Goal.{Goal}
 use Rattle.plan.specs.Plans.{Plan, Permitted, Works}
@@ -46,16 +47,16 @@ module _ {less more : ℕ} (holds : HoldsMore less more) (book : List ℕ) (q : 
       (subst (λ (j : ℕ). Works (system_of j book (holding q more) goal) (start_of (holding q more)) p) (sound-one w.sound v.sound).0 works))
 
   -- holding more never turns "cannot" into "reach"
-  pub cannot_stays : (ranks plan r x ranks' plan' r' x' : List ℕ) → Finds book (holding q less) goal ranks plan Cannot r x
-      → (h size : ℕ) → Finds book (holding q more) goal ranks' plan' (Reach h size) r' x' → ⊥
+  pub cannot_stays : (ranks plan r x ranks' plan' r' x' : List ℕ) → Finds book (holding q less) goal ranks plan (Ok Cannot) r x
+      → (h size : ℕ) → Finds book (holding q more) goal ranks' plan' (Ok (Reach h size)) r' x' → ⊥
   cannot_stays ranks plan r x ranks' plan' r' x' first h size second =
       let (n, m, v, none, kept) = cannot_none book (holding q less) goal ranks plan r x first in
       let (k, o, w, (p, works, high, others, length-is, written)) = reach_works book (holding q more) goal ranks' plan' r' x' h size second in
       none p (still_works v w p works)
 
   -- and never lowers the height
-  pub height_stays : (ranks plan r x ranks' plan' r' x' : List ℕ) (g small : ℕ) → Finds book (holding q less) goal ranks plan (Reach g small) r x
-      → (h size : ℕ) → Finds book (holding q more) goal ranks' plan' (Reach h size) r' x' → g ≤ h
+  pub height_stays : (ranks plan r x ranks' plan' r' x' : List ℕ) (g small : ℕ) → Finds book (holding q less) goal ranks plan (Ok (Reach g small)) r x
+      → (h size : ℕ) → Finds book (holding q more) goal ranks' plan' (Ok (Reach h size)) r' x' → g ≤ h
   height_stays ranks plan r x ranks' plan' r' x' g small first h size second =
       let (n, m, v, (s, done, tall, least, size_is, room)) = reach_works book (holding q less) goal ranks plan r x g small first in
       let (k, o, w, (p, works, high, others, length-is, written)) = reach_works book (holding q more) goal ranks' plan' r' x' h size second in
@@ -69,14 +70,14 @@ module _ {less more : ℕ} (holds : HoldsMore less more) (book : List ℕ) (q : 
       rank_no_greater (holding-permits holds n book q goal) (lawful v) (few v) k (get_or r' k 0) (get_or r k 0) (b.ranks k l) (a.ranks k l)
 
   -- the same of the second finder
-  pub plain_cannot_stays : FindsPlain book (holding q less) goal PlainCannot → (h : ℕ) → FindsPlain book (holding q more) goal (PlainReach h) → ⊥
+  pub plain_cannot_stays : FindsPlain book (holding q less) goal (Ok PlainCannot) → (h : ℕ) → FindsPlain book (holding q more) goal (Ok (PlainReach h)) → ⊥
   plain_cannot_stays first h second =
       let (n, m, v, none) = plain_cannot book (holding q less) goal first in
       let (k, o, w, (p, works, high, others)) = plain_reach book (holding q more) goal h second in
       none p (still_works v w p works)
 
-  pub plain_height_stays : (g : ℕ) → FindsPlain book (holding q less) goal (PlainReach g)
-      → (h : ℕ) → FindsPlain book (holding q more) goal (PlainReach h) → g ≤ h
+  pub plain_height_stays : (g : ℕ) → FindsPlain book (holding q less) goal (Ok (PlainReach g))
+      → (h : ℕ) → FindsPlain book (holding q more) goal (Ok (PlainReach h)) → g ≤ h
   plain_height_stays g first h second =
       let (n, m, v, (s, done, tall, least)) = plain_reach book (holding q less) goal g first in
       let (k, o, w, (p, works, high, others)) = plain_reach book (holding q more) goal h second in

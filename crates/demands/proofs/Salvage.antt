@@ -8,6 +8,11 @@ use mathlib.Core.List.{List, ◌++◌}
 use Prim.Native.Nat.{ℕ, ◌+◌, ◌*◌, ◌^◌, ◌≤◌, ◌<◌}
 use native.Mathlib.Omega.{arith}
 use lib.ListN.{length, take, drop, replicate}
+use Rattle.std.specs.Prelude.{Result, Ok, Err}
+use Rattle.book_sound.specs.declared.Size.{Size}
+use Rattle.book_sound.specs.Promise.{size}
+use Rattle.book_salvage.specs.declared.Salvaged.{Salvaged}
+use Rattle.book_salvage.specs.Promise.{salvaged}
 use Rattle.ground.specs.Digits.{bit}
 use Rattle.refusal.specs.declared.Refusal.{Refusal}
 use Rattle.refusal.specs.Order.{First}
@@ -15,8 +20,6 @@ use Rattle.book_block.specs.declared.rule.Right.{Right}
 use Rattle.book_block.specs.Rule.{rule}
 use Rattle.book_block.specs.Check.{block}
 use Rattle.book_sound.specs.Sound.{Sound, rights_of}
-use Rattle.book_sound.specs.declared.ReadAnswer.{ReadAnswer}
-use Rattle.book_sound.specs.declared.ReadAnswer.TheVariants.{Book}
 use Rattle.book.specs.Promise.{ReadsBook}
 use Rattle.book.proofs.Theorems.{reads-one}
 use Rattle.book_sound.specs.Rows.{settings_of, posts_of}
@@ -24,8 +27,6 @@ use Rattle.book_sound.proofs.Theorems.{sound-one}
 use Rattle.book_salvage.specs.Salvaged.{closed_block}
 use Rattle.book_salvage.specs.Rows.{salvage_rows}
 use Rattle.book_salvage.specs.Promise.{SalvagesTo, Salvages}
-use Rattle.book_salvage.specs.declared.SalvageAnswer.{SalvageAnswer}
-use Rattle.book_salvage.specs.declared.SalvageAnswer.TheVariants.{Salvaged, Refused as NotSalvaged}
 use Rattle.book_salvage.proofs.Theorems as Laws
 use Rattle.book_salvage.proofs.salvage.Reads as salvage-contract
 use Rattle.knowledge.specs.Goal.{Goal}
@@ -47,10 +48,10 @@ use Rattle.finder_plain.proofs.Theorems as Plain
 
 -- ---- demand 1 of the salvage: one result alone, the room included; a refusal is the first of 6, 30, 15 and leaves the room as it was
 
-pub one_salvage : (book room : List ℕ) (a b : SalvageAnswer) (x y : List ℕ) → Salvages book room a x → Salvages book room b y → (a ≡ b) × (x ≡ y)
+pub one_salvage : (book room : List ℕ) (a b : Result Salvaged Refusal) (x y : List ℕ) → Salvages book room a x → Salvages book room b y → (a ≡ b) × (x ≡ y)
 one_salvage = Laws.salvage_one
 
-pub refused_salvage : (book room : List ℕ) (r : Refusal) (after : List ℕ) → Salvages book room (NotSalvaged r) after
+pub refused_salvage : (book room : List ℕ) (r : Refusal) (after : List ℕ) → Salvages book room (Err r) after
     → First (salvage_rows book room) r × (after ≡ room)
 refused_salvage book room r after x = x
 
@@ -61,14 +62,14 @@ tied_salvage κs a x s = (λ p. p, λ p. p)
 -- ---- the salvaged book
 
 -- "Salvaging twice gives the same bytes as once", and no mark
-pub twice_the_same : {book room after : List ℕ} {marks count : ℕ} (room₂ : List ℕ) (answer : SalvageAnswer) (after₂ : List ℕ)
+pub twice_the_same : {book room after : List ℕ} {marks count : ℕ} (room₂ : List ℕ) (answer : Result Salvaged Refusal) (after₂ : List ℕ)
     → SalvagesTo book room marks count after → length book ≤ length room₂ → Salvages (take (length book) after) room₂ answer after₂
-    → (answer ≡ Salvaged 0 0) × (after₂ ≡ take (length book) after ++ drop (length book) room₂)
+    → (answer ≡ Ok (salvaged 0 0)) × (after₂ ≡ take (length book) after ++ drop (length book) room₂)
 twice_the_same = Laws.salvaged_twice
 
 -- a sound book comes back as its own bytes
-pub sound_the_same : {book : List ℕ} {n m : ℕ} (room : List ℕ) (answer : SalvageAnswer) (after : List ℕ) → Sound book n m → length book ≤ length room
-    → Salvages book room answer after → (answer ≡ Salvaged 0 0) × (after ≡ book ++ drop (length book) room)
+pub sound_the_same : {book : List ℕ} {n m : ℕ} (room : List ℕ) (answer : Result Salvaged Refusal) (after : List ℕ) → Sound book n m → length book ≤ length room
+    → Salvages book room answer after → (answer ≡ Ok (salvaged 0 0)) × (after ≡ book ++ drop (length book) room)
 sound_the_same = Laws.sound_salvaged
 
 -- a book that a salvaged one is held against: sound, "of the same n and m", with "the same rules for the unmarked settings"
@@ -86,10 +87,10 @@ module _ {book room after : List ℕ} {marks count : ℕ} (s : SalvagesTo book r
   reads_as_book = Laws.salvaged_reads s
 
   -- and so `book::read` answers: its n and m, and its rights
-  pub read-gives : (rights : List ℕ) (a : ReadAnswer) (left : List ℕ) → 256 * settings_of book ≤ length rights → ReadsBook out rights a left
-      → (a ≡ Book (settings_of book) (posts_of book)) × (left ≡ rights_of out (settings_of book) ++ drop (256 * settings_of book) rights)
+  pub read-gives : (rights : List ℕ) (a : Result Size Refusal) (left : List ℕ) → 256 * settings_of book ≤ length rights → ReadsBook out rights a left
+      → (a ≡ (Ok (size (settings_of book) (posts_of book)))) × (left ≡ rights_of out (settings_of book) ++ drop (256 * settings_of book) rights)
   read-gives rights a left fits r =
-      reads-one out rights a (Book (settings_of book) (posts_of book)) left (rights_of out (settings_of book) ++ drop (256 * settings_of book) rights) r
+      reads-one out rights a (Ok (size (settings_of book) (posts_of book))) left (rights_of out (settings_of book) ++ drop (256 * settings_of book) rights) r
       (reads_as_book, fits, refl)
 
   -- "every sound block stays byte for byte", and the others are closed
@@ -149,8 +150,8 @@ module _ {book room after : List ℕ} {marks count : ℕ} (s : SalvagesTo book r
     plan_works_too v p k w = works_more (closing_permits closes q goal v.team) p k w
 
     -- of the second finder, which is lent no room: where it says reach of the salvaged book it says reach of the other, with no greater height
-    pub plain_reach_too : (h : ℕ) → FindsPlain out q goal (PlainReach h) → (b : PlainAnswer) → FindsPlain other q goal b
-        → (g : ℕ) × (b ≡ PlainReach g) × (g ≤ h)
+    pub plain_reach_too : (h : ℕ) → FindsPlain out q goal (Ok (PlainReach h)) → (b : Result PlainAnswer Refusal) → FindsPlain other q goal b
+        → (g : ℕ) × (b ≡ Ok (PlainReach g)) × (g ≤ h)
     plain_reach_too h f b f' =
         let (n, m, v, (p, w, e, least)) = Plain.plain_reach out q goal h f in
         let same = sound-one v.sound reads_as_book in
@@ -162,7 +163,7 @@ module _ {book room after : List ℕ} {marks count : ℕ} (s : SalvagesTo book r
 
     module _ (ranks plan r x ranks' plan' r' x' : List ℕ) where
       -- the plan that is found by the salvaged book, with its height
-      found : (h size : ℕ) → Finds out q goal ranks plan (Reach h size) r x
+      found : (h size : ℕ) → Finds out q goal ranks plan (Ok (Reach h size)) r x
           → ValidQuestion out q goal (settings_of book) (posts_of book)
           × ((p : Plan) × Works (system_of (settings_of book) other q goal) (start_of q) p × (height p ≡ h))
       found h size f =
@@ -173,8 +174,8 @@ module _ {book room after : List ℕ} {marks count : ℕ} (s : SalvagesTo book r
           )
 
       -- where both reach, the other book's height is no greater
-      pub height_no_greater : (h size g length' : ℕ) → Finds out q goal ranks plan (Reach h size) r x
-          → Finds other q goal ranks' plan' (Reach g length') r' x' → g ≤ h
+      pub height_no_greater : (h size g length' : ℕ) → Finds out q goal ranks plan (Ok (Reach h size)) r x
+          → Finds other q goal ranks' plan' (Ok (Reach g length')) r' x' → g ≤ h
       height_no_greater h size g length' f f' =
           let (v, (p, w, e)) = found h size f in
           let (n, m, v', (p', w', e', least, size_is, room-is)) = reach_works other q goal ranks' plan' r' x' g length' f' in
@@ -182,16 +183,16 @@ module _ {book room after : List ℕ} {marks count : ℕ} (s : SalvagesTo book r
           subst (λ j. g ≤ j) e (least p (subst (λ j. Works (system_of j other q goal) (start_of q) p) (sym same.0) w))
 
       -- where the finder says reach of the salvaged book, it says reach of the other, in rooms that it does not refuse, with no greater height
-      pub reach_too : (h size : ℕ) → Finds out q goal ranks plan (Reach h size) r x → 7 ^ settings_of book ≤ length ranks' → 32640 ≤ length plan'
-          → (b : Answer) → Finds other q goal ranks' plan' b r' x' → (g : ℕ) × (length' : ℕ) × (b ≡ Reach g length') × (g ≤ h)
+      pub reach_too : (h size : ℕ) → Finds out q goal ranks plan (Ok (Reach h size)) r x → 7 ^ settings_of book ≤ length ranks' → 32640 ≤ length plan'
+          → (b : Result Answer Refusal) → Finds other q goal ranks' plan' b r' x' → (g : ℕ) × (length' : ℕ) × (b ≡ Ok (Reach g length')) × (g ≤ h)
       reach_too h size f room big b f' =
           let (v, (p, w, e)) = found h size f in
           let (g, length', is) = works_reach other q goal ranks' plan' r' x' b (over_other v) room big p w f' in
-          (g, length', is, height_no_greater h size g length' f (subst (λ (c : Answer). Finds other q goal ranks' plan' c r' x') is f'))
+          (g, length', is, height_no_greater h size g length' f (subst (λ (c : Result Answer Refusal). Finds other q goal ranks' plan' c r' x') is f'))
 
       -- and where it says cannot of the other, it says cannot of the salvaged book
-      pub cannot_too : Finds other q goal ranks' plan' Cannot r' x' → 7 ^ settings_of book ≤ length ranks
-          → (a : Answer) → Finds out q goal ranks plan a r x → a ≡ Cannot
+      pub cannot_too : Finds other q goal ranks' plan' (Ok Cannot) r' x' → 7 ^ settings_of book ≤ length ranks
+          → (a : Result Answer Refusal) → Finds out q goal ranks plan a r x → a ≡ Ok Cannot
       cannot_too f' room a f =
           let (n, m, v', none, kept) = cannot_none other q goal ranks' plan' r' x' f' in
           let same = sound-one v'.sound has.sound in

@@ -4,6 +4,7 @@ use mathlib.Core.Path.{◌≡◌, refl, sym, ap, ◌∙◌}
 use mathlib.Core.List.{List}
 use Prim.Native.Nat.{ℕ, ◌^◌, ◌<◌}
 use native.Mathlib.Omega.{arith}
+use Rattle.std.specs.Prelude.{Result, Ok}
 use Rattle.refusal.specs.declared.Refusal.{Refusal}
 use Rattle.refusal.specs.Refusals.{number, place}
 use Rattle.book_sound.specs.Sound.{Sound}
@@ -41,7 +42,7 @@ module _ (book : List ℕ) (start : ℕ) (shift : List ℕ) where
   reached_at k = record { present = record { 0 = settings_at start shift k }; count = k }
 
   -- no fault: all its acts are done
-  pub whole : (running : Running) → Replays book start shift (Whole running)
+  pub whole : (running : Running) → Replays book start shift (Ok (Whole running))
       → (n : ℕ) × (m : ℕ) × Sound book n m × ShiftFits n start shift × (running.count ≡ records shift)
       × (running.present.0 ≡ settings_at start shift (records shift)) × (running.present.0 < 2 ^ n) × ((k : ℕ) → k < records shift → FaultlessAt n m k)
   whole running p =
@@ -51,7 +52,7 @@ module _ (book : List ℕ) (start : ℕ) (shift : List ℕ) where
       (p.n, p.m, p.sound, p.fits, all, r.left ∙ ap (settings_at start shift) all, below, λ k l. r.faultless k (rw all l))
 
   -- a fault: those before it are faultless, and the record there is what its number says
-  pub stopped : (w : Refusal) (running : Running) → Replays book start shift (Stopped w running)
+  pub stopped : (w : Refusal) (running : Running) → Replays book start shift (Ok (Stopped w running))
       → (n : ℕ) × (m : ℕ) × (f : RecordFault) × Sound book n m × ShiftFits n start shift × (running.count < records shift)
       × (running.present.0 ≡ settings_at start shift running.count) × (running.present.0 < 2 ^ n) × ((k : ℕ) → k < running.count → FaultlessAt n m k)
       × FaultAt n m f running.count × (number w ≡ fault_number f) × (place w ≡ running.count)
@@ -75,9 +76,9 @@ module _ (book : List ℕ) (start : ℕ) (shift : List ℕ) where
 
   module _ {n m : ℕ} (s : Sound book n m) (fits : ShiftFits n start shift) where
     -- and the other way: where no record is at fault, that is the answer
-    pub faultless-whole : ((k : ℕ) → k < records shift → FaultlessAt n m k) → (x : Replayed) → Replays book start shift x → x ≡ Whole (reached_at (records shift))
+    pub faultless-whole : ((k : ℕ) → k < records shift → FaultlessAt n m k) → (x : Result Replayed Refusal) → Replays book start shift x → x ≡ (Ok (Whole (reached_at (records shift))))
     faultless-whole all x p =
-        replays-one book start shift x (Whole (reached_at (records shift))) p (record {
+        replays-one book start shift x (Ok (Whole (reached_at (records shift)))) p (record {
           n = n;
           m = m;
           sound = s;
@@ -87,9 +88,9 @@ module _ (book : List ℕ) (start : ℕ) (shift : List ℕ) where
 
     -- and where record k is the first at fault, so is this
     pub fault-stopped : (k : ℕ) (f : RecordFault) → k < records shift → ((j : ℕ) → j < k → FaultlessAt n m j) → FaultAt n m f k
-        → (x : Replayed) → Replays book start shift x → x ≡ Stopped (fault_at f k) (reached_at k)
+        → (x : Result Replayed Refusal) → Replays book start shift x → x ≡ (Ok (Stopped (fault_at f k) (reached_at k)))
     fault-stopped k f more before at x p =
-        replays-one book start shift x (Stopped (fault_at f k) (reached_at k)) p (record {
+        replays-one book start shift x (Ok (Stopped (fault_at f k) (reached_at k))) p (record {
           n = n;
           m = m;
           sound = s;

@@ -1,6 +1,6 @@
 -- One grammar: a sheet that is a text of rules followed by a text of a question is answered as the question is, put to the book that is made of the rules.
 -- Said of what the contracts of `sheet::answer` (`AnswersSheet`), `sheet_book::make_book` (`MakesBook`) and `sheet_ask::ask` (`AsksBook`) allow.
-use mathlib.Core.Path.{◌≡◌, sym, ap, ◌∙◌, subst, subst₂}
+use mathlib.Core.Path.{◌≡◌, sym, ap, ap₂, ◌∙◌, subst, subst₂}
 use mathlib.Core.Logic.{inl, inr, ◌↔◌}
 use mathlib.Core.Bool.{true, false}
 use mathlib.Core.List.{List, [], ◌++◌}
@@ -39,13 +39,14 @@ use Rattle.sheet_reading.proofs.Texts.{ended_lines}
 use Rattle.sheet.specs.Answer.{SheetAsks, PrintsMeaning, AnswersSheet}
 use Rattle.sheet.proofs.Theorems.{answer_unique}
 use Rattle.sheet_book.specs.Book.{RulesRights, rules_book, book_length, MakesOf, MakesBook}
-use Rattle.sheet_book.specs.declared.MakeAnswer.{MakeAnswer}
-use Rattle.sheet_book.specs.declared.MakeAnswer.TheVariants.{Made, Refused}
+use Rattle.std.specs.Prelude.{Result, Ok, Err}
+use Rattle.sheet_words.specs.declared.Fault.{Fault}
 use Rattle.sheet_book.proofs.Rights.{rights_writable}
 use Rattle.sheet_ask.specs.Asks.{QuestionAsks, PrintsQuestion, AsksBook}
 use Rattle.sheet_ask.proofs.Theorems.{ask_told}
 use Rattle.sheet_plain.specs.Asks.{AsksPlainly, PrintsAs}
-use Rattle.sheet_plain.specs.declared.PlainTold.{PlainTold}
+use Rattle.finder_plain.specs.declared.finding.PlainAnswer.{PlainAnswer}
+use Rattle.sheet_plain.specs.declared.AskFault.{AskFault}
 use Rattle.sheet_plain.proofs.Theorems.{both_same}
 use Rattle.sheet_book.proofs.make_book.Reads as make-contract
 use Rattle.sheet_ask.proofs.ask.Reads as ask-contract
@@ -66,12 +67,13 @@ both_ask r k = record {
 }
 
 -- a text of rules that is refused makes no book
-refused_so : {w : Refusal} {L : ℕ} (room : List ℕ) (answer : MakeAnswer) (after : List ℕ) → MakesBook (text-refused w L) room answer after → answer ≡ Refused w L
-refused_so room (Made size) after x = absurd x
-refused_so {w} {L} room (Refused why line) after (f, g, h) = cc
+refused_so : {w : Refusal} {L : ℕ} (room : List ℕ) (answer : Result ℕ Fault) (after : List ℕ) → MakesBook (text-refused w L) room answer after
+    → answer ≡ Err (record { why = w; line = L })
+refused_so room (Ok size) after x = absurd x
+refused_so {w} {L} room (Err fault) after (f, g, h) = ap₂ (λ (r : Refusal) (l : ℕ). Err (record { why = r; line = l })) f g
 
 -- an empty text of rules is 22 at line 1 to `book`; the sheet `[] ++ Q` is Q, whatever Q is
-pub no_rules_book : (room : List ℕ) (answer : MakeAnswer) (after : List ℕ) → MakesBook (rules_meaning []) room answer after → answer ≡ Refused (Malformed 1) 1
+pub no_rules_book : (room : List ℕ) (answer : Result ℕ Fault) (after : List ℕ) → MakesBook (rules_meaning []) room answer after → answer ≡ Err (record { why = Malformed 1; line = 1 })
 unfolding rules_meaning rules_of rules_read size_from split
 no_rules_book room answer after b = refused_so room answer after b
 
@@ -82,7 +84,7 @@ no_rules-sheet Q old r new = (λ a. a, λ a. a)
 module _ (R Q : List ℕ) (short : length (R ++ Q) ≤ 32768) (plain : T (none_passed (split newline R))) where
   -- ---- the rules are refused at line L: `book` refuses so, whatever the room
   module _ {w : Refusal} {L : ℕ} (e : rules_meaning R ≡ text-refused w L) where
-    pub rules_refuse_book : (room : List ℕ) (answer : MakeAnswer) (after : List ℕ) → MakesBook (rules_meaning R) room answer after → answer ≡ Refused w L
+    pub rules_refuse_book : (room : List ℕ) (answer : Result ℕ Fault) (after : List ℕ) → MakesBook (rules_meaning R) room answer after → answer ≡ Err (record { why = w; line = L })
     rules_refuse_book room answer after b = refused_so room answer after (subst (λ (o : RulesMeaning). MakesBook o room answer after) e b)
 
     -- the sheet refuses so too, where line L ends in byte 10. Left out is where a sheet reads on or has a bound of its own. A last line of R without byte
@@ -105,10 +107,10 @@ module _ (R Q : List ℕ) (short : length (R ++ Q) ≤ 32768) (plain : T (none_p
     m = rules.size.posts
 
     -- a book is made of the rules, and the question is put to it
-    module _ (room : List ℕ) (size : ℕ) (after : List ℕ) (made : MakesBook (rules_meaning R) room (Made size) after)
+    module _ (room : List ℕ) (size : ℕ) (after : List ℕ) (made : MakesBook (rules_meaning R) room (Ok size) after)
         (ranks out : List ℕ) (r : ℕ) (ranks' out' : List ℕ) (asks : AsksBook (take size after) Q ranks out r ranks' out') where
-      made_of : MakesOf rules room (Made size) after
-      made_of = subst (λ (o : RulesMeaning). MakesBook o room (Made size) after) e made
+      made_of : MakesOf rules room (Ok size) after
+      made_of = subst (λ (o : RulesMeaning). MakesBook o room (Ok size) after) e made
 
       rights : List ℕ
       rights = made_of.2.0
@@ -146,7 +148,7 @@ module _ (R Q : List ℕ) (short : length (R ++ Q) ≤ 32768) (plain : T (none_p
         answer-is_ask s new x = answer_unique (R ++ Q) out s r new out' x ask_answers
 
         -- and what the second finder says of the question is what the sheet's answer says: the two of `both SHEET` are never apart
-        pub sheet_both : 823543 ≤ length ranks → (x : PlainTold) → AsksPlainly (take size after) Q x → (s : ℕ) (new : List ℕ) → AnswersSheet (R ++ Q) out s new
+        pub sheet_both : 823543 ≤ length ranks → (x : Result PlainAnswer AskFault) → AsksPlainly (take size after) Q x → (s : ℕ) (new : List ℕ) → AnswersSheet (R ++ Q) out s new
             → PrintsAs x out s new
         sheet_both all x said s new printed =
             let same = answer-is_ask s new printed in

@@ -7,6 +7,8 @@ use mathlib.Core.List.{List}
 use Prim.Native.Nat.{ℕ, ◌≤◌}
 use native.Mathlib.Omega.{arith}
 use lib.ListN.{length}
+use Rattle.std.specs.Prelude.{None, Result, Ok, Err}
+use Rattle.refusal.specs.declared.Refusal.{Refusal}
 use Rattle.refusal.specs.declared.Refusal.TheVariants.{ChangesNothing}
 use Rattle.refusal.specs.Refusals.{numbers}
 use Rattle.knowledge.specs.Goal.{Goal, learn_count, learn_table}
@@ -35,10 +37,8 @@ use Rattle.finder.proofs.Theorems.{cannot_none}
 use Rattle.finder.proofs.Without.{ranks-without, answers-without}
 use Rattle.finder_plain.specs.Finds.{AnswersPlainly}
 use Rattle.finder_plain.specs.declared.finding.PlainAnswer.{PlainAnswer}
-use Rattle.finder_plain.specs.declared.finding.PlainAnswer.TheVariants.{Reach as PlainReach, Cannot as PlainCannot, Refused as PlainRefused}
+use Rattle.finder_plain.specs.declared.finding.PlainAnswer.TheVariants.{Reach as PlainReach, Cannot as PlainCannot}
 use Rattle.plancheck.specs.Checks.{Checks}
-use Rattle.plancheck.specs.declared.answer.CheckAnswer.{CheckAnswer}
-use Rattle.plancheck.specs.declared.answer.CheckAnswer.TheVariants.{Yes, Refused as NotAccepted}
 use Rattle.plancheck.proofs.Theorems.{yes_exact}
 use Rattle.plancheck.proofs.Denied.{NothingAt, nothing_exact}
 
@@ -63,7 +63,7 @@ module _ (n : ℕ) (book : List ℕ) (q : Question) (goal : Goal) where
   pub ranks_unchanged : (ranks r : List ℕ) → RanksFilled n Ruled ranks r ↔ RanksFilled n Asked ranks r
   ranks_unchanged ranks r = from_ruled n book q goal (λ (S : System). RanksFilled n Ruled ranks r ↔ RanksFilled n S ranks r) ranks-without
 
-  pub answer_unchanged : (plan : List ℕ) (a : Answer) (x : List ℕ) → AnswersFrom Ruled (start_of q) plan a x ↔ AnswersFrom Asked (start_of q) plan a x
+  pub answer_unchanged : (plan : List ℕ) (a : Result Answer Refusal) (x : List ℕ) → AnswersFrom Ruled (start_of q) plan a x ↔ AnswersFrom Asked (start_of q) plan a x
   answer_unchanged plan a x =
       from_ruled n book q goal (λ (S : System). AnswersFrom Ruled (start_of q) plan a x ↔ AnswersFrom S (start_of q) plan a x)
       (answers-without Ruled (start_of q) plan a x)
@@ -72,7 +72,6 @@ module _ (n : ℕ) (book : List ℕ) (q : Question) (goal : Goal) where
   pub plain_unchanged : (k : ℕ) (a : PlainAnswer) → AnswersPlainly Ruled k a ↔ AnswersPlainly Asked k a
   plain_unchanged k (PlainReach h) = from_ruled n book q goal (λ (S : System). AnswersPlainly Ruled k (PlainReach h) ↔ AnswersPlainly S k (PlainReach h)) (least-same Ruled k h)
   plain_unchanged k PlainCannot = from_ruled n book q goal (λ (S : System). AnswersPlainly Ruled k PlainCannot ↔ AnswersPlainly S k PlainCannot) (cannot_same Ruled k)
-  plain_unchanged k (PlainRefused r) = (λ a. a, λ a. a)
 
   -- of two legs: the first leg's ranks, its plan and the answer, where both teams may do such sets and where neither may. The second leg is a question of
   -- its own, so that its ranks are unchanged by `ranks_unchanged`
@@ -95,7 +94,7 @@ module _ (n : ℕ) (book : List ℕ) (q : Question) (goal : Goal) where
     pub two-ranks_unchanged : (ranks r : List ℕ) → RanksFilled n RuledTwo ranks r ↔ RanksFilled n (first_system n book q goal team2 goal2) ranks r
     two-ranks_unchanged ranks r = from_two (λ (S : System). RanksFilled n RuledTwo ranks r ↔ RanksFilled n S ranks r) ranks-without
 
-    pub two-answer_unchanged : (plan : List ℕ) (a : Answer) (x : List ℕ)
+    pub two-answer_unchanged : (plan : List ℕ) (a : Result Answer Refusal) (x : List ℕ)
         → AnswersFrom RuledTwo (start_of q) plan a x ↔ AnswersFrom (first_system n book q goal team2 goal2) (start_of q) plan a x
     two-answer_unchanged plan a x =
         from_two (λ (S : System). AnswersFrom RuledTwo (start_of q) plan a x ↔ AnswersFrom S (start_of q) plan a x) (answers-without RuledTwo (start_of q) plan a x)
@@ -134,13 +133,13 @@ module _ (n : ℕ) (book : List ℕ) (q : Question) (goal : Goal) where
 -- and the plan check accepts its bytes: they are no more
 pub left_out_accepted : {book : List ℕ} {q : Question} {goal : Goal} {n m : ℕ} → ValidQuestion book q goal n m
     → (p : Plan) → Works (ruled_system n book q goal) (start_of q) p → length (encode p) ≤ 32640
-    → (a : CheckAnswer) → Checks book q goal (encode (leaving_out (start_of q) p)) a → a ≡ Yes
+    → (a : Result (Unit {0}) Refusal) → Checks book q goal (encode (leaving_out (start_of q) p)) a → a ≡ Ok tt
 left_out_accepted {book} {q} {goal} {n} v p w short a said =
     (yes_exact v (encode (leaving_out (start_of q) p)) a said).1
     (omega (arith, short, leaving_length p (start_of q)), (leaving_out (start_of q) p, (left_out n book q goal p w).0, refl))
 
 -- a team that does such sets all the same learns nothing by them: "cannot" means for those plans what it means for the others (demand 3)
-pub idle_secret : (book : List ℕ) (q : Question) (goal : Goal) (ranks plan r x : List ℕ) → Finds book q goal ranks plan Cannot r x
+pub idle_secret : (book : List ℕ) (q : Question) (goal : Goal) (ranks plan r x : List ℕ) → Finds book q goal ranks plan (Ok Cannot) r x
     → (n : ℕ) × (m : ℕ) × ValidQuestion book q goal n m
     × (NoMaking n goal → learn_count goal.learn ≡ 1 → (p : Plan) → Permitted (ruled_system n book q goal) (start_of q) p → Twins n (learn_table goal.learn 0) (start_of q) p)
 idle_secret book q goal ranks plan r x f =
@@ -150,8 +149,8 @@ idle_secret book q goal ranks plan r x f =
 -- ---- "32 with the index, after 18 at the same byte": a plan of a valid question gets it exactly where a set is due that nothing else denies, to the
 -- value that the team knows is there (question/proofs/NothingLaws `NothingHere`), and all bytes before it read without a fault
 pub changes_nothing_case : {book : List ℕ} {q : Question} {goal : Goal} {n m : ℕ} → ValidQuestion book q goal n m → (plan : List ℕ) → length plan ≤ 32640
-    → (r : CheckAnswer) → Checks book q goal plan r → (i : ℕ) → (r ≡ NotAccepted (ChangesNothing i)) ↔ NothingAt n book q goal plan i
+    → (r : Result (Unit {0}) Refusal) → Checks book q goal plan r → (i : ℕ) → (r ≡ Err (ChangesNothing i)) ↔ NothingAt n book q goal plan i
 changes_nothing_case valid plan short r said i = nothing_exact valid plan r said short i
 
-pub changes_nothing_numbers : (i : ℕ) → numbers (ChangesNothing i) ≡ record { number = 32; place = i; second = 0 }
+pub changes_nothing_numbers : (i : ℕ) → numbers (ChangesNothing i) ≡ record { number = 32; place = i; second = None }
 changes_nothing_numbers i = refl

@@ -1,17 +1,13 @@
 // The formula reader's examples: P1 to P5, and texts of 255 and 256 bytes.
 use crate::say::say_refused;
-use formula::Answer;
 use std::io;
 
 // One line: the example's name, then byte 0 of the table or the refusal.
 fn show(rt: &HostRuntime, name: &str, n: usize, text: &[u8]) -> io::Result<()> {
     rt.print(name)?;
-    let reading = formula::read(n, text);
-    let answer = reading.answer;
-    let table = reading.table;
-    match answer {
-        Answer::Accepted => print!(rt; " byte 0 is {}", table[0])?,
-        Answer::Refused(why) => say_refused(rt, why)?,
+    match formula::read(n, text) {
+        Ok(table) => print!(rt; " byte 0 is {}", table[0])?,
+        Err(why) => say_refused(rt, why)?,
     }
     rt.println("")
 }

@@ -2,7 +2,9 @@
 // bytes at n = 2.
 use crate::say::say_refused;
 use finder::Answer;
+use knowledge::Goal;
 use question::Question;
+use refusal::Refusal;
 use std::io;
 
 // Where a rule's table stands in the rights: 256 bytes a setting, 32 a post, to look and then to set.
@@ -28,40 +30,37 @@ const WRITE_C_2: usize = 512 + 32 + 16;
 
 // A rule over three settings at most: its table's other bytes are zero, as the rights are before.
 fn rule(n: usize, rights: &mut [u8], place: usize, text: &[u8]) {
-    let table = formula::read(n, text).table;
-    if place < rights.len() {
-        rights[place] = table[0];
+    if let (Ok(table), Some(byte)) = (formula::read(n, text), rights.get_mut(place)) {
+        *byte = table[0];
     }
-}
-
-fn byte_at(plan: &[u8], i: usize) -> u8 {
-    if i < plan.len() {
-        return plan[i];
-    }
-    0
 }
 
 // The bytes of a plan of this length, with a blank before each.
 fn say_bytes(rt: &HostRuntime, plan: &[u8], length: usize) -> io::Result<()> {
-    for i in 0..length {
-        print!(rt; " {}", byte_at(plan, i))?;
+    for byte in plan.iter().take(length) {
+        print!(rt; " {byte}")?;
     }
     Ok(())
 }
 
 // One line: the example's name, then the answer.
-fn show(rt: &HostRuntime, name: &str, answer: Answer, plan: &[u8]) -> io::Result<()> {
+fn show(
+    rt: &HostRuntime,
+    name: &str,
+    answer: Result<Answer, Refusal>,
+    plan: &[u8],
+) -> io::Result<()> {
     rt.print(name)?;
     match answer {
-        Answer::Reach { height, length } => {
+        Ok(Answer::Reach { height, length }) => {
             print!(rt; " reach {height}, plan of {length} bytes")?;
             if length < 9 {
                 rt.print(":")?;
                 say_bytes(rt, plan, length)?;
             }
         }
-        Answer::Cannot => rt.print(" cannot")?,
-        Answer::Refused(why) => say_refused(rt, why)?,
+        Ok(Answer::Cannot) => rt.print(" cannot")?,
+        Err(why) => say_refused(rt, why)?,
     }
     rt.println("")
 }
@@ -77,14 +76,18 @@ fn show_asked(
     ranks: &mut [u8],
     plan: &mut [u8],
 ) -> io::Result<()> {
-    let table = formula::read(n, make).table;
+    let table = formula::read(n, make).unwrap_or([0u8; 16]);
     let question = Question {
         team,
         known: 0,
         values: 0,
         held: 0,
     };
-    let answer = finder::find(book, question, &table, &[], ranks, plan);
+    let goal = Goal {
+        make: &table,
+        learn: &[],
+    };
+    let answer = finder::find(book, question, goal, ranks, plan);
     show(rt, name, answer, plan)
 }
 
@@ -101,7 +104,7 @@ fn sixth(book: &mut [u8]) {
     rule(3, &mut rights, WRITE_B_1, b"a");
     rule(3, &mut rights, READ_C_2, b"1");
     rule(3, &mut rights, WRITE_C_2, b"c");
-    book::write(3, 2, &rights, book);
+    let _ = book::write(3, 2, &rights, book);
 }
 
 // P6 with this plan room.
@@ -122,7 +125,7 @@ fn eleventh(book: &mut [u8]) {
     rule(2, &mut rights, READ_A_1, b"1");
     rule(2, &mut rights, READ_B_1, b"1");
     rule(2, &mut rights, WRITE_A_1, b"b|~b");
-    book::write(2, 1, &rights, book);
+    let _ = book::write(2, 1, &rights, book);
 }
 
 // P11 with this rank room.

@@ -4,7 +4,8 @@
 use mathlib.Core.Path.{◌≡◌, sym, ap, ◌∙◌}
 use mathlib.Core.List.{List}
 use Prim.Native.Nat.{ℕ}
-use Rattle.formula.specs.declared.Answer.{Answer}
+use Rattle.std.specs.Prelude.{Result}
+use Rattle.refusal.specs.declared.Refusal.{Refusal}
 use Rattle.formula.proofs.Unique.{read_unique}
 use Rattle.book.proofs.Theorems.{reads-one, writes_one}
 use Rattle.book_salvage.proofs.Theorems.{salvage_one}
@@ -30,10 +31,10 @@ use Rattle.exports.specs.Replay.{ShiftReplayed}
 
 pub formula_read_unique : {n : ℕ} {s old : List ℕ} {r q : ℕ} {new other : List ℕ} → FormulaRead n s old r new → FormulaRead n s old q other → (r ≡ q) × (new ≡ other)
 formula_read_unique {n} {s} {old} a b =
-    (let e = read_unique n s a.answer b.answer a.found b.found a.reads b.reads in (
-      a.result_is ∙ ap formula_returned e.0 ∙ sym b.result_is,
-      a.new_is ∙ ap (λ (x : Answer). on_return x old a.found) e.0 ∙ ap (λ (t : List ℕ). on_return b.answer old t) e.1 ∙ sym b.new_is,
-    ))
+    let e = read_unique n s a.answer b.answer a.reads b.reads in (
+      a.result_is ∙ ap formula_returned e ∙ sym b.result_is,
+      a.new_is ∙ ap (λ (x : Result (List ℕ) Refusal). on_return x old) e ∙ sym b.new_is,
+    )
 
 pub book_read_unique : {book old : List ℕ} {r q : ℕ} {new other : List ℕ} → BookRead book old r new → BookRead book old q other → (r ≡ q) × (new ≡ other)
 book_read_unique {book} {old} {new = new} {other = other} a b =
@@ -80,4 +81,4 @@ pub replay_one : {book : List ℕ} {start : ℕ} {shift old : List ℕ} {r q : �
     → ShiftReplayed book start shift old q other → (r ≡ q) × (new ≡ other)
 replay_one {book} {start} {shift} {old} a b =
     let e = replays-one book start shift a.answer b.answer a.replays b.replays in
-    (a.result_is ∙ ap replay_returned e ∙ sym b.result_is, a.new_is ∙ ap (λ (x : Replayed). reached_after x old) e ∙ sym b.new_is)
+    (a.result_is ∙ ap replay_returned e ∙ sym b.result_is, a.new_is ∙ ap (λ (x : Result Replayed Refusal). reached_after x old) e ∙ sym b.new_is)

@@ -16,31 +16,26 @@ ghost use Rattle.exports.specs.Replay.{ShiftReplayed};
 ghost use Rattle.sheet.specs.Answer.{AnswersSheet};
 ghost use Rattle.sheet_ask.specs.Asks.{AsksBook};
 
-use book::WriteAnswer;
-use book_salvage::SalvageAnswer;
-use book_sound::ReadAnswer;
 use finder_plain::PlainAnswer;
-use formula::Answer;
+use knowledge::Goal;
 use packing::{found_as, packed, packed_at, reached_as};
-use plancheck::CheckAnswer;
-use question::Question;
-use sheet_book::MakeAnswer;
+use question::{Leg, Question};
 use station::Replayed;
+
+// What a plan that works returns.
+const YES: u64 = 0;
 
 // The table of a formula. 0, or a refusal, which leaves the 16 bytes as they were.
 #[unsafe(no_mangle)]
 pub extern "C" fn pj_formula_read(n: u64, text: &[u8], table: &mut [u8; 16]) -> u64
     ensures { FormulaRead n text.now table.old result table.new }
 {
-    let reading = formula::read(n as usize, text);
-    let answer = reading.answer;
-    let found = reading.table;
-    match answer {
-        Answer::Accepted => {
+    match formula::read(n as usize, text) {
+        Ok(found) => {
             *table = found;
             0
         }
-        Answer::Refused(why) => packed(why),
+        Err(why) => packed(why),
     }
 }
 
@@ -51,8 +46,8 @@ pub extern "C" fn pj_book_read(book: &[u8], rights: &mut [u8]) -> u64
     ensures { BookRead book.now rights.old result rights.new }
 {
     match book::read(book, rights) {
-        ReadAnswer::Book { settings, posts } => (settings as u64) * 256 + posts as u64,
-        ReadAnswer::Refused(why) => packed(why),
+        Ok(size) => (size.settings as u64) * 256 + size.posts as u64,
+        Err(why) => packed(why),
     }
 }
 
@@ -63,8 +58,8 @@ pub extern "C" fn pj_book_write(n: u64, m: u64, rights: &[u8], book: &mut [u8]) 
     ensures { BookWritten n m rights.now book.old result book.new }
 {
     match book::write(n as usize, m as usize, rights, book) {
-        WriteAnswer::Written => 0,
-        WriteAnswer::Refused(why) => packed(why),
+        Ok(()) => 0,
+        Err(why) => packed(why),
     }
 }
 
@@ -75,8 +70,8 @@ pub extern "C" fn pj_book_salvage(book: &[u8], room: &mut [u8]) -> u64
     ensures { BookSalvaged book.now room.old result room.new }
 {
     match book_salvage::salvage(book, room) {
-        SalvageAnswer::Salvaged { marks, count } => (count as u64) * 256 + marks as u64,
-        SalvageAnswer::Refused(why) => packed(why),
+        Ok(salvaged) => (salvaged.count as u64) * 256 + salvaged.marks as u64,
+        Err(why) => packed(why),
     }
 }
 
@@ -103,7 +98,7 @@ pub extern "C" fn pj_find(
         values,
         held,
     };
-    found_as(finder::find(book, question, make, learn, ranks, plan))
+    found_as(finder::find(book, question, Goal { make, learn }, ranks, plan))
 }
 
 // The same of a question of two legs, the second with the team `team2` and its own goal: the height and the plan are
@@ -134,8 +129,21 @@ pub extern "C" fn pj_find_two(
         values,
         held,
     };
+    let leg = Leg {
+        team: team2,
+        goal: Goal {
+            make: make2,
+            learn: learn2,
+        },
+    };
     found_as(finder::find_two(
-        book, question, make, learn, team2, make2, learn2, ranks, ranks2, plan,
+        book,
+        question,
+        Goal { make, learn },
+        leg,
+        ranks,
+        ranks2,
+        plan,
     ))
 }
 
@@ -159,10 +167,12 @@ pub extern "C" fn pj_find_plain(
         values,
         held,
     };
-    match finder_plain::find(book, question, make, learn) {
-        PlainAnswer::Reach(height) => height as u64 + 1,
-        PlainAnswer::Cannot => 0,
-        PlainAnswer::Refused(why) => packed(why),
+    match finder_plain::find(book, question, Goal { make, learn }) {
+        Ok(found) => match found {
+            PlainAnswer::Reach(height) => height as u64 + 1,
+            PlainAnswer::Cannot => 0,
+        },
+        Err(why) => packed(why),
     }
 }
 
@@ -186,9 +196,9 @@ pub extern "C" fn pj_plan_check(
         values,
         held,
     };
-    match plancheck::check(book, question, make, learn, plan) {
-        CheckAnswer::Yes => 0,
-        CheckAnswer::Refused(why) => packed(why),
+    match plancheck::check(book, question, Goal { make, learn }, plan) {
+        Ok(()) => YES,
+        Err(why) => packed(why),
     }
 }
 
@@ -208,8 +218,8 @@ pub extern "C" fn pj_rules(rules: &[u8], book: &mut [u8]) -> u64
     ensures { RulesMade rules.now book.old result book.new }
 {
     match sheet_book::make_book(rules, book) {
-        MakeAnswer::Made(length) => length as u64,
-        MakeAnswer::Refused(why, line) => packed_at(why, line),
+        Ok(length) => length as u64,
+        Err(fault) => packed_at(fault.why, fault.line),
     }
 }
 
@@ -232,14 +242,16 @@ pub extern "C" fn pj_replay(book: &[u8], start: u64, shift: &[u8], reached: &mut
     ensures { ShiftReplayed book.now start shift.now reached.old result reached.new }
 {
     match station::replay(book, start, shift) {
-        Replayed::Whole(running) => {
-            *reached = reached_as(running);
-            0
-        }
-        Replayed::Stopped(why, running) => {
-            *reached = reached_as(running);
-            packed(why)
-        }
-        Replayed::Refused(why) => packed(why),
+        Ok(replayed) => match replayed {
+            Replayed::Whole(running) => {
+                *reached = reached_as(running);
+                0
+            }
+            Replayed::Stopped(why, running) => {
+                *reached = reached_as(running);
+                packed(why)
+            }
+        },
+        Err(refusal) => packed(refusal),
     }
 }

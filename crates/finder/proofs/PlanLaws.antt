@@ -2,6 +2,7 @@
 use mathlib.Core.Path.{◌≡◌, sym, ap₂, ◌∙◌, subst}
 use mathlib.Core.List.{List, ◌∷◌, ◌++◌}
 use mathlib.Core.Bool.{Bool, true, false}
+use Rattle.std.proofs.Common.{None}
 use Prim.Native.Nat.{ℕ, ◌+◌, ◌^◌, ◌≤◌, ◌<◌}
 use native.Mathlib.Numerals.{add-one}
 use native.Mathlib.Omega.{arith}
@@ -23,7 +24,6 @@ use Rattle.plan.proofs.Table.{lowers_out}
 use Rattle.plan.proofs.Written.{written_exists}
 use Rattle.plan.proofs.Accepted.{written-most}
 use Rattle.finder.specs.Tables.{TablesTell, Lower, Chooses, Ranked, PlanFits}
-use Rattle.finder.specs.declared.steps.Step.TheVariants.{Stop}
 
 module _ {n : ℕ} {sets' looks : List (List ℕ)} {ranks : List ℕ} where
   -- the act chosen leads to lower entries
@@ -87,7 +87,7 @@ module _ {n : ℕ} {sets' looks : List (List ℕ)} {ranks : List ℕ} where
         let x = f from.system from.told in
         omega (arith, x.2, written-most from.told.law from.few k x.0 (get_or ranks k 0) x.1 (from.told.ranked k from.state) from.finite)
 
-    pub stop-plan : (S : System) → TablesTell n sets' looks ranks S → Chooses S ranks k Stop → Written S k stop
+    pub stop-plan : (S : System) → TablesTell n sets' looks ranks S → Chooses S ranks k None → Written S k stop
     stop-plan S t none = stop-rank t from.state from.finite none
 
 -- a state after the act, by the number that code computed: its entry is below t, the one at k

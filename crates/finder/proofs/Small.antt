@@ -2,6 +2,7 @@
 use mathlib.Core.Path.{◌≡◌, sym, subst}
 use mathlib.Core.Logic.{inl, inr}
 use mathlib.Core.List.{List, [], ◌∷◌}
+use Rattle.std.proofs.Common.{Ok, Err}
 use Prim.Native.Nat.{ℕ, ◌^◌, ◌≤◌, ◌<◌}
 use native.Mathlib.Omega.{arith}
 use lib.ListN.{length}
@@ -26,7 +27,7 @@ use Rattle.question.proofs.LegLaws.{first_leg_lawful}
 use Rattle.finder.specs.Answers.{AnswersFrom}
 use Rattle.finder.specs.FindsTwo.{Rooms, room_rows, find_two_rows, FindsTwo}
 use Rattle.finder.specs.Finds.{Finds, find_rows}
-use Rattle.finder.specs.declared.answer.Answer.TheVariants.{Reach, Refused}
+use Rattle.finder.specs.declared.answer.Answer.TheVariants.{Reach}
 
 pub find_places : (book : List ℕ) (q : Question) (goal : Goal) (ranks : List ℕ) → PlacesBelow 9 (find_rows book q goal ranks)
 unfolding find_rows
@@ -35,21 +36,21 @@ find_places book q goal ranks =
     (λ _. ((λ i g. omega arith), λ _. tt))
 
 -- a height is below 255, and a plan no longer than one that may be checked
-answer-most : {n : ℕ} {S : System} → Lawful n S → n ≤ 7 → (k : ℕ) (old new : List ℕ) (h size : ℕ) → AnswersFrom S k old (Reach h size) new → (h ≤ 254) × (size ≤ 32640)
+answer-most : {n : ℕ} {S : System} → Lawful n S → n ≤ 7 → (k : ℕ) (old new : List ℕ) (h size : ℕ) → AnswersFrom S k old (Ok (Reach h size)) new → (h ≤ 254) × (size ≤ 32640)
 answer-most {n} {S} law few k old new h size (least, (p, w, long, short, bytes)) =
     let low : h ≤ 254 = omega (arith, rank-small law k h few least) in
     let high : height p ≡ h = written-height S p k h w (inl least) in
     (low, omega (arith, long, size-most law p k few (works_permitted S p k (written_works S p k w)) (omega (arith, high, low))))
 
 module _ (book : List ℕ) (q : Question) (goal : Goal) (ranks plan ranks' plan' : List ℕ) where
-  pub place-small : (r : Refusal) → Finds book q goal ranks plan (Refused r) ranks' plan' → place r < 9
+  pub place-small : (r : Refusal) → Finds book q goal ranks plan (Err r) ranks' plan' → place r < 9
   place-small r (inl u) =
       let e : r ≡ u.why = cc u.answered in
       subst (λ (x : Refusal). place x < 9) (sym e) (first-place-below 9 (find_rows book q goal ranks) (find_places book q goal ranks) u.first)
   place-small r (inr (n, m, v, l, f, a)) = subst (λ (x : Refusal). place x < 9) (sym a.0) (omega arith)
 
-  pub reach_most : (h size : ℕ) → Finds book q goal ranks plan (Reach h size) ranks' plan' → (h ≤ 254) × (size ≤ 32640)
-  reach_most h size (inl u) = let e : Reach h size ≡ Refused u.why = u.answered in let z : ◌≡◌ {A = ℕ} 0 1 = cc in absurd (omega arith)
+  pub reach_most : (h size : ℕ) → Finds book q goal ranks plan (Ok (Reach h size)) ranks' plan' → (h ≤ 254) × (size ≤ 32640)
+  reach_most h size (inl u) = let e : Ok (Reach h size) ≡ Err u.why = u.answered in let z : ◌≡◌ {A = ℕ} 0 1 = cc in absurd (omega arith)
   reach_most h size (inr (n, m, v, l, f, a)) = answer-most (lawful v) (few v) (start_of q) plan plan' h size a
 
 -- and of two legs
@@ -61,14 +62,14 @@ two_places book q goal team2 goal2 old =
     (λ _. ((λ i g. omega arith), λ _. ((λ i g. omega arith), λ _. tt)))
 
 module _ (book : List ℕ) (q : Question) (goal : Goal) (team2 : ℕ) (goal2 : Goal) (old new : Rooms) where
-  pub two-place-small : (r : Refusal) → FindsTwo book q goal team2 goal2 old (Refused r) new → place r < 9
+  pub two-place-small : (r : Refusal) → FindsTwo book q goal team2 goal2 old (Err r) new → place r < 9
   two-place-small r (inl u) =
       let e : r ≡ u.why = cc u.answered in
       subst (λ (x : Refusal). place x < 9) (sym e)
       (first-place-below 9 (find_two_rows book q goal team2 goal2 old) (two_places book q goal team2 goal2 old) u.first)
   two-place-small r (inr (n, m, v, room, a)) = subst (λ (x : Refusal). place x < 9) (sym a.answers.0) (omega arith)
 
-  pub two_reach_most : (h size : ℕ) → FindsTwo book q goal team2 goal2 old (Reach h size) new → (h ≤ 254) × (size ≤ 32640)
-  two_reach_most h size (inl u) = let e : Reach h size ≡ Refused u.why = u.answered in let z : ◌≡◌ {A = ℕ} 0 1 = cc in absurd (omega arith)
+  pub two_reach_most : (h size : ℕ) → FindsTwo book q goal team2 goal2 old (Ok (Reach h size)) new → (h ≤ 254) × (size ≤ 32640)
+  two_reach_most h size (inl u) = let e : Ok (Reach h size) ≡ Err u.why = u.answered in let z : ◌≡◌ {A = ℕ} 0 1 = cc in absurd (omega arith)
   two_reach_most h size (inr (n, m, v, room, a)) =
       answer-most (first_leg_lawful book q goal team2 goal2 v) (few v.first) (start_of q) old.plan new.plan h size a.answers

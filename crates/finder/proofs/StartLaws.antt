@@ -2,6 +2,7 @@
 use mathlib.Core.Path.{◌≡◌, sym, ap, ◌∙◌}
 use mathlib.Core.Logic.{inl, inr}
 use mathlib.Core.List.{List, ◌++◌}
+use Rattle.std.proofs.Common.{Ok}
 use Prim.Native.Nat.{ℕ, ◌+◌, ◌^◌, ◌≤◌, ◌<◌}
 use native.Mathlib.Omega.{arith}
 use lib.ListN.{length, get_or, drop}
@@ -40,7 +41,7 @@ module _ {n : ℕ} {sets' looks : List (List ℕ)} {ranks : List ℕ} where
 
     pub reached : {old new : List ℕ} {x : ℕ} → k < 7 ^ n → get_or ranks k 0 < 255 → r ≤ length old
         → ((S : System) → TablesTell n sets' looks ranks S → (p : Plan) × Written S k p × (new ≡ sets old 0 (encode p)) × (x ≡ 0 + length (encode p)))
-        → (S : System) → TablesTell n sets' looks ranks S → AnswersFrom S k old (Reach (get_or ranks k 0) r) new
+        → (S : System) → TablesTell n sets' looks ranks S → AnswersFrom S k old (Ok (Reach (get_or ranks k 0) r)) new
     reached {old} h l fits g S t =
         let y = g S t in
         let e = same_size S t y.0 y.1 in

@@ -5,20 +5,22 @@ use mathlib.Core.List.{List, []}
 use mathlib.Core.Bool.{Bool, true, false}
 use Prim.Native.Nat.{ℕ, ◌+◌, ◌*◌, ◌/◌, ◌%◌, ◌^◌, ◌≤◌, ◌<◌}
 use native.Mathlib.Omega.{arith}
-use lib.Dec.{T, lit<}
+use lib.Dec.{T, eqb→eq, lit<}
+use mir.Syntax.{w8}
+use Rattle.std.specs.Int.{trailing_zeros}
+use Rattle.std.proofs.lemmas.Nat.Bits.{bit_at-trailing_zeros}
 use lib.ListN.{get_or}
 use Rattle.ground.specs.Digits.{digit, bit}
 use Rattle.ground.specs.Search.{Least}
-use Rattle.ground.proofs.Bools.{T→false, true→T, false→T, both, decide, lt_or_ge}
+use Rattle.ground.proofs.Bools.{false→T, both, eq→eqb, lt_or_ge}
 use Rattle.ground.proofs.Bits.{same_bits, bit_of_zero}
 use Rattle.knowledge_acts.specs.Acts.{set_to, look_at, byte_of, of_kind, setting_of, post_of, kind_of}
 use Rattle.knowledge_acts.specs.declared.act.Act.{Act}
 use Rattle.knowledge_acts.specs.declared.act.Act.TheVariants.{Set, Look}
-use Rattle.knowledge_acts.proofs.Acts.{of_kind_of, byte_of_kind, setting_of_kind, post_of_kind}
+use Rattle.knowledge_acts.proofs.Acts.{of_kind_of, byte_of_kind, post_of_kind}
 use Rattle.knowledge.specs.Number.{digit_in, digits_of}
 use lib.Arith.{digits_div, digits_mod}
 use Rattle.knowledge.proofs.Number.{digits_are}
-use Rattle.finder.specs.declared.steps.Step.{Step}
 use Rattle.plan.specs.Plans.{System, may, after_set_case, after_look}
 use Rattle.plan.specs.Ranks.{Chosen}
 use native.Mathlib.Nat.{pow-le-pow_right}
@@ -27,12 +29,16 @@ use Rattle.plan.proofs.Certificate.{numbers_closed}
 use Rattle.plan.proofs.Table.{chosen}
 use Rattle.finder_sides.specs.Sides.{now_side_number}
 use Rattle.finder_sides.specs.Tables.{entry}
-use Rattle.finder.specs.Tables.{TablesTell, Lower, Tries, family}
+use Rattle.finder.specs.Tables.{TablesTell, Lower, family}
 
 -- ---- bounds
 
 pub number_small : (n k : ℕ) → n ≤ 7 → k < 7 ^ n → k < 7 ^ 7
 number_small n k h l = omega (arith, pow-le-pow_right {n = 7} (lit< tt) {i = n} {j = 7} h)
+
+-- what an act on a setting hands back is the number after it
+pub after_act : {n k i x y : ℕ} → n ≤ 7 → k < 7 ^ n → i < n → (k < 7 ^ 7 → i < 7 → x ≡ y) → x ≡ y
+after_act {n} {k} few state below f = f (number_small n k few state) (omega arith)
 
 -- the entry as code reads it
 pub at_side : (t : List (List ℕ)) (i : ℕ) {side s : ℕ} → side ≡ s → get_or (get_or t i []) side 0 ≡ entry t i s
@@ -49,21 +55,12 @@ rank-at ranks e = ap (λ (x : ℕ). get_or ranks x 0) e
 pub some-bit : (x : ℕ) → x < 256 → (x ≡ 0 → ⊥) → ((q : ℕ) → q < 8 → bit x q ≡ false) → ⊥
 some-bit x h ne f = ne (same_bits 8 x 0 h (lit< tt) (λ i l. f i l ∙ sym (bit_of_zero i)))
 
--- no bit of the mask stands below q
-abbrev pub NoneBelow : ℕ → ℕ → Type 0
-NoneBelow x q = (p : ℕ) → p < q → bit x p ≡ false
-
-pub lowest-here : (x q : ℕ) → NoneBelow x q → bit x q ≡ true → Least (λ q. T (bit x q)) q
-lowest-here x q f e = record { here = true→T e; none_below = λ p l t. both (bit x p) t (false→T (f p l)) }
-
-pub lowest-more : (x q : ℕ) → NoneBelow x q → bit x q ≡ false → NoneBelow x (q + 1)
-lowest-more x q f e p l = elim (lt_or_ge p q) [ inl m ↦ f p m | inr m ↦ (let same : p ≡ q = omega arith in rw same e) ]
-
-pub lowest_last : (x q : ℕ) → x < 256 → (x ≡ 0 → ⊥) → 7 ≤ q → q ≤ 7 → NoneBelow x q → Least (λ q. T (bit x q)) 7
-lowest_last x q h ne l m f = elim (decide (bit x 7)) [
-  | inl t ↦ record { here = t; none_below = λ p k u. both (bit x p) u (false→T (f p (omega arith))) }
-  | inr t ↦ absurd (some-bit x h ne (λ i k. elim (lt_or_ge i 7) [ inl j ↦ f i (omega arith) | inr j ↦ (let same : i ≡ 7 = omega arith in rw same (T→false (bit x 7) t)) ]))
-]
+-- it is where the zeros below it end
+pub lowest_set : (x : ℕ) → (x ≡ 0 → ⊥) → x < 256 → Least (λ q. T (bit x q)) (trailing_zeros w8 x) × (trailing_zeros w8 x < 8)
+unfolding bit digit
+lowest_set x some small =
+    let z = bit_at-trailing_zeros w8 x (omega arith) small in
+    (record { here = eq→eqb z.1; none_below = λ q l t. absurd (omega (arith, z.2 q l, eqb→eq _ 1 t)) }, z.0)
 
 -- ---- a step of each kind
 
@@ -117,20 +114,6 @@ module _ {n : ℕ} {sets looks : List (List ℕ)} {ranks : List ℕ} {S : System
 family-byte : (p q : ℕ) → p < 21 → byte_of (family p q) ≡ 1 + p * 8 + q
 family-byte p q h = byte_of_kind (p / 7) (p % 7) q (omega arith) ∙ omega arith
 
--- the acts of each third of the pairs
-module _ (S : System) (ranks : List ℕ) (k p : ℕ) where
-  as_kind : (kind : ℕ) (r : Step) → p / 7 ≡ kind → Tries S ranks k (of_kind kind (p % 7)) r → Tries S ranks k (family p) r
-  as_kind kind r e t = subst (λ (x : ℕ). Tries S ranks k (of_kind x (p % 7)) r) (sym e) t
-
-  pub family_false : (r : Step) → p < 7 → Tries S ranks k (λ q. Set (p % 7) q false) r → Tries S ranks k (family p) r
-  family_false r h t = as_kind 0 r (omega arith) t
-
-  pub family_true : (r : Step) → 7 ≤ p → p < 14 → Tries S ranks k (λ q. Set (p % 7) q true) r → Tries S ranks k (family p) r
-  family_true r l h t = as_kind 1 r (omega arith) t
-
-  pub family_look : (r : Step) → 14 ≤ p → p < 21 → Tries S ranks k (λ q. Look (p % 7) q) r → Tries S ranks k (family p) r
-  family_look r l h t = as_kind 2 r (omega arith) t
-
 -- the pair of an act
 pair_of : Act → ℕ
 pair_of a = kind_of a * 7 + setting_of a
@@ -163,9 +146,6 @@ module _ {n : ℕ} {sets looks : List (List ℕ)} {ranks : List ℕ} {S : System
   none_left p h f a l =
       f (pair_of a) (omega (arith, pair_small a (seven a l))) (post_of a) (subst (Lower S ranks k) (sym (pair_family a (seven a l))) l)
 
-  pub none_more : (p : ℕ) → NoneTo S ranks k p → ((q : ℕ) → Lower S ranks k (family p q) → ⊥) → NoneTo S ranks k (p + 1)
-  none_more p f g x h = elim (lt_or_ge x p) [ inl m ↦ f x m | inr m ↦ (let same : x ≡ p = omega arith in rw same g) ]
-
   pub smallest : (p q : ℕ) (a : Act) → p < 21 → NoneTo S ranks k p → a ≡ family p q → Lower S ranks k (family p q) → ((x : ℕ) → Lower S ranks k (family p x) → q ≤ x) → Chosen S k a
   smallest p q a hp f e l least =
       subst (Chosen S k) (sym e)
@@ -191,11 +171,6 @@ module _ {n : ℕ} {sets looks : List (List ℕ)} {ranks : List ℕ} {S : System
                   ))
             ]
           ]
-
--- a pair whose setting the book has not
-pub pair_past : {n : ℕ} {sets looks : List (List ℕ)} {ranks : List ℕ} {S : System} (told : TablesTell n sets looks ranks S) (k p : ℕ) → n ≤ p % 7
-    → (q : ℕ) → Lower S ranks k (family p q) → ⊥
-pair_past told k p h q l = omega (arith, told.law.setting_of_case k (family p q) l.allowed, setting_of_kind (p / 7) (p % 7) q)
 
 -- the digit as the knowledge type tells it
 pub digit_at : (k i : ℕ) {ds : List ℕ} {d : ℕ} → k < 7 ^ 7 → ds ≡ digits_of k → d ≡ digit_in ds i → d ≡ digit 7 k i

@@ -1,5 +1,5 @@
 -- What `find` gives: the answer, and the lent rank table and plan room on return, for every book, question, goal and room.
-use Rattle.std.specs.Prelude.{◌≡◌, ◌⊎◌, List, [], ◌∷◌, ◌++◌, ℕ, ◌^◌, ◌≤◌, ◌<◌, length, get_or}
+use Rattle.std.specs.Prelude.{◌≡◌, ◌⊎◌, Result, Err, List, [], ◌∷◌, ◌++◌, ℕ, ◌^◌, ◌≤◌, ◌<◌, length, get_or}
 use Rattle.refusal.specs.declared.Refusal.{Refusal}
 use Rattle.refusal.specs.declared.Refusal.TheVariants.{RankRoom}
 use Rattle.refusal.specs.Order.{Row, when, First}
@@ -12,7 +12,6 @@ use Rattle.question.specs.Rows.{question_rows}
 use Rattle.question.specs.Asks.{ValidQuestion}
 use Rattle.question.specs.declared.Question.{Question}
 use Rattle.finder.specs.declared.answer.Answer.{Answer}
-use Rattle.finder.specs.declared.answer.Answer.TheVariants.{Refused}
 use Rattle.finder.specs.Answers.{AnswersFrom}
 
 -- a question's refusals, and after them 13: "rank table under 7^n bytes"
@@ -26,20 +25,20 @@ pub record RanksFilled (n : ℕ) (S : System) (old new : List ℕ) : Type 0 wher
   pub later : (j : ℕ) → 7 ^ n ≤ j → get_or new j 0 ≡ get_or old j 0
 
 -- a question that is refused before it is looked into
-pub record Unmet (book : List ℕ) (q : Question) (goal : Goal) (ranks plan : List ℕ) (answer : Answer) (ranks' plan' : List ℕ) : Type 0 where
+pub record Unmet (book : List ℕ) (q : Question) (goal : Goal) (ranks plan : List ℕ) (answer : Result Answer Refusal) (ranks' plan' : List ℕ) : Type 0 where
   pub why : Refusal
-  pub answered : answer ≡ Refused why
+  pub answered : answer ≡ Err why
   pub first : First (find_rows book q goal ranks) why
   pub ranks_kept : ranks' ≡ ranks
   pub plan_kept : plan' ≡ plan
 
 -- a valid question over n settings: all ranks, and the answer
-abbrev pub Answered : ℕ → List ℕ → Question → Goal → List ℕ → List ℕ → Answer → List ℕ → List ℕ → Type 0
+abbrev pub Answered : ℕ → List ℕ → Question → Goal → List ℕ → List ℕ → Result Answer Refusal → List ℕ → List ℕ → Type 0
 Answered n book q goal ranks plan answer ranks' plan' =
     RanksFilled n (system_of n book q goal) ranks ranks' × AnswersFrom (system_of n book q goal) (start_of q) plan answer plan'
 
 -- what `find` gives: the first of refusals 6 to 13, which leaves both rooms as they were; or, for a valid question, all ranks and the answer
-abbrev pub Finds : List ℕ → Question → Goal → List ℕ → List ℕ → Answer → List ℕ → List ℕ → Type 0
+abbrev pub Finds : List ℕ → Question → Goal → List ℕ → List ℕ → Result Answer Refusal → List ℕ → List ℕ → Type 0
 Finds book q goal ranks plan answer ranks' plan' =
     Unmet book q goal ranks plan answer ranks' plan'
     ⊎ ((n : ℕ) × (m : ℕ) × ValidQuestion book q goal n m × (7 ^ n ≤ length ranks)

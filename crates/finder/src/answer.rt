@@ -11,14 +11,13 @@ use finder_sides::SIDES;
 use ground::SETTINGS_MOST;
 use refusal::Refusal;
 
-#[derive(Clone, Copy)]
+// The answer to a valid question.
+#[derive(Clone, Copy, Debug, PartialEq, Eq)]
 pub enum Answer {
     // A plan of this height, the least, stands in the first `length` bytes of the plan room.
     Reach { height: u8, length: usize },
     // No plan brings it about.
     Cannot,
-    // The question is not answered.
-    Refused(Refusal),
 }
 
 // The answer at the start, by the ranks; a plan is written only where it fits. For this crate alone: the
@@ -30,21 +29,21 @@ pub(crate) fn from_start(
     ranks: &[u8],
     start: u32,
     plan: &mut [u8],
-) -> Answer
+) -> Result<Answer, Refusal>
     requires { (start < 7 ^ n) × (7 ^ n ≤ size ranks.now) × ((S : System) × TablesTell n set.now look.now ranks.now S) }
     ensures { (S : System) → TablesTell n set.now look.now ranks.now S → AnswersFrom S start plan.old result plan.new }
 {
     let height = ranks[start as usize];
     if height == NONE {
-        return Answer::Cannot;
+        return Ok(Answer::Cannot);
     }
     let bytes = length(n, set, look, ranks, start);
     if plan.len() < bytes {
-        return Answer::Refused(Refusal::PlanRoom);
+        return Err(Refusal::PlanRoom);
     }
     write(n, set, look, ranks, start, plan, 0);
-    Answer::Reach {
+    Ok(Answer::Reach {
         height,
         length: bytes,
-    }
+    })
 }

@@ -1,18 +1,17 @@
 // One step of the plan written: at a state, the act with the smallest byte whose outcomes all have a
 // lower rank, or a stop. The two tables have, for each setting and present side, a bit for each post
 // of the team that may set it, or look at it.
-ghost use Rattle.std.specs.Prelude.{◌≡◌, ◌^◌, ◌≤◌, ◌<◌, ◌+◌, T, length};
+ghost use Rattle.std.specs.Prelude.{◌≡◌, ◌^◌, ◌≤◌, ◌<◌, T, length};
 ghost use Rattle.ground.specs.Digits.{bit};
 ghost use Rattle.ground.specs.Search.{Least};
-ghost use Rattle.knowledge_acts.specs.Acts.{set_to, look_at};
 ghost use Rattle.knowledge_acts.specs.declared.act.Act.TheVariants.{Set, Look};
 ghost use Rattle.plan.specs.Plans.{System};
 ghost use Rattle.finder_sides.specs.Sides.{now_side_number};
 ghost use Rattle.finder.specs.Tables.{TablesTell, Tries, family, Chooses};
 
 use finder_sides::SIDES;
-use ground::{POSTS_MOST, SETTINGS_MOST};
-use knowledge::Knowledge;
+use ground::SETTINGS_MOST;
+use knowledge::{Knowledge, look_at, set_to};
 use knowledge_acts::Act;
 
 // A kind of act and a setting make a pair, with the number kind × SETTINGS + setting: sets to false come
@@ -23,46 +22,12 @@ const LOOKS: u8 = 2 * SETTINGS;
 
 const PAIRS: u8 = 3 * SETTINGS;
 
-// The index of the last post that there can be.
-const LAST_POST: u8 = POSTS_MOST as u8 - 1;
-
-#[derive(Clone, Copy)]
-pub enum Step {
-    Stop,
-    Do(Act),
-}
-
 // The lowest post of a mask that is not empty.
 fn lowest(posts: u8) -> u8
     requires { posts ≡ 0 → ⊥ }
     ensures { Least (λ q. T (bit posts q)) result × (result < 8) }
 {
-    let mut q: u8 = 0;
-    while q < LAST_POST {
-        if (posts >> q) % 2 == 1 {
-            return q;
-        }
-        q += 1;
-    }
-    LAST_POST
-}
-
-// The knowledge number after a set. For this crate alone: k has at most seven digits.
-pub(crate) fn set_to(k: u32, setting: u8, value: bool) -> u32
-    requires { (k < 7 ^ 7) × (setting < 7) }
-    ensures { result ≡ set_to k setting value }
-{
-    Knowledge::from_number(k).after_set(setting, value).number()
-}
-
-// The knowledge number after a look that saw the value. For this crate alone, as above.
-pub(crate) fn look_at(k: u32, setting: u8, value: bool) -> u32
-    requires { (k < 7 ^ 7) × (setting < 7) }
-    ensures { result ≡ look_at k setting value }
-{
-    Knowledge::from_number(k)
-        .after_look(setting, value)
-        .number()
+    posts.trailing_zeros() as u8
 }
 
 // Setting i to the value, by the lowest post that may, where that leads to a lower rank.
@@ -75,23 +40,23 @@ fn set_step(
     side: usize,
     i: u8,
     value: bool,
-) -> Step
+) -> Option<Act>
     requires { (n ≤ 7) × (k < 7 ^ n) × (7 ^ n ≤ length ranks.now) × (side ≡ now_side_number n k) × (i < n) }
     ensures { (S : System) → TablesTell n set.now look.now ranks.now S → Tries S ranks.now k (λ q. Set i q value) result }
 {
     let posts = set[i as usize][side];
     if posts == 0 {
-        return Step::Stop;
+        return None;
     }
     let next = set_to(k, i, value);
     if ranks[next as usize] < ranks[k as usize] {
-        return Step::Do(Act::Set {
+        return Some(Act::Set {
             setting: i,
             post: lowest(posts),
             value,
         });
     }
-    Step::Stop
+    None
 }
 
 // Looking at setting i, by the lowest post that may, where both outcomes have a lower rank.
@@ -103,27 +68,27 @@ fn look_step(
     k: u32,
     side: usize,
     i: u8,
-) -> Step
+) -> Option<Act>
     requires { (n ≤ 7) × (k < 7 ^ n) × (7 ^ n ≤ length ranks.now) × (side ≡ now_side_number n k) × (i < n) }
     ensures { (S : System) → TablesTell n set.now look.now ranks.now S → Tries S ranks.now k (λ q. Look i q) result }
 {
     if Knowledge::from_number(k).digit(i) != 0 {
-        return Step::Stop;
+        return None;
     }
     let posts = look[i as usize][side];
     if posts == 0 {
-        return Step::Stop;
+        return None;
     }
     let no = look_at(k, i, false);
     let yes = look_at(k, i, true);
     let rank = ranks[k as usize];
     if rank <= ranks[no as usize] {
-        return Step::Stop;
+        return None;
     }
     if rank <= ranks[yes as usize] {
-        return Step::Stop;
+        return None;
     }
-    Step::Do(Act::Look {
+    Some(Act::Look {
         setting: i,
         post: lowest(posts),
     })
@@ -138,13 +103,13 @@ fn step_of(
     k: u32,
     side: usize,
     pair: u8,
-) -> Step
+) -> Option<Act>
     requires { (n ≤ 7) × (k < 7 ^ n) × (7 ^ n ≤ length ranks.now) × (side ≡ now_side_number n k) × (pair < 21) }
     ensures { (S : System) → TablesTell n set.now look.now ranks.now S → Tries S ranks.now k (family pair) result }
 {
     let i = pair % SETTINGS;
     if n <= i {
-        return Step::Stop;
+        return None;
     }
     if pair < SETTINGS {
         return set_step(n, set, look, ranks, k, side, i, false);
@@ -163,21 +128,15 @@ pub(crate) fn choose(
     look: &[[u8; SIDES]; SETTINGS_MOST],
     ranks: &[u8],
     k: u32,
-) -> Step
+) -> Option<Act>
     requires { (n ≤ 7) × (k < 7 ^ n) × (7 ^ n ≤ length ranks.now) }
     ensures { (S : System) → TablesTell n set.now look.now ranks.now S → Chooses S ranks.now k result }
 {
     let side = finder_ranks::side_of(n, k);
-    let mut pair: u8 = 0;
-    while pair < PAIRS {
-        match step_of(n, set, look, ranks, k, side, pair) {
-            Step::Do(act) => {
-                return Step::Do(act);
-            }
-            Step::Stop => {
-                pair += 1;
-            }
+    for pair in 0..PAIRS {
+        if let Some(act) = step_of(n, set, look, ranks, k, side, pair) {
+            return Some(act);
         }
     }
-    Step::Stop
+    None
 }

@@ -7,9 +7,10 @@ ghost use Rattle.plan.specs.Ranks.{Written};
 ghost use Rattle.plan.specs.Bytes.{encode};
 ghost use Rattle.finder.specs.Tables.{TablesTell, Ranked, PlanFits};
 
-use crate::steps::{Step, choose, look_at, set_to};
+use crate::steps::choose;
 use finder_sides::SIDES;
 use ground::SETTINGS_MOST;
+use knowledge::{look_at, set_to};
 use knowledge_acts::Act;
 
 // How many bytes the plan written from k has. For this crate alone: k has a rank below 255.
@@ -23,20 +24,18 @@ pub(crate) fn length(
     requires { Ranked n set.now look.now ranks.now k }
     ensures { (result ≤ 32640) × ((S : System) → TablesTell n set.now look.now ranks.now S → (p : Plan) × Written S k p × (result ≡ length (encode p))) }
 {
-    match choose(n, set, look, ranks, k) {
-        Step::Stop => 1,
-        Step::Do(act) => match act {
-            Act::Set {
-                setting,
-                post: _,
-                value,
-            } => 1 + length(n, set, look, ranks, set_to(k, setting, value)),
-            Act::Look { setting, post: _ } => {
-                let no = length(n, set, look, ranks, look_at(k, setting, false));
-                let yes = length(n, set, look, ranks, look_at(k, setting, true));
-                1 + no + yes
-            }
-        },
+    let Some(act) = choose(n, set, look, ranks, k) else {
+        return 1;
+    };
+    match act {
+        Act::Set { setting, value, .. } => {
+            1 + length(n, set, look, ranks, set_to(k, setting, value))
+        }
+        Act::Look { setting, .. } => {
+            let no = length(n, set, look, ranks, look_at(k, setting, false));
+            let yes = length(n, set, look, ranks, look_at(k, setting, true));
+            1 + no + yes
+        }
     }
 }
 
@@ -56,32 +55,26 @@ pub(crate) fn write(
         (p : Plan) × Written S k p × (room.new ≡ sets room.old at (encode p))
         × (result ≡ at + length (encode p)) }
 {
-    match choose(n, set, look, ranks, k) {
-        Step::Stop => {
-            room[at] = 0;
-            at + 1
+    let Some(act) = choose(n, set, look, ranks, k) else {
+        room[at] = 0;
+        return at + 1;
+    };
+    room[at] = act.byte();
+    match act {
+        Act::Set { setting, value, .. } => {
+            write(n, set, look, ranks, set_to(k, setting, value), room, at + 1)
         }
-        Step::Do(act) => {
-            room[at] = act.byte();
-            match act {
-                Act::Set {
-                    setting,
-                    post: _,
-                    value,
-                } => write(n, set, look, ranks, set_to(k, setting, value), room, at + 1),
-                Act::Look { setting, post: _ } => {
-                    let next = write(
-                        n,
-                        set,
-                        look,
-                        ranks,
-                        look_at(k, setting, false),
-                        room,
-                        at + 1,
-                    );
-                    write(n, set, look, ranks, look_at(k, setting, true), room, next)
-                }
-            }
+        Act::Look { setting, .. } => {
+            let next = write(
+                n,
+                set,
+                look,
+                ranks,
+                look_at(k, setting, false),
+                room,
+                at + 1,
+            );
+            write(n, set, look, ranks, look_at(k, setting, true), room, next)
         }
     }
 }

@@ -4,6 +4,7 @@ use mathlib.Core.Path.{◌≡◌, subst}
 use mathlib.Core.List.{List}
 use Prim.Native.Nat.{ℕ}
 use lib.ListN.{replicate}
+use Rattle.std.proofs.Common.{Ok}
 use Rattle.ground.specs.Search.{Least}
 use Rattle.knowledge.specs.Goal.{Goal}
 use Rattle.plan.specs.Plans.{System}
@@ -16,7 +17,7 @@ use Rattle.question.proofs.SystemLaws.{few, from_ruled, ruled_lawful, valid_star
 use Rattle.finder_plain.specs.Entries.{Searches}
 use Rattle.finder_plain.specs.Finds.{AnswersPlainly, FindsPlain}
 use Rattle.finder_plain.specs.declared.finding.PlainAnswer.{PlainAnswer}
-use Rattle.finder_plain.specs.declared.finding.PlainAnswer.TheVariants.{Reach, Cannot, Refused}
+use Rattle.finder_plain.specs.declared.finding.PlainAnswer.TheVariants.{Reach, Cannot}
 use Rattle.finder_plain.proofs.EntryLaws.{first-bars}
 
 module _ {book : List ℕ} {q : Question} {goal : Goal} {n m : ℕ} (v : ValidQuestion book q goal n m) {start : ℕ} (e : start ≡ start_of q) where
@@ -29,7 +30,7 @@ module _ {book : List ℕ} {q : Question} {goal : Goal} {n m : ℕ} (v : ValidQu
     bars = first-bars n (ruled_system n book q goal) count size (few v);
   }
 
-  pub answered : (r : PlainAnswer) → AnswersPlainly (ruled_system n book q goal) start r → FindsPlain book q goal r
+  pub answered : (r : PlainAnswer) → AnswersPlainly (ruled_system n book q goal) start r → FindsPlain book q goal (Ok r)
   answered (Reach h) a = (
     n,
     m,
@@ -44,4 +45,3 @@ module _ {book : List ℕ} {q : Question} {goal : Goal} {n m : ℕ} (v : ValidQu
     from_ruled n book q goal (λ (S : System). CannotFrom S (start_of q))
         ((cannot_same (ruled_system n book q goal) (start_of q)).0 (subst (λ (k : ℕ). CannotFrom (ruled_system n book q goal) k) e a)),
   )
-  answered (Refused r) a = absurd a

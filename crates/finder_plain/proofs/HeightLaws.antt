@@ -53,8 +53,5 @@ module _ {n : ℕ} {S : System} {k h : ℕ} {entries : List ℕ} (s : Searches n
     pub height_yes : r ≡ true → Least (Reach S k) h
     height_yes e = first-least s.law s.bars s.state h low (rw add-one at (f.found e))
 
-    pub height_no : r ≡ false → Searches n S k new × (h + 1 ≤ get_or new k 0)
-    height_no e = (record { few = s.few; law = s.law; state = s.state; bars = f.bars }, f.failed e)
-
     pub height_gap : r ≡ false → {g : Bool} → FindsGap n new (h + 1) g → g ≡ true → Cannot S k
     height_gap e gap there = gap_cannot s.law f.bars s.state (f.failed e) (gap there)

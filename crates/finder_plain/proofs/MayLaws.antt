@@ -2,21 +2,24 @@
 use mathlib.Core.Path.{◌≡◌, sym, ap, ◌∙◌}
 use mathlib.Core.Bool.{Bool, true, false, not, ◌&&◌}
 use mathlib.Core.List.{List}
-use Prim.Native.Nat.{ℕ, ◌+◌, ◌^◌, ◌≤◌, ◌<◌}
+use lib.ListN.{length}
+use Rattle.std.specs.Bool.{MatchBool}
+use Rattle.std.specs.List.{range_with_len, AllWithin, HoldsAt}
+use native.Mathlib.Nat.{zero-add}
+use Rattle.std.proofs.lemmas.List.FromFn.{get_or-range_with_len, length-range_with_len}
+use Rattle.ground.specs.Tells.{Tells}
+use Prim.Native.Nat.{ℕ, ◌^◌, ◌<◌}
 use native.Mathlib.Omega.{arith}
 use borrow.Author.Tests.{eq-eqb, ne_eqb}
-use mathlib.Core.Logic.{inl, inr}
 use Rattle.ground.specs.Digits.{bit}
-use Rattle.ground.proofs.Bools.{true→T, both, false→T, lt_or_ge, and_true, and_false}
+use Rattle.ground.proofs.Bools.{true→T, both, false→T, and_true, and_false}
 use Rattle.book_block.specs.Rule.{rule}
 use Rattle.book_block.specs.declared.rule.Right.TheVariants.{Look as look-rule, Set as set-rule}
 use Rattle.knowledge_acts.specs.Acts.{offered}
 use Rattle.knowledge_acts.specs.declared.act.Act.{Act}
 use Rattle.knowledge_acts.specs.declared.act.Act.TheVariants.{Set, Look}
 use Rattle.knowledge.specs.Number.{digit_in, digits_of}
-use Rattle.knowledge.specs.Fits.{now_side}
-use Rattle.knowledge.specs.Judgement.{judgement, holds, known}
-use Rattle.knowledge.specs.declared.judgement.Judgement.{Judgement}
+use Rattle.knowledge.specs.Judgement.{known}
 use Rattle.knowledge.proofs.Number.{digits_are}
 use Rattle.plan.specs.Plans.{given}
 use Rattle.question.specs.Permitted.{ruled}
@@ -24,11 +27,6 @@ use Rattle.question.proofs.PermitLaws.{set_given, look_given}
 use Rattle.finder_plain.specs.Tries.{may_do, by_post, Someone}
 
 -- ---- one rule, and one act
-
--- what is known of a rule is read off its judgement
-pub rule-known : (n : ℕ) (d : ℕ → ℕ) (table : List ℕ) {j k : Judgement} → j ≡ judgement n (now_side d) table → j ≡ k → holds k ≡ known n d table
-unfolding known
-rule-known n d table e f = ap holds (sym f ∙ e)
 
 module _ (n : ℕ) (book : List ℕ) (held : ℕ) (d : ℕ → ℕ) {a : Act} {i q : ℕ} {r : Bool} where
   pub set-permitted : {b : Bool} → a ≡ Set i q b → bit held i ≡ false → r ≡ known n d (rule book i q set-rule) → r ≡ given (ruled n book held d a)
@@ -56,18 +54,17 @@ at-number n book team held k a small state e =
 
 -- ---- a search over the posts
 
-pub someone-here : (m : Act → Bool) (a : Act) (q : ℕ) → q < 8 → m (by_post a q) ≡ true → Someone m a
-someone-here m a q l e = record { post = q; few = l; allowed = true→T e }
-
--- none of the posts below q
-abbrev pub NobodyBelow : (Act → Bool) → Act → ℕ → Type 0
-NobodyBelow m a q = (p : ℕ) → p < q → m (by_post a p) ≡ false
-
-pub nobody-more : (m : Act → Bool) (a : Act) (q : ℕ) → NobodyBelow m a q → m (by_post a q) ≡ false → NobodyBelow m a (q + 1)
-nobody-more m a q f e p l = elim (lt_or_ge p q) [
-  | inl u ↦ f p u
-  | inr u ↦ (let s : p ≡ q = omega arith in rw s e)
-]
-
-pub nobody-all : (m : Act → Bool) (a : Act) {q : ℕ} → 8 ≤ q → NobodyBelow m a q → Someone m a → ⊥
-nobody-all m a l f s = both (m (by_post a s.post)) s.allowed (false→T (f s.post (omega (arith, s.few))))
+-- what the search over the posts found
+pub someone_told : (asked m : Act → Bool) → ((b : Act) → asked b ≡ m b) → (a : Act) (r : Bool)
+    → MatchBool r
+    ((k : ℕ) × (k < length (range_with_len 0 8)) × HoldsAt (λ q. asked (by_post a q) ≡ true) (range_with_len 0 8) k)
+    (AllWithin (λ q. asked (by_post a q) ≡ false) (range_with_len 0 8) 0 (length (range_with_len 0 8)))
+    → Tells r (Someone m a)
+someone_told asked m same a true (q, l, here) =
+    let few : q < 8 = omega (arith, l, length-range_with_len 0 8) in
+    let so : asked (by_post a q) ≡ true = rw (get_or-range_with_len 0 8 q 0 few ∙ zero-add q) at (here 0) in
+    record { post = q; few = few; allowed = true→T (sym (same (by_post a q)) ∙ so) }
+someone_told asked m same a false none = λ s.
+    let not_so : asked (by_post a s.post) ≡ false =
+    rw (get_or-range_with_len 0 8 s.post 0 s.few ∙ zero-add s.post) at (none s.post 0 (omega arith) (omega (arith, s.few, length-range_with_len 0 8))) in
+    both (m (by_post a s.post)) s.allowed (false→T (sym (same (by_post a s.post)) ∙ not_so))

@@ -7,18 +7,20 @@ use Prim.Native.Nat.{ℕ, suc, ◌+◌, ◌*◌, ◌/◌, ◌%◌, ◌-◌, ◌�
 use native.Mathlib.Omega.{arith}
 use lib.Dec.{T, not_T}
 use lib.ListN.{length, get_or}
+use Rattle.std.proofs.Common.{Option}
 use lib.Seq.{get_or-set_same}
 use Rattle.ground.proofs.Bools.{true→T, T→false, both, false→T, lt_or_ge}
 use Rattle.knowledge_acts.specs.Acts.{setting_of, post_of, of_kind}
 use Rattle.knowledge_acts.specs.declared.act.Act.{Act}
-use Rattle.knowledge.specs.Goal.{Goal, goal_settled}
+use Rattle.knowledge.specs.Goal.{Goal, wanted, goal_settled}
 use Rattle.plan.specs.Plans.{System, may, Outcome}
 use Rattle.plan.specs.Layers.{below}
 use Rattle.plan.proofs.Layers.{layer_goal}
 use Rattle.plan.proofs.Certificate.{outcome_lt}
 use Rattle.question.specs.Question.{ruled_system}
-use Rattle.question.specs.declared.Question.{Question}
-use Rattle.finder_plain.specs.Tries.{may_do, Asks, Blocked, Opens, Foresees}
+use Rattle.finder_plain.specs.Asked.{asked_system, asked_may}
+use Rattle.finder_plain.specs.declared.asked.Asked.{Asked}
+use Rattle.finder_plain.specs.Tries.{Asks, Blocked, Opens, Foresees}
 use Rattle.finder_plain.specs.Entries.{Bars, Searches, AsksGoal, Grown, Raised, Searched, SearchedBy}
 use Rattle.finder_plain.specs.declared.ahead.Ahead.{Ahead}
 use Rattle.finder_plain.proofs.TryLaws.{covered, try_setting, blocked_grown, first-fails, second-fails, both_work}
@@ -33,22 +35,26 @@ yes_no e = let z : ◌≡◌ {A = ℕ} 0 1 = cc in absurd (omega arith)
 
 -- ---- the system of the question's rules
 
-module _ (n : ℕ) (book : List ℕ) (q : Question) (goal : Goal) (k : ℕ) where
+module _ (w : Asked) (k : ℕ) where
   -- what lies ahead by the rules lies ahead in the system
-  pub in_system : (entries : List ℕ) (a : Act) (h : ℕ) {r : Ahead} (s : Ahead) → r ≡ s → Foresees (may_do n book q.team q.held k) entries k a h r
-      → Foresees (may (ruled_system n book q goal) k) entries k a h s
+  pub in_system : (entries : List ℕ) (a : Act) (h : ℕ) {r : Option Ahead} (s : Option Ahead) → r ≡ s → Foresees (asked_may w k) entries k a h r
+      → Foresees (may (asked_system w) k) entries k a h s
   unfolding ruled_system
-  in_system entries a h s e f = subst (Foresees (may_do n book q.team q.held k) entries k a h) e f
+  in_system entries a h s e f = subst (Foresees (asked_may w k) entries k a h) e f
 
-  pub goal_yes : {r : Bool} → r ≡ goal_settled n goal k → r ≡ true → T ((ruled_system n book q goal).goal k)
+  pub asks : {entries : List ℕ} {i : ℕ} → Searches w.n (asked_system w) k entries → i < w.n → Asks (asked_may w k) w.n k i entries
+  unfolding ruled_system
+  asks s l = record { few = s.few; state = s.state; setting = l; size = s.bars.size; posts = λ a t. s.law.post_of_case k a t }
+
+  pub goal_yes : {r : Bool} → r ≡ goal_settled w.n (wanted w.goal) k → r ≡ true → T ((asked_system w).goal k)
   unfolding ruled_system
   goal_yes e f = true→T (sym e ∙ f)
 
-  pub goal_no : {r : Bool} → r ≡ goal_settled n goal k → r ≡ false → T ((ruled_system n book q goal).goal k) → ⊥
+  pub goal_no : {r : Bool} → r ≡ goal_settled w.n (wanted w.goal) k → r ≡ false → T ((asked_system w).goal k) → ⊥
   unfolding ruled_system
-  goal_no e f g = both (goal_settled n goal k) g (false→T (sym e ∙ f))
+  goal_no e f g = both (goal_settled w.n (wanted w.goal) k) g (false→T (sym e ∙ f))
 
-  pub asks-goal : {entries : List ℕ} → Searches n (ruled_system n book q goal) k entries → AsksGoal n goal k entries
+  pub asks-goal : {entries : List ℕ} → Searches w.n (asked_system w) k entries → AsksGoal w.n (wanted w.goal) k entries
   unfolding ruled_system
   asks-goal s = record { few = s.few; there = states_most s.few s.state; unsettled = λ l g. s.bars.unsettled k s.state l g }
 
@@ -58,9 +64,6 @@ not_settled {n} {k} {goal} a l = sym (T→false (goal_settled n goal k) (not_T (
 -- ---- by one try
 
 module _ {n : ℕ} {S : System} {k : ℕ} {entries : List ℕ} (s : Searches n S k entries) where
-  pub asks : {i : ℕ} → i < n → Asks n k i entries
-  asks l = record { few = s.few; state = s.state; setting = l; size = s.bars.size }
-
   pub entry-there : k < 823543
   entry-there = states_most s.few s.state
 
@@ -106,9 +109,6 @@ module _ {n : ℕ} {S : System} {k : ℕ} {entries : List ℕ} (s : Searches n S
 
   -- ---- from a state
 
-  pub remembered : {h : ℕ} → h ≤ get_or entries k 0 → Searched n S k h entries entries false
-  remembered l = record { bars = s.bars; grown = grown-same entries; found = λ z. no_yes z; failed = λ z. l }
-
   pub at-goal : {h : ℕ} → get_or entries k 0 < h → T (S.goal k) → Searched n S k h entries entries true
   at-goal {h} l g =
       let e : suc (h - 1) ≡ h = omega arith in
@@ -123,12 +123,11 @@ module _ {n : ℕ} {S : System} {k : ℕ} {entries : List ℕ} (s : Searches n S
 pub record Trying (n : ℕ) (S : System) (k h : ℕ) (first entries : List ℕ) (number : ℕ) : Type 0 where
   pub bars : Bars n S entries
   pub grown : Grown first entries
-  pub most : number ≤ 3 * n
   pub blocked : (t : ℕ) → t < number → Blocked (may S k) entries k (of_kind (t % 3) (t / 3) 0) (h - 1)
 
 module _ {n : ℕ} {S : System} {k : ℕ} {first : List ℕ} (s : Searches n S k first) where
   pub trying_none : (h : ℕ) → Trying n S k h first first 0
-  trying_none h = record { bars = s.bars; grown = grown-same first; most = omega arith; blocked = λ t l. absurd (omega arith) }
+  trying_none h = record { bars = s.bars; grown = grown-same first; blocked = λ t l. absurd (omega arith) }
 
   module _ {h : ℕ} {entries : List ℕ} {number : ℕ} (y : Trying n S k h first entries number) where
     pub still_searches : Searches n S k entries
@@ -152,7 +151,6 @@ module _ {n : ℕ} {S : System} {k : ℕ} {first : List ℕ} (s : Searches n S k
       try_no l e z = record {
         bars = f.bars;
         grown = grown-more y.grown f.grown;
-        most = omega arith;
         blocked = λ t m. elim (lt_or_ge t number) [
           | inl u ↦ blocked_grown f.grown (y.blocked t u)
           | inr u ↦ (let same : t ≡ number = omega arith in

@@ -1,17 +1,17 @@
 -- What a try comes to: three tries for each setting cover all acts; where both outcomes have plans, there is a plan one higher; where one has none,
 -- the try is blocked, and stays so while entries grow.
-use mathlib.Core.Path.{◌≡◌, refl, sym, ap, ◌∙◌, subst}
+use mathlib.Core.Path.{◌≡◌, refl, sym, ap, ◌∙◌}
 use mathlib.Core.Logic.{◌⊎◌, inl, inr}
 use mathlib.Core.List.{List}
-use mathlib.Core.Bool.{Bool, true, false, ◌&&◌}
+use mathlib.Core.Bool.{Bool, true, false}
 use Prim.Native.Nat.{ℕ, zero, suc, ◌+◌, ◌*◌, ◌/◌, ◌%◌, ◌^◌, ◌≤◌, ◌<◌}
 use native.Mathlib.Nat.{pow-le-pow_right}
 use native.Mathlib.Omega.{arith}
-use lib.Dec.{T, eqb, eqb→eq, ltb, lit<}
+use lib.Dec.{T, eqb, eqb→eq, lit<}
 use lib.Arith.{digits_div, digits_mod}
 use lib.ListN.{get_or}
-use Rattle.ground.specs.Digits.{digit, bit}
-use Rattle.ground.proofs.Bools.{and_left, and_right}
+use Rattle.ground.specs.Digits.{digit}
+use Rattle.ground.proofs.Bools.{and_right}
 use Rattle.knowledge_acts.specs.Acts.{setting_of, post_of, kind_of, of_kind, offered, set_to, look_at}
 use Rattle.knowledge_acts.specs.declared.act.Act.{Act}
 use Rattle.knowledge_acts.specs.declared.act.Act.TheVariants.{Set, Look}
@@ -26,10 +26,7 @@ use Rattle.plan.specs.Layers.{below}
 use Rattle.plan.proofs.Layers.{layer_act}
 use Rattle.question.specs.Permitted.{ruled}
 use Rattle.question.proofs.PermitLaws.{look_given}
-use Rattle.question.proofs.QuestionLaws.{bits-low}
-use Rattle.finder_plain.specs.Tries.{may_do, by_post, Someone, Asks, Blocked, Opens, Foresees}
-use Rattle.finder_plain.specs.declared.ahead.Ahead.{Ahead}
-use Rattle.finder_plain.specs.declared.ahead.Ahead.TheVariants.{Nothing, One, Two}
+use Rattle.finder_plain.specs.Tries.{may_do, by_post, Someone, Asks, Blocked, Opens}
 use Rattle.finder_plain.specs.Entries.{Grown}
 
 -- ---- tries by number
@@ -63,17 +60,6 @@ pub try_setting : (kind i q : ℕ) → setting_of (of_kind kind i q) ≡ i
 try_setting zero i q = refl
 try_setting (suc zero) i q = refl
 try_setting (suc (suc kind)) i q = refl
-
--- the act of a try, by its kind
-module _ (t : ℕ) where
-  pub kind_false : t % 3 ≡ 0 → Set (t / 3) 0 false ≡ of_kind (t % 3) (t / 3) 0
-  kind_false e = rw e refl
-
-  pub kind_true : t % 3 ≡ 1 → Set (t / 3) 0 true ≡ of_kind (t % 3) (t / 3) 0
-  kind_true e = rw e refl
-
-  pub kind_look : (t % 3 ≡ 0 → ⊥) → (t % 3 ≡ 1 → ⊥) → Look (t / 3) 0 ≡ of_kind (t % 3) (t / 3) 0
-  kind_look a b = let e : t % 3 ≡ 2 = omega arith in rw e refl
 
 -- ---- what lies ahead
 
@@ -148,15 +134,16 @@ look_known n book team held {k} {i} ne = record {
 
 -- ---- what is asked of a state and a setting
 
-module _ {n k i : ℕ} {entries : List ℕ} (a : Asks n k i entries) where
+module _ {m : Act → Bool} {n k i : ℕ} {entries : List ℕ} (a : Asks m n k i entries) where
   pub small : k < 7 ^ 7
   small = omega (arith, a.state, pow-le-pow_right {n = 7} (lit< tt) {i = n} {j = 7} a.few)
 
-  pub act_asks : (k < 7 ^ 7) × (i < 7)
-  act_asks = (small, omega (arith, a.few, a.setting))
-
   pub may-asks : (n ≤ 7) × (k < 7 ^ 7)
   may-asks = (a.few, small)
+
+  -- what an act on the setting hands back is the number after it
+  pub after_act : {x y : ℕ} → (k < 7 ^ 7 → i < 7 → x ≡ y) → x ≡ y
+  after_act f = f small (omega (arith, a.few, a.setting))
 
   entry_of : {x : ℕ} → x < 7 ^ n → x < 823543
   entry_of l = omega (arith, l, pow-le-pow_right {n = 7} (lit< tt) {i = n} {j = 7} a.few)
@@ -169,56 +156,3 @@ module _ {n k i : ℕ} {entries : List ℕ} (a : Asks n k i entries) where
 
   pub digit-here : {ds : List ℕ} {d : ℕ} → ds ≡ digits_of k → d ≡ digit_in ds i → d ≡ digit 7 k i
   digit-here e f = f ∙ ap (λ (l : List ℕ). digit_in l i) e ∙ digit_in_lem k i (omega (arith, a.few, a.setting))
-
--- a post that may do it is one of the eight of a byte
-pub post-few : (n : ℕ) (book : List ℕ) (team held k : ℕ) (a : Act) (q : ℕ) → team < 256 → T (may_do n book team held k (by_post a q)) → q < 8
-unfolding offered
-post-few n book team held k (Set i p b) q l t =
-    bits-low 8 team l q (and_right (ltb i n) (bit team q) (and_left (ltb i n && bit team q) (given (ruled n book held (digit 7 k) (Set i q b))) t))
-post-few n book team held k (Look i p) q l t =
-    bits-low 8 team l q (and_right (ltb i n) (bit team q) (and_left (ltb i n && bit team q) (given (ruled n book held (digit 7 k) (Look i q))) t))
-
--- ---- an act by its case
-
-module _ {n k i : ℕ} {entries : List ℕ} {a : Act} where
-  pub asks_set : {q : ℕ} {b : Bool} → a ≡ Set i q b → Asks n k (setting_of a) entries → Asks n k i entries
-  asks_set e h = rw (ap setting_of e) at h
-
-  pub asks_look : {q : ℕ} → a ≡ Look i q → Asks n k (setting_of a) entries → Asks n k i entries
-  asks_look e h = rw (ap setting_of e) at h
-
-module _ {m : Act → Bool} {k i p x y : ℕ} where
-  opens_set : {b : Bool} → Opens m k (Set i 0 b) x y → Opens m k (Set i p b) x y
-  opens_set o = record {
-    someone = record { post = o.someone.post; few = o.someone.few; allowed = o.someone.allowed };
-    first = o.first;
-    second = o.second;
-    only = o.only;
-  }
-
-  opens_look : Opens m k (Look i 0) x y → Opens m k (Look i p) x y
-  opens_look o = record {
-    someone = record { post = o.someone.post; few = o.someone.few; allowed = o.someone.allowed };
-    first = o.first;
-    second = o.second;
-    only = o.only;
-  }
-
--- which post the act names does not count
-module _ (m : Act → Bool) (entries : List ℕ) (k h i p : ℕ) where
-  any-set : (b : Bool) (r : Ahead) → Foresees m entries k (Set i 0 b) h r → Foresees m entries k (Set i p b) h r
-  any-set b Nothing f = record { outcome = f.outcome }
-  any-set b (One x) f = opens_set f
-  any-set b (Two x y) f = opens_set f
-
-  any_look : (r : Ahead) → Foresees m entries k (Look i 0) h r → Foresees m entries k (Look i p) h r
-  any_look Nothing f = record { outcome = f.outcome }
-  any_look (One x) f = opens_look f
-  any_look (Two x y) f = opens_look f
-
-module _ (m : Act → Bool) (entries : List ℕ) (k h : ℕ) {a : Act} {i p : ℕ} (r : Ahead) where
-  pub foresees_set : {b : Bool} → a ≡ Set i p b → Foresees m entries k (Set i 0 b) h r → Foresees m entries k a h r
-  foresees_set {b} e f = subst (λ (a : Act). Foresees m entries k a h r) (sym e) (any-set m entries k h i p b r f)
-
-  pub foresees_look : a ≡ Look i p → Foresees m entries k (Look i 0) h r → Foresees m entries k a h r
-  foresees_look e f = subst (λ (a : Act). Foresees m entries k a h r) (sym e) (any_look m entries k h i p r f)

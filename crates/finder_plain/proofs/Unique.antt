@@ -2,6 +2,7 @@
 use mathlib.Core.Path.{◌≡◌, sym, ap}
 use mathlib.Core.List.{List}
 use Prim.Native.Nat.{ℕ, ◌≤◌, ◌<◌}
+use Rattle.std.proofs.Common.{Result, Ok, Err}
 use native.Mathlib.Omega.{arith}
 use Rattle.refusal.specs.declared.Refusal.{Refusal}
 use Rattle.refusal.specs.Refusals.{place}
@@ -14,20 +15,20 @@ use Rattle.question.proofs.Places.{question_place-small}
 use Rattle.question.proofs.SystemLaws.{lawful, few}
 use Rattle.finder_plain.specs.Finds.{FindsPlain}
 use Rattle.finder_plain.specs.declared.finding.PlainAnswer.{PlainAnswer}
-use Rattle.finder_plain.specs.declared.finding.PlainAnswer.TheVariants.{Reach, Cannot, Refused}
+use Rattle.finder_plain.specs.declared.finding.PlainAnswer.TheVariants.{Reach, Cannot}
 use Rattle.finder_plain.proofs.Theorems.{valid-answered, least_reach, none_cannot}
 
 module _ (book : List ℕ) (q : Question) (goal : Goal) where
-  pub plain_unique : (a b : PlainAnswer) → FindsPlain book q goal a → FindsPlain book q goal b → a ≡ b
-  plain_unique (Reach h) b (n, m, v, l) g = sym (least_reach book q goal v b h l g)
-  plain_unique Cannot b (n, m, v, none) g = sym (none_cannot book q goal v b none g)
-  plain_unique (Refused r) (Reach h) f (n, m, v, l) = absurd (valid-answered book q goal v r f)
-  plain_unique (Refused r) Cannot f (n, m, v, none) = absurd (valid-answered book q goal v r f)
-  plain_unique (Refused r) (Refused s) f g = ap Refused (first_unique f g)
+  pub plain_unique : (a b : Result PlainAnswer Refusal) → FindsPlain book q goal a → FindsPlain book q goal b → a ≡ b
+  plain_unique (Ok (Reach h)) b (n, m, v, l) g = sym (least_reach book q goal v b h l g)
+  plain_unique (Ok Cannot) b (n, m, v, none) g = sym (none_cannot book q goal v b none g)
+  plain_unique (Err r) (Ok (Reach h)) f (n, m, v, l) = absurd (valid-answered book q goal v r f)
+  plain_unique (Err r) (Ok Cannot) f (n, m, v, none) = absurd (valid-answered book q goal v r f)
+  plain_unique (Err r) (Err s) f g = ap Err (first_unique f g)
 
   -- for those who pack the answer into one number
-  pub plain_height-small : (h : ℕ) → FindsPlain book q goal (Reach h) → h ≤ 254
+  pub plain_height-small : (h : ℕ) → FindsPlain book q goal (Ok (Reach h)) → h ≤ 254
   plain_height-small h (n, m, v, l) = omega (arith, rank-small (lawful v) (start_of q) h (few v) l)
 
-  pub plain_place-small : (r : Refusal) → FindsPlain book q goal (Refused r) → place r < 9
+  pub plain_place-small : (r : Refusal) → FindsPlain book q goal (Err r) → place r < 9
   plain_place-small r f = question_place-small book q goal r f

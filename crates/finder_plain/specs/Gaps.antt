@@ -1,10 +1,10 @@
 -- Inside: a gap among the entries, a value that no state of n settings has.
-use Rattle.std.specs.Prelude.{◌≡◌, Bool, true, List, ℕ, ◌^◌, ◌<◌, length, get_or}
+use Rattle.std.specs.Prelude.{◌≡◌, Bool, true, false, List, ℕ, ◌^◌, ◌<◌, length, get_or}
 
--- the values of the first entries are marked 1
-pub record SeenBelow (entries : List ℕ) (count : ℕ) (found : List ℕ) : Type 0 where
+-- the values of the first entries are marked
+pub record SeenBelow (entries : List ℕ) (count : ℕ) (found : List Bool) : Type 0 where
   pub size : length found ≡ 256
-  pub marked : (k : ℕ) → k < count → get_or found (get_or entries k 0) 0 ≡ 1
+  pub marked : (k : ℕ) → k < count → get_or found (get_or entries k 0) false ≡ true
 
 -- a value below top that no state of n settings has
 pub record Gap (n : ℕ) (entries : List ℕ) (top : ℕ) : Type 0 where

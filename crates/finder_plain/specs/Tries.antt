@@ -1,13 +1,13 @@
 -- Inside: a try is an act by whichever post, and what can be told of it before it is tried. m tells which acts may be done at the state k.
-use Rattle.std.specs.Prelude.{◌≡◌, ◌⊎◌, Bool, ◌&&◌, List, ℕ, ◌^◌, ◌≤◌, ◌<◌, T, length, get_or}
+use Rattle.std.specs.Prelude.{◌≡◌, ◌⊎◌, Bool, ◌&&◌, List, Option, Some, None, ℕ, ◌^◌, ◌≤◌, ◌<◌, T, length, get_or}
 use Rattle.ground.specs.Digits.{digit}
-use Rattle.knowledge_acts.specs.Acts.{offered}
+use Rattle.knowledge_acts.specs.Acts.{offered, post_of}
 use Rattle.knowledge_acts.specs.declared.act.Act.{Act}
 use Rattle.knowledge_acts.specs.declared.act.Act.TheVariants.{Set, Look}
 use Rattle.plan.specs.Plans.{given, Outcome}
 use Rattle.question.specs.Permitted.{ruled}
 use Rattle.finder_plain.specs.declared.ahead.Ahead.{Ahead}
-use Rattle.finder_plain.specs.declared.ahead.Ahead.TheVariants.{Nothing, One, Two}
+use Rattle.finder_plain.specs.declared.ahead.Ahead.TheVariants.{One, Two}
 
 -- the team may do the act at the state k, by the book's rules and the held settings: what `may` says of the question's rules, `ruled_system`
 abbrev pub may_do : ℕ → List ℕ → ℕ → ℕ → ℕ → Act → Bool
@@ -24,12 +24,13 @@ pub record Someone (m : Act → Bool) (a : Act) : Type 0 where
   pub few : post < 8
   pub allowed : T (m (by_post a post))
 
--- what is asked of a state, a setting and the entries
-pub record Asks (n k i : ℕ) (entries : List ℕ) : Type 0 where
+-- what is asked of a state, a setting, the entries and the acts that may be done there
+pub record Asks (m : Act → Bool) (n k i : ℕ) (entries : List ℕ) : Type 0 where
   pub few : n ≤ 7
   pub state : k < 7 ^ n
   pub setting : i < n
   pub size : length entries ≡ 823543
+  pub posts : (a : Act) → T (m a) → post_of a < 8
 
 -- whichever post does it, an outcome is k itself or has an entry of at least h
 pub record Blocked (m : Act → Bool) (entries : List ℕ) (k : ℕ) (a : Act) (h : ℕ) : Type 0 where
@@ -42,8 +43,8 @@ pub record Opens (m : Act → Bool) (k : ℕ) (a : Act) (x y : ℕ) : Type 0 whe
   pub second : (q : ℕ) → Outcome k (by_post a q) y
   pub only : (q z : ℕ) → Outcome k (by_post a q) z → (z ≡ x) ⊎ (z ≡ y)
 
--- what lies ahead of a try
-abbrev pub Foresees : (Act → Bool) → List ℕ → ℕ → Act → ℕ → Ahead → Type 0
-Foresees m entries k a h Nothing = Blocked m entries k a h
-Foresees m entries k a h (One x) = Opens m k a x x
-Foresees m entries k a h (Two x y) = Opens m k a x y
+-- what lies ahead of a try: nothing, or its outcomes
+abbrev pub Foresees : (Act → Bool) → List ℕ → ℕ → Act → ℕ → Option Ahead → Type 0
+Foresees m entries k a h None = Blocked m entries k a h
+Foresees m entries k a h (Some (One x)) = Opens m k a x x
+Foresees m entries k a h (Some (Two x y)) = Opens m k a x y

@@ -1,26 +1,25 @@
 // From a question to its answer: refusals 6 to 12 and 31, then height after height.
 ghost use Rattle.std.specs.Prelude.{◌≡◌, suc, ◌-◌, ◌^◌, ◌≤◌};
-ghost use Rattle.knowledge.specs.Goal.{goal_of};
-ghost use Rattle.question.specs.Question.{ruled_system};
+ghost use Rattle.knowledge.specs.Goal.{wanted};
+ghost use Rattle.finder_plain.specs.Asked.{asked_system};
 ghost use Rattle.finder_plain.specs.Entries.{Searches};
 ghost use Rattle.finder_plain.specs.Finds.{AnswersPlainly, FindsPlain};
 
 use crate::STATES;
+use crate::asked::Asked;
 use crate::gap::has_gap;
-use crate::search::works_below;
 use ground::valuations;
-use knowledge::Knowledge;
-use question::{Asked, Question, ask};
+use knowledge::{Goal, Knowledge};
+use question::{Question, ask};
 use refusal::Refusal;
 
-#[derive(Clone, Copy)]
+// The answer to a valid question.
+#[derive(Clone, Copy, Debug, PartialEq, Eq)]
 pub enum PlainAnswer {
     // A plan of this height works, and none that is lower.
     Reach(u8),
     // No plan works.
     Cannot,
-    // The question is not answered.
-    Refused(Refusal),
 }
 
 // How many heights there are to try, 0 to 2^(n+1) - 2.
@@ -33,44 +32,35 @@ fn heights(n: u8) -> u8
 
 // The first height at which a plan works from the start, or "cannot". Each entry must already be a height
 // below which no plan works.
-fn first_height(
-    n: u8,
-    book: &[u8],
-    question: Question,
-    make: &[u8],
-    learn: &[u8],
-    start: u32,
-    entries: &mut [u8; STATES],
-) -> PlainAnswer
-    requires { Searches n (ruled_system n book.now question (goal_of make.now learn.now)) start entries.old }
-    ensures { AnswersPlainly (ruled_system n book.now question (goal_of make.now learn.now)) start result }
+fn first_height(asked: &Asked, start: u32, entries: &mut [u8; STATES]) -> PlainAnswer
+    requires { Searches asked.now.n (asked_system asked.now) start entries.old }
+    ensures { AnswersPlainly (asked_system asked.now) start result }
 {
-    let count = heights(n);
-    let mut height: u8 = 0;
-    while height < count {
+    for height in 0..heights(asked.n) {
         let next = height + 1;
-        if works_below(n, book, question, make, learn, start, next, entries) {
+        if asked.works_below(start, next, entries) {
             return PlainAnswer::Reach(height);
         }
-        if has_gap(n, entries, next) {
+        if has_gap(asked.n, entries, next) {
             return PlainAnswer::Cannot;
         }
-        height = next;
     }
     PlainAnswer::Cannot
 }
 
 // "Reach" with the least height, or "cannot"; or the first of refusals 6 to 12, with 31 between 11
 // and 12.
-pub fn find(book: &[u8], question: Question, make: &[u8], learn: &[u8]) -> PlainAnswer
-    ensures { FindsPlain book.now question (goal_of make.now learn.now) result }
+pub fn find(book: &[u8], question: Question, goal: Goal) -> Result<PlainAnswer, Refusal>
+    ensures { FindsPlain book.now question (wanted goal.entry) result }
 {
-    match ask(book, question, make, learn) {
-        Asked::Not(why) => PlainAnswer::Refused(why),
-        Asked::Valid { settings, posts: _ } => {
-            let start = Knowledge::at_start(question.known, question.values).number();
-            let mut entries = [0u8; STATES];
-            first_height(settings, book, question, make, learn, start, &mut entries)
-        }
-    }
+    let n = ask(book, question, goal)?.settings;
+    let start = Knowledge::at_start(question.known, question.values).number();
+    let mut entries = [0u8; STATES];
+    let asked = Asked {
+        n,
+        book,
+        question,
+        goal,
+    };
+    Ok(first_height(&asked, start, &mut entries))
 }

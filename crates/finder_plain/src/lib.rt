@@ -10,6 +10,7 @@
 
 mod acts;
 mod ahead;
+mod asked;
 mod finding;
 mod gap;
 mod may;

@@ -7,85 +7,57 @@ ghost use Rattle.knowledge.specs.Number.{digit_in};
 ghost use Rattle.knowledge.specs.Judgement.{known};
 ghost use Rattle.plan.specs.Plans.{given};
 ghost use Rattle.question.specs.Permitted.{ruled};
-ghost use Rattle.finder_plain.specs.Tries.{may_do, Someone};
+ghost use Rattle.finder_plain.specs.Tries.{Someone};
+ghost use Rattle.finder_plain.specs.Asked.{asked_may};
 
 use crate::acts::by_post;
+use crate::asked::Asked;
 use book_block::{Right, rule_at};
 use ground::{POSTS_MOST, bit_of};
-use knowledge::{Judgement, Knowledge};
+use knowledge::Knowledge;
 use knowledge_acts::Act;
 use knowledge_judging::{Side, judge};
 
-// The posts that there can be.
-const POSTS: u8 = POSTS_MOST as u8;
-
-// Whether the rule of a post on a setting is known to hold.
-fn holds(state: Knowledge, n: u8, book: &[u8], setting: u8, post: u8, right: Right) -> bool
-    requires { n ≤ 7 }
-    ensures { result ≡ known n (digit_in state.digits) (rule book.now setting post right) }
-{
-    match judge(
-        state,
-        n,
-        Side::Now,
-        book,
-        rule_at(book, setting, post, right),
-    ) {
-        Judgement::TrueAtAll => true,
-        Judgement::FalseAtAll => false,
-        Judgement::Neither => false,
+impl Asked<'_> {
+    // Whether the rule of a post on a setting is known to hold.
+    fn holds(&self, state: Knowledge, setting: u8, post: u8, right: Right) -> bool
+        requires { self.now.n ≤ 7 }
+        ensures { result ≡ known self.now.n (digit_in state.digits) (rule self.now.book.now setting post right) }
+    {
+        let at = rule_at(self.book, setting, post, right);
+        judge(state, self.n, Side::Now, self.book, at).holds()
     }
-}
 
-// Whether the act is permitted, by the held settings and the book's rules: a set that changes nothing too,
-// which `foresee` leaves out before this is asked.
-fn is_permitted(state: Knowledge, n: u8, book: &[u8], held: u8, act: Act) -> bool
-    requires { n ≤ 7 }
-    ensures { result ≡ given (ruled n book.now held (digit_in state.digits) act) }
-{
-    match act {
-        Act::Set {
-            setting,
-            post,
-            value: _,
-        } => {
-            if bit_of(held, setting) {
-                return false;
+    // Whether the act is permitted, by the held settings and the book's rules: a set that changes nothing too,
+    // which `foresee` leaves out before this is asked.
+    fn is_permitted(&self, state: Knowledge, act: Act) -> bool
+        requires { self.now.n ≤ 7 }
+        ensures { result ≡ given (ruled self.now.n self.now.book.now self.now.question.held (digit_in state.digits) act) }
+    {
+        match act {
+            Act::Set { setting, post, .. } => {
+                !bit_of(self.question.held, setting) && self.holds(state, setting, post, Right::Set)
             }
-            holds(state, n, book, setting, post, Right::Set)
-        }
-        Act::Look { setting, post } => {
-            if state.digit(setting) != 0 {
-                return false;
+            Act::Look { setting, post } => {
+                state.digit(setting) == 0 && self.holds(state, setting, post, Right::Look)
             }
-            holds(state, n, book, setting, post, Right::Look)
         }
     }
-}
 
-// Whether the act is one of the team's, and permitted.
-fn may_do(state: Knowledge, n: u8, book: &[u8], team: u8, held: u8, act: Act) -> bool
-    requires { n ≤ 7 }
-    ensures { result ≡ (offered n team act && given (ruled n book.now held (digit_in state.digits) act)) }
-{
-    if !act.offered(n, team) {
-        return false;
+    // Whether the act is one of the team's, and permitted.
+    fn may_do(&self, state: Knowledge, act: Act) -> bool
+        requires { self.now.n ≤ 7 }
+        ensures { result ≡ (offered self.now.n self.now.question.team act && given (ruled self.now.n self.now.book.now self.now.question.held (digit_in state.digits) act)) }
+    {
+        act.offered(self.n, self.question.team) && self.is_permitted(state, act)
     }
-    is_permitted(state, n, book, held, act)
-}
 
-// Whether some post of the team may do the act at the state k. For this crate alone.
-pub(crate) fn someone_may(n: u8, book: &[u8], team: u8, held: u8, k: u32, act: Act) -> bool
-    requires { (n ≤ 7) × (k < 7 ^ 7) }
-    ensures { Tells result (Someone (may_do n book.now team held k) act) }
-{
-    let state = Knowledge::from_number(k);
-    let mut q: u8 = 0;
-    while q < POSTS {
-        if may_do(state, n, book, team, held, by_post(act, q)) {
-            return true;
-        }
-        q += 1;
+    // Whether some post of the team may do the act at the state k. For this crate alone.
+    pub(crate) fn someone_may(&self, k: u32, act: Act) -> bool
+        requires { (self.now.n ≤ 7) × (k < 7 ^ 7) }
+        ensures { Tells result (Someone (asked_may self.now k) act) }
+    {
+        let state = Knowledge::from_number(k);
+        (0..POSTS_MOST as u8).any(|q| self.may_do(state, by_post(act, q)))
     }
-    false
 }

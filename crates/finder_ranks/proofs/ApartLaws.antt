@@ -1,5 +1,5 @@
 -- Running numbers in loops over the settings: the powers of 7 and of 3, the side so far, and a state taken apart so far.
-use mathlib.Core.Path.{◌≡◌, refl, sym, ap, ◌∙◌, subst}
+use mathlib.Core.Path.{◌≡◌, refl, sym, ap, ◌∙◌}
 use mathlib.Core.List.{List}
 use Prim.Native.Nat.{ℕ, ◌+◌, ◌*◌, ◌/◌, ◌%◌, ◌^◌, ◌<◌}
 use native.Mathlib.Nat.{pow-suc, pow-zero}
@@ -67,6 +67,3 @@ module _ {k i now start three d : ℕ} {ds : List ℕ} (a : Apart i k now start 
     now_is = now_up x f;
     start_is = start_up y g;
   }
-
-pub apart_all : {k i n now start : ℕ} {ds : List ℕ} → i ≡ n → Apart i k now start ds → Apart n k now start ds
-apart_all {k} {now = now} {start = start} {ds = ds} e a = subst (λ (x : ℕ). Apart x k now start ds) e a

@@ -37,6 +37,3 @@ module _ {n : ℕ} {made learnt : List ℕ} {set look : List (List ℕ)} {old : 
     pub filled-first : {new : List ℕ} → RanksFit n ranks2 → RanksFit n old → RankTable n (goal_then n made learnt ranks2) set look old new
         → FillsFirst n made learnt ranks2 set look old new
     filled-first there fits t = record { filled = λ r s. t; kept = λ none. absurd (none there fits) }
-
-    pub unfilled_first : (RanksFit n ranks2 → RanksFit n old → ⊥) → FillsFirst n made learnt ranks2 set look old old
-    unfilled_first none = record { filled = λ r s. absurd (none r s); kept = λ n. refl }

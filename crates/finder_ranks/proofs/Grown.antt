@@ -7,8 +7,7 @@ use Prim.Native.Nat.{ℕ, ◌^◌, ◌≤◌, ◌<◌}
 use native.Mathlib.Decide.{ℕ_discrete}
 use native.Mathlib.Omega.{arith}
 use lib.Dec.{T, eqb, eqb→eq, T_not}
-use borrow.Author.Tests.{ne_eqb}
-use lib.ListN.{length, get_or, set, length-set}
+use lib.ListN.{length, get_or, length-set}
 use lib.Seq.{get_or-set_same, get_or-set_other}
 use Rattle.ground.proofs.Bools.{and_left, and_right, decide, eq→eqb, T→true, T→false}
 use Rattle.knowledge_acts.specs.Acts.{look_at}
@@ -91,17 +90,3 @@ offer_taken t k h true s l m = elim (decide (eqb (get_or t k 0) 255)) [
   | inr z ↦ rw (T→false (eqb (get_or t k 0) 255) z) (λ e. T_not (eqb (get_or t k 0) 255) z (eq→eqb e))
 ]
 offer_taken t k h false s l m = elim s [ ]
-
--- the ways through an offer in code
-module _ (t : List ℕ) (k h : ℕ) {so : Bool} where
-  pub offer_no : so ≡ false → t ≡ after_offer so t k h
-  unfolding after_offer
-  offer_no e = rw e
-
-  pub offer_yes : so ≡ true → get_or t k 0 ≡ 255 → set t k h ≡ after_offer so t k h
-  unfolding after_offer
-  offer_yes e n = rw (e, n)
-
-  pub offer_full : so ≡ true → (get_or t k 0 ≡ 255 → ⊥) → t ≡ after_offer so t k h
-  unfolding after_offer
-  offer_full e n = rw (e, ne_eqb (get_or t k 0) 255 n)

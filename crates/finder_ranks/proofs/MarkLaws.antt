@@ -1,6 +1,6 @@
 -- The marks: the knowledge numbers with the same digits but the lowest show sides that differ in the lowest setting alone; and what a loop has stored
 -- between two places goes on by one store, or by one run of stores.
-use mathlib.Core.Path.{◌≡◌, refl, sym, ap, ◌∙◌}
+use mathlib.Core.Path.{◌≡◌, refl, sym, ◌∙◌}
 use mathlib.Core.Logic.{◌⊎◌, inl, inr}
 use mathlib.Core.List.{List}
 use mathlib.Core.Bool.{Bool, true, false, not, ◌&&◌, cond}
@@ -11,7 +11,6 @@ use native.Mathlib.Omega.{arith}
 use lib.Dec.{T, eqb}
 use lib.ListN.{length, get_or, set, length-set}
 use lib.Seq.{get_or-set_same, get_or-set_other}
-use Rattle.ground.proofs.Bools.{lt_or_ge}
 use Rattle.knowledge_acts.specs.Seven.{now_told, start_told}
 use Rattle.knowledge_acts.proofs.Seven.{now_lt, start_lt}
 use Rattle.finder_sides.specs.Sides.{now_side_number, start_side_number}
@@ -25,9 +24,6 @@ use Rattle.finder_ranks.specs.Fills.{goal_then}
 -- ---- runs of stores
 
 module _ {f : ℕ → ℕ} where
-  pub stored_none : (a : ℕ) (old : List ℕ) → Stored f a a old old
-  stored_none a old = record { long = refl; here = λ k h l. absurd (omega arith); before = λ k h. refl; after = λ k h. refl }
-
   pub stored_more : {a e : ℕ} {old mid : List ℕ} (g x : ℕ) → Stored f a e old mid → a ≤ e → e < length mid → g ≡ e + 1 → x ≡ f e
       → Stored f a g old (set mid e x)
   stored_more {a} {e} {old} {mid} g x s up fits next same = record {
@@ -38,17 +34,6 @@ module _ {f : ℕ → ℕ} where
     ];
     before = λ k h. get_or-set_other mid e k x 0 (λ q. absurd (omega arith)) ∙ s.before k h;
     after = λ k h. get_or-set_other mid e k x 0 (λ q. absurd (omega arith)) ∙ s.after k (omega arith);
-  }
-
-  pub stored_both : {a m e : ℕ} {old mid new : List ℕ} (g : ℕ) → Stored f a m old mid → Stored f m e mid new → a ≤ m → m ≤ e → g ≡ e → Stored f a g old new
-  stored_both {a} {m} {e} g s t up down same = record {
-    long = t.long ∙ s.long;
-    here = λ k h l. elim (lt_or_ge k m) [
-      | inl q ↦ t.before k q ∙ s.here k h q
-      | inr q ↦ t.here k q (omega arith)
-    ];
-    before = λ k h. t.before k (omega arith) ∙ s.before k h;
-    after = λ k h. t.after k (omega arith) ∙ s.after k (omega arith);
   }
 
 -- ---- the seven states that differ in setting 0
@@ -148,9 +133,3 @@ marks_then {n} made learnt ranks2 m u = record {
   marked = λ k h. u.here k (omega arith) h ∙ rw (m.marked k h) (mark_both (goal_at n made learnt k) (eqb (rank ranks2 k) 255));
   kept = λ k h. u.after k h ∙ m.kept k h;
 }
-
--- one state more
-pub unmarked_more : {e x y : ℕ} (ranks2 old : List ℕ) {mid : List ℕ} → Stored (λ k. mark_then (get_or ranks2 k 0) (get_or old k 0)) 0 e old mid → e < length mid
-    → y ≡ get_or mid e 0 → x ≡ mark_then (get_or ranks2 e 0) y → Stored (λ k. mark_then (get_or ranks2 k 0) (get_or old k 0)) 0 (e + 1) old (set mid e x)
-unmarked_more {e} {x} ranks2 old s l here q =
-    stored_more (e + 1) x s (omega arith) l refl (q ∙ ap (λ (z : ℕ). mark_then (get_or ranks2 e 0) z) (here ∙ s.after e (omega arith)))

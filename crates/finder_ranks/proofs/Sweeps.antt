@@ -2,18 +2,18 @@
 use mathlib.Core.Path.{◌≡◌, refl, sym, ap, ◌∙◌, subst}
 use mathlib.Core.Logic.{inl, inr}
 use mathlib.Core.List.{List}
-use mathlib.Core.Bool.{Bool, true, false}
+use mathlib.Core.Bool.{true, false}
 use Prim.Native.Nat.{ℕ, ◌+◌, ◌-◌, ◌≤◌, ◌<◌}
 use native.Mathlib.Omega.{arith}
 use mir.Val.{bool_byte}
 use lib.Dec.{eqb}
-use lib.ListN.{get_or}
+use lib.ListN.{length, get_or, take, drop}
+use Rattle.std.proofs.lemmas.List.{get_or-take, get_or-drop, length-take, length-drop}
 use borrow.Author.Tests.{eq-eqb}
 use Rattle.ground.proofs.Bools.{lt_or_ge}
 use Rattle.finder_ranks.specs.Ranks.{rank}
-use Rattle.finder_ranks.specs.Push.{Grew, SetsDone, LooksDone, Pushing, PushedAlong}
+use Rattle.finder_ranks.specs.Push.{Grew, SetsDone, LooksDone, PushedAlong}
 use Rattle.finder_ranks.specs.Round.{Pushed, Visited, Sweeping, Bare, Swept}
-use Rattle.finder_ranks.proofs.Pushes.{pushing_on}
 use Rattle.finder_ranks.proofs.Grown.{same, back, further, sets_stay, looks_stay}
 
 -- what was pushed stays so as the table grows
@@ -28,32 +28,19 @@ pushed_stays g l k m f = record {
 below-one-more : {A : Type 0} (i m : ℕ) → i < m + 1 → (i < m → A) → (i ≡ m → A) → A
 below-one-more i m l f g = elim (lt_or_ge i m) [ inl x ↦ f x | inr x ↦ g (omega arith) ]
 
--- a count of hits
-pub hit_most : (b : Bool) → bool_byte b ≤ 1
-hit_most true = omega arith
-hit_most false = omega arith
-
 -- a test that failed says nothing
-pub not_so : {A : Type 0} → false ≡ true → A
+not_so : {A : Type 0} → false ≡ true → A
 not_so e = let z : ◌≡◌ {A = ℕ} 0 1 = ap bool_byte e in absurd (omega arith)
 
-no_hit : (x r : ℕ) → bool_byte (eqb x r) ≡ 0 → x ≡ r → ⊥
-no_hit x r z e = let one : bool_byte (eqb x r) ≡ 1 = rw (eq-eqb x r e) in absurd (omega arith)
-
-pub bare-more : (r at j count : ℕ) (t : List ℕ) → (count ≡ 0 → Bare r at (at + j) t) → count + bool_byte (eqb (get_or t (at + j) 0) r) ≡ 0
-    → Bare r at (at + (j + 1)) t
-bare-more r at j count t f z k a b e = elim (lt_or_ge k (at + j)) [
-  | inl l ↦ f (omega arith) k a l e
-  | inr l ↦ (let here : at + j ≡ k = omega arith in no_hit (get_or t (at + j) 0) r (omega arith) (ap (λ (x : ℕ). get_or t x 0) here ∙ e))
-]
+-- a part in which the rank is not found
+pub bare_part : (r from to : ℕ) (t : List ℕ) → from ≤ to → to ≤ length t
+    → ((k d : ℕ) → 0 ≤ k → k < length (take (to - from) (drop from t)) → eqb (get_or (take (to - from) (drop from t)) k d) r ≡ false) → Bare r from to t
+bare_part r from to t up fits f k a b e =
+    let here : get_or (take (to - from) (drop from t)) (k - from) 0 ≡ r =
+    get_or-take (to - from) (drop from t) (k - from) 0 (omega arith) ∙ get_or-drop from t (k - from) 0 ∙ ap (λ (x : ℕ). get_or t x 0) (omega arith) ∙ e in
+    not_so (sym (f (k - from) 0 (omega arith) (omega (arith, length-take (to - from) (drop from t), length-drop from t))) ∙ eq-eqb _ r here)
 
 module _ {n : ℕ} {set look : List (List ℕ)} where
-  pub visit_none : {h k : ℕ} {t : List ℕ} → Visited n set look h k 0 t t
-  visit_none {h} {t = t} = record {
-    grew = same h t;
-    pushed = record { sets = λ i l. absurd (omega arith); looks = λ i l. absurd (omega arith) };
-  }
-
   pub visit_more : {h k m : ℕ} {a b c : List ℕ} → h < 255 → Visited n set look h k m a b → PushedAlong n set look h k m b c
       → Visited n set look h k (m + 1) a c
   visit_more {h} {k} {m} {c = c} l v p = record {
@@ -68,14 +55,6 @@ module _ {n : ℕ} {set look : List (List ℕ)} where
     };
   }
 
-  -- all settings are passed
-  pub visit_all : {h k m q : ℕ} {a b : List ℕ} → m ≡ q → Visited n set look h k m a b → Visited n set look h k q a b
-  visit_all {h} {k} {a = a} {b = b} e v = subst (λ (i : ℕ). Visited n set look h k i a b) e v
-
-  -- what a visit is made with, at the settings passed
-  pub visiting_on : {h k m : ℕ} {a b : List ℕ} → Pushing n k h a → Visited n set look h k m a b → Pushing n k h b
-  visiting_on p v = pushing_on p v.grew
-
   pub sweeping_on : {h : ℕ} {a b : List ℕ} → Sweeping n h a → Grew n set look h a b → Sweeping n h b
   sweeping_on s g = record { few = s.few; room = omega (arith, s.room, g.same_length); low = s.low; high = s.high }
 
@@ -87,16 +66,6 @@ module _ {n : ℕ} {set look : List (List ℕ)} where
     few = omega arith;
     still = λ e. refl;
     none = λ e k a b q. f k a b (omega arith);
-  }
-
-  -- one state of that rank
-  pub swept_one : {h k : ℕ} {a b : List ℕ} → rank a k ≡ h - 1 → Visited n set look h k n a b → Swept n set look h k (k + 1) a b 1
-  swept_one {h} {k} {b = b} e v = record {
-    grew = v.grew;
-    pushed = λ j x y q. subst (λ (i : ℕ). Pushed n set look h i n b) (omega arith) v.pushed;
-    few = omega arith;
-    still = λ q. absurd (omega arith);
-    none = λ q j x y w. absurd (omega arith);
   }
 
   -- all states are passed
@@ -122,7 +91,3 @@ module _ {n : ℕ} {set look : List (List ℕ)} where
     where
       earlier : (k : ℕ) → rank c k + 1 ≡ h → rank b k + 1 ≡ h
       earlier k e = omega (arith, e, back g.grew k (omega arith))
-
--- a part of one state
-pub bare-one : (r k : ℕ) (t : List ℕ) → (rank t k ≡ r → ⊥) → Bare r k (k + 1) t
-bare-one r k t f j a b e = f (ap (λ (x : ℕ). rank t x) (omega arith) ∙ e)

@@ -45,14 +45,12 @@ pub(crate) fn take_apart(n: usize, k: u32) -> Parts
     let mut now = 0;
     let mut start = 0;
     let mut three = 1;
-    let mut i = 0;
-    while i < n {
+    for i in 0..n {
         let d = state.digit(i as u8);
         digits[i] = d;
         now += now_of(d) * three;
         start += start_of(d) * three;
         three *= 3;
-        i += 1;
     }
     Parts { digits, now, start }
 }
@@ -62,6 +60,5 @@ pub(crate) fn take_apart(n: usize, k: u32) -> Parts
 pub fn side_of(n: u8, k: u32) -> usize
     ensures { result ≡ now_side_number (min n 7) k }
 {
-    let parts = take_apart(up_to_seven(n) as usize, k);
-    parts.now
+    take_apart(up_to_seven(n) as usize, k).now
 }

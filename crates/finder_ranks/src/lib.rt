@@ -8,7 +8,6 @@ mod counts;
 mod marks;
 mod push;
 mod round;
-mod scan;
 mod spread;
 
 ghost use Rattle.ground.specs.Tells.{Tells};
@@ -28,16 +27,7 @@ pub const NONE: u8 = 255;
 fn has_room(n: u8, ranks: &[u8]) -> bool
     ensures { Tells result (RanksFit n ranks.now) }
 {
-    if n == 0 {
-        return false;
-    }
-    if SETTINGS_MOST < n as usize {
-        return false;
-    }
-    if ranks.len() < numbers(n) {
-        return false;
-    }
-    true
+    n != 0 && n as usize <= SETTINGS_MOST && numbers(n) <= ranks.len()
 }
 
 // Gives every knowledge number of n settings its rank: the least height of a working plan from it, or
@@ -74,10 +64,7 @@ pub fn fill_first(
 )
     ensures { FillsFirst n made.now learnt.now ranks2.now set.now look.now ranks.old ranks.new }
 {
-    if !has_room(n, ranks2) {
-        return;
-    }
-    if !has_room(n, ranks) {
+    if !has_room(n, ranks2) || !has_room(n, ranks) {
         return;
     }
     mark(n, made, learnt, ranks);

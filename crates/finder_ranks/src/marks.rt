@@ -9,16 +9,11 @@ use crate::counts::numbers;
 use finder_sides::SIDES;
 
 // The mark of a state: 0 where both halves of the goal hold, else NONE.
+#[tactic(auto, unfolding(crate::specs::Marks::mark_of))]
 fn mark_of(made: u8, learnt: u8) -> u8
     ensures { result ≡ mark_of made learnt }
 {
-    if made == 0 {
-        return NONE;
-    }
-    if learnt == 0 {
-        return NONE;
-    }
-    0
+    if made != 0 && learnt != 0 { 0 } else { NONE }
 }
 
 // How many digits a setting may have.
@@ -35,12 +30,10 @@ fn mark_seven(n: u8, rest: usize, made: &[u8; SIDES], learnt: &[u8; SIDES], rank
     let parts = take_apart((n - 1) as usize, rest as u32);
     let now = parts.now * 3;
     let start = parts.start * 3;
-    let mut digit: u8 = 0;
-    while digit < DIGITS {
+    for digit in 0..DIGITS {
         let done = made[now + now_of(digit)];
         let known = learnt[start + start_of(digit)];
         ranks[rest * TOGETHER + digit as usize] = mark_of(done, known);
-        digit += 1;
     }
 }
 
@@ -50,22 +43,17 @@ pub(crate) fn mark(n: u8, made: &[u8; SIDES], learnt: &[u8; SIDES], ranks: &mut 
     requires { (0 < n) × (n ≤ 7) × (7 ^ n ≤ length ranks.old) }
     ensures { Marks n (goal_at n made.now learnt.now) ranks.old ranks.new }
 {
-    let rests = numbers(n - 1);
-    let mut rest = 0;
-    while rest < rests {
+    for rest in 0..numbers(n - 1) {
         mark_seven(n, rest, made, learnt, ranks);
-        rest += 1;
     }
 }
 
 // The mark of a state of a first leg: NONE where the second leg has no rank there, else the one it had.
+#[tactic(auto, unfolding(crate::specs::Marks::mark_then))]
 fn mark_then(rank2: u8, mark: u8) -> u8
     ensures { result ≡ mark_then rank2 mark }
 {
-    if rank2 == NONE {
-        return NONE;
-    }
-    mark
+    if rank2 == NONE { NONE } else { mark }
 }
 
 // Takes the mark from each of the 7^n knowledge numbers from which the second leg's ranks know no plan. All
@@ -74,10 +62,7 @@ pub(crate) fn unmark(n: u8, ranks2: &[u8], ranks: &mut [u8])
     requires { (n ≤ 7) × (7 ^ n ≤ length ranks2.now) × (7 ^ n ≤ length ranks.old) }
     ensures { Unmarked n ranks2.now ranks.old ranks.new }
 {
-    let count = numbers(n);
-    let mut k = 0;
-    while k < count {
+    for k in 0..numbers(n) {
         ranks[k] = mark_then(ranks2[k], ranks[k]);
-        k += 1;
     }
 }

@@ -23,6 +23,7 @@ struct Spot {
 }
 
 // Whether the table's entry for the setting and the side is not 0.
+#[tactic(auto, unfolding(finder_sides::specs::Tables::entry))]
 fn may(table: &[[u8; SIDES]; SETTINGS_MOST], i: usize, side: usize) -> bool
     requires { (i < 7) × (side < 2187) }
     ensures { result ≡ ltb 0 (entry table.now i side) }
@@ -31,14 +32,13 @@ fn may(table: &[[u8; SIDES]; SETTINGS_MOST], i: usize, side: usize) -> bool
 }
 
 // Gives the state the rank h, if this is so and it has none yet.
+#[tactic(auto, unfolding(crate::specs::Push::after_offer))]
 fn give(ranks: &mut [u8], at: usize, h: u8, so: bool)
     requires { at < length ranks.old }
     ensures { ranks.new ≡ after_offer so ranks.old at h }
 {
-    if so {
-        if ranks[at] == NONE {
-            ranks[at] = h;
-        }
+    if so && ranks[at] == NONE {
+        ranks[at] = h;
     }
 }
 
@@ -136,12 +136,10 @@ fn by_look(
     requires { Spotted n k i spot.rest spot.side spot.seven spot.three × Pushing n k h ranks.old × (d ≡ digit 7 k i) }
     ensures { PushedLooks n look.now h k i ranks.old ranks.new }
 {
-    if d == 3 {
-        beside(n, k, i, spot, 6, h, look, ranks);
-        return;
-    }
-    if d == 6 {
-        beside(n, k, i, spot, 3, h, look, ranks);
+    match d {
+        3 => beside(n, k, i, spot, 6, h, look, ranks),
+        6 => beside(n, k, i, spot, 3, h, look, ranks),
+        _ => {}
     }
 }
 

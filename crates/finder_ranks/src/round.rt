@@ -3,7 +3,6 @@ ghost use Rattle.std.specs.Prelude.{◌≡◌, ◌+◌, ◌^◌, ◌≤◌, ◌<
 ghost use Rattle.finder_ranks.specs.Push.{Pushing};
 ghost use Rattle.finder_ranks.specs.Round.{Visited, Sweeping, Swept};
 
-use super::scan::{STRETCH, is_bare};
 use crate::apart::take_apart;
 use crate::push::push;
 use finder_sides::SIDES;
@@ -26,12 +25,10 @@ fn visit(
     let side = parts.now;
     let mut seven = 1;
     let mut three = 1;
-    let mut i = 0;
-    while i < n {
+    for i in 0..n {
         push(n, k, side, i, digits[i], seven, three, h, set, look, ranks);
         seven *= 7;
         three *= 3;
-        i += 1;
     }
 }
 
@@ -68,15 +65,16 @@ fn sweep(
     ensures { Swept n set.now look.now h at end ranks.old ranks.new result }
 {
     let mut found = 0;
-    let mut k = at;
-    while k < end {
+    for k in at..end {
         found += visit_if(n, k, h, set, look, ranks);
-        k += 1;
     }
     found
 }
 
-// The same, with a look ahead at a whole stretch.
+// How many entries are looked at ahead, in one search of the library, which takes many at once.
+const STRETCH: usize = 128;
+
+// The same, with a look ahead.
 fn block(
     n: usize,
     at: usize,
@@ -86,10 +84,10 @@ fn block(
     look: &[[u8; SIDES]; SETTINGS_MOST],
     ranks: &mut [u8],
 ) -> usize
-    requires { Sweeping n h ranks.old × (at ≤ end) × (end ≤ at + 64) × (end ≤ 7 ^ n) }
+    requires { Sweeping n h ranks.old × (at ≤ end) × (end ≤ 7 ^ n) }
     ensures { Swept n set.now look.now h at end ranks.old ranks.new result }
 {
-    if is_bare(ranks, at, end, h - 1) {
+    if !ranks[at..end].contains(&(h - 1)) {
         return 0;
     }
     sweep(n, at, end, h, set, look, ranks)
@@ -98,12 +96,9 @@ fn block(
 // Where the stretch that begins at `at` ends.
 fn end_of(at: usize, size: usize) -> usize
     requires { at < size }
-    ensures { (at < result) × (result ≤ at + 64) × (result ≤ size) }
+    ensures { (at < result) × (result ≤ size) }
 {
-    if size - at < STRETCH {
-        return size;
-    }
-    at + STRETCH
+    at + (size - at).min(STRETCH)
 }
 
 // Visits each state of rank h - 1 among the first `size`; how many there are.

@@ -20,11 +20,9 @@ pub(crate) fn spread(
 {
     let settings = n as usize;
     let size = numbers(n);
-    let mut h: u8 = 1;
-    while h < NONE {
+    for h in 1..NONE {
         if round(settings, size, h, set, look, ranks) == 0 {
             return;
         }
-        h += 1;
     }
 }

@@ -1,13 +1,9 @@
--- The powers of up to seven settings: how large they are, and those that code reads from a table, by a computed test over its eight entries.
+-- The powers of up to seven settings: how large they are.
 use mathlib.Core.Path.{◌≡◌}
-use mathlib.Core.List.{List, [], ◌∷◌}
 use Prim.Native.Nat.{ℕ, suc, ◌*◌, ◌^◌, ◌≤◌, ◌<◌}
 use native.Mathlib.Nat.{pow-le-pow_right, pow-suc}
 use native.Mathlib.Omega.{arith}
-use lib.Dec.{T, eqb, eqb→eq, lit<}
-use lib.ListN.{get_or}
-use Rattle.ground.specs.Search.{all}
-use Rattle.ground.proofs.Search.{all-at}
+use lib.Dec.{lit<}
 
 pub sides-most : (n : ℕ) → n ≤ 7 → 3 ^ n ≤ 2187
 sides-most n h = pow-le-pow_right (lit< {m = 0} {n = 3} tt) h
@@ -21,9 +17,3 @@ power_most {n} {i} {power} most h e = rw e (pow_le i (omega arith))
   where
     pow_le : (i : ℕ) → i ≤ 6 → 3 ^ i ≤ 729
     pow_le i h = let w : 3 ^ i * 3 ≤ 2187 = rw (pow-suc 3 i) at (sides-most (suc i) (omega arith)) in omega arith
-
-pub power_of : (b : ℕ) (t : List ℕ) → T (all 8 (λ n. eqb (get_or t n 0) (b ^ n))) → (n : ℕ) → n ≤ 7 → get_or t n 0 ≡ b ^ n
-power_of b t test n h = eqb→eq (get_or t n 0) (b ^ n) (all-at 8 (λ n. eqb (get_or t n 0) (b ^ n)) test n (omega arith))
-
-abbrev pub threes : List ℕ
-threes = 1 ∷ 3 ∷ 9 ∷ 27 ∷ 81 ∷ 243 ∷ 729 ∷ 2187 ∷ []

@@ -17,11 +17,11 @@ use Rattle.ground.proofs.Bits.{bit-bit_and}
 use Rattle.ground.proofs.Table.{zero_at}
 use Rattle.ground.proofs.Digits.{put_same, put_other, put_lt, put-sum}
 use Rattle.knowledge_acts.specs.Seven.{unknown, told}
-use Rattle.knowledge.specs.Fits.{always, is}
+use Rattle.knowledge.specs.Fits.{always}
 use Rattle.knowledge.proofs.Fits.{always-split, always-one}
 use Rattle.finder_sides.proofs.Shown.{three}
 use Rattle.finder_sides.proofs.CountLaws.{sides-most}
-use Rattle.finder_sides.specs.Fill.{FilledAt, Filled}
+use Rattle.finder_sides.specs.Fill.{FilledAt}
 use Rattle.finder_sides.specs.Inner.{SideTells, FilledFrom}
 use Rattle.finder_sides.specs.declared.told.SideTold.{SideTold}
 use Rattle.finder_sides.specs.declared.told.SideTold.TheVariants.{Unknown, Valuation}
@@ -83,11 +83,6 @@ filled_more {n} {x} {y} {e} table next fits above here s l h = elim (ℕ_discret
   | yes q ↦ rw (q, get_or-set_same table x e 0 fits) here
   | no q ↦ rw (get_or-set_other table x s e 0 q) (above s (omega arith) h)
 ]
-
--- where every entry from side 0 on is right
-pub filled-all : {n side : ℕ} {columns : List ℕ} (table : List ℕ) → side ≤ 0 → length table ≡ 2187 → FilledFrom n columns side table
-    → ((s : ℕ) → 3 ^ n ≤ s → get_or table s 0 ≡ 0) → Filled n columns table
-filled-all table none long from past = record { long = long; each = λ s h. from s (omega arith) h; past = past }
 
 pub past_more : (n : ℕ) {x : ℕ} (table : List ℕ) (e : ℕ) → x < 3 ^ n → ((s : ℕ) → 3 ^ n ≤ s → get_or table s 0 ≡ 0)
     → (s : ℕ) → 3 ^ n ≤ s → get_or (set table x e) s 0 ≡ 0

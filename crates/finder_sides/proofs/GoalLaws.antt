@@ -4,11 +4,11 @@ use mathlib.Core.Path.{◌≡◌, refl, sym, ap, ap₂, ◌∙◌}
 use mathlib.Core.Logic.{inl, inr}
 use mathlib.Core.List.{List, []}
 use mathlib.Core.Bool.{Bool, true, false, not, ◌&&◌, ◌||◌}
-use Prim.Native.Nat.{ℕ, zero, suc, ◌+◌, ◌*◌, ◌/◌, ◌%◌, ◌^◌, ◌≤◌, ◌<◌}
+use Prim.Native.Nat.{ℕ, zero, suc, ◌+◌, ◌*◌, ◌%◌, ◌^◌, ◌≤◌, ◌<◌}
 use native.Mathlib.Numerals.{add-one}
 use native.Mathlib.Omega.{arith}
 use lib.Dec.{eqb, lit<}
-use lib.ListN.{length, get_or, take, drop, replicate, get_or-replicate, get_or-eq_default}
+use lib.ListN.{get_or, take, drop, replicate, get_or-replicate, get_or-eq_default}
 use lib.Pow.{pow_mono}
 use Rattle.ground.specs.Digits.{digit, bit}
 use Rattle.ground.specs.Search.{all}
@@ -20,7 +20,7 @@ use Rattle.knowledge.specs.Judgement.{judgement, settles}
 use Rattle.knowledge.proofs.Fits.{always_intro}
 use Rattle.knowledge.proofs.JudgementLaws.{holds-is, settles-is, judgement-take}
 use Rattle.knowledge.specs.Goal.{learn_table}
-use Rattle.finder_sides.specs.Tables.{one_of, SideTable, Made, Learnt}
+use Rattle.finder_sides.specs.Tables.{one_of, SideTable, Made}
 use Rattle.finder_sides.proofs.CountLaws.{sides-most}
 use Rattle.finder_sides.proofs.Ones.{one_lt, side_some}
 use Rattle.finder_sides.specs.Fill.{Filled}
@@ -131,7 +131,3 @@ learnt-more {n} j {a} {b} {t} learn most x y m = record {
     | inr l ↦ get_or-eq_default t 0 (omega (arith, m.long))
   ];
 }
-
-pub learnt-all : {n : ℕ} (j : ℕ) {t : List ℕ} (learn : List ℕ) → LearntTo n learn j t → j ≤ length learn / 16 → length learn / 16 ≤ j
-    → Learnt n learn t
-learnt-all j learn x up down = let e : j ≡ length learn / 16 = omega arith in rw e at x

@@ -42,9 +42,6 @@ pub record BitsFrom (f : ℕ → Bool) (post bits : ℕ) : Type 0 where
   pub small : bits < 2 ^ (8 - post)
   pub tells : (j : ℕ) → post + j < 8 → bit bits j ≡ f (post + j)
 
-pub bits_none : (f : ℕ → Bool) → BitsFrom f 8 0
-bits_none f = record { most = omega arith; small = lit< tt; tells = λ j h. absurd (omega arith) }
-
 module _ {f : ℕ → Bool} {post bits : ℕ} (b : BitsFrom f post bits) (some : 0 < post) where
   more-tells : (x : Bool) → x ≡ f (post - 1) → (j : ℕ) → post - 1 + j < 8 → bit (doubled bits x) j ≡ f (post - 1 + j)
   more-tells x e zero h = low_bit bits x ∙ e ∙ ap f (omega arith)
@@ -57,12 +54,6 @@ module _ {f : ℕ → Bool} {post bits : ℕ} (b : BitsFrom f post bits) (some :
 
   pub bits-more : (x : Bool) → x ≡ f (post - 1) → BitsFrom f (post - 1) (doubled bits x)
   bits-more x e = record { most = omega (arith, b.most); small = more-small x; tells = more-tells x e }
-
-pub bits-all : {f : ℕ → Bool} {post bits : ℕ} → BitsFrom f post bits → post ≤ 0 → (bits < 256) × ((q : ℕ) → q < 8 → bit bits q ≡ f q)
-bits-all {f} {post} {bits} b none =
-    let e : post ≡ 0 = omega arith in
-    let w = rw e at b in
-    (w.small, λ q h. w.tells q (omega arith) ∙ ap f (omega arith))
 
 -- one setting's table, and one that nothing was stored in
 pub record PostRow (n : ℕ) (book : List ℕ) (team : ℕ) (right : Right) (i : ℕ) (row : List ℕ) : Type 0 where

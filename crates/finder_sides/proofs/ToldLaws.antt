@@ -1,12 +1,11 @@
 -- Reading a side from its lowest setting up: the valuation grows by a bit with each setting that is told.
 use mathlib.Core.Path.{◌≡◌, refl, sym, ap, ◌∙◌}
-use Prim.Native.Nat.{ℕ, zero, suc, ◌+◌, ◌*◌, ◌-◌, ◌/◌, ◌%◌, ◌^◌, ◌≤◌, ◌<◌}
-use native.Mathlib.Nat.{pow-zero, pow-suc, pow-succ', div-one, div-div-eq-div-mul, add_comm, mod-lt, lt_of_lt_of_le}
+use Prim.Native.Nat.{ℕ, zero, suc, ◌+◌, ◌*◌, ◌-◌, ◌/◌, ◌%◌, ◌^◌, ◌<◌}
+use native.Mathlib.Nat.{pow-suc, pow-succ', div-div-eq-div-mul, add_comm, mod-lt}
 use native.Mathlib.Numerals.{add-one}
 use native.Mathlib.Omega.{arith}
 use lib.Arith.{digits_lt}
 use lib.Dec.{eqb, lit<}
-use lib.Pow.{pow_mono}
 use Rattle.ground.specs.Digits.{digit, bit}
 use Rattle.ground.proofs.Search.{below_suc}
 use Rattle.ground.proofs.Digits.{digit_top, digit_low}
@@ -19,15 +18,6 @@ pub record ToldTo (side i rest power value weight : ℕ) : Type 0 where
   pub next : weight ≡ 2 ^ i
   pub small : value < 2 ^ i
   pub tells : (j : ℕ) → j < i → digit 3 side j ≡ told (bit value j)
-
-pub nothing_told : (side : ℕ) → ToldTo side 0 side 1 0 1
-nothing_told side = record {
-  left = sym (rw pow-zero (div-one side));
-  place = sym (pow-zero 3);
-  next = sym (pow-zero 2);
-  small = rw pow-zero (lit< tt);
-  tells = λ j h. absurd (omega arith);
-}
 
 -- a digit that is not 0 tells the bit that is one less
 told-one : (d : ℕ) → d < 3 → (d ≡ 0 → ⊥) → d ≡ told (eqb (d - 1) 1)
@@ -65,16 +55,3 @@ module _ {side i rest power value weight : ℕ} (t : ToldTo side i rest power va
       small = rw (as_digits, add-one i, pow-succ') (digits_lt bit-small t.small);
       tells = λ j h. more-tells j (rw (add-one i) at h);
     }
-
-    pub value-most : (n : ℕ) → i < n → n ≤ 7 → value + (rest % 3 - 1) * weight < 128
-    value-most n h most =
-        let w : i + 1 ≤ 7 = omega arith in lt_of_lt_of_le one-more-told.small (pow_mono w)
-
-  pub weight_most : (n : ℕ) → i < n → n ≤ 7 → weight ≤ 128
-  weight_most n h most = rw t.next (let w : i ≤ 7 = omega arith in pow_mono w)
-
-  -- where all n settings are told
-  pub told-all : (n : ℕ) → i ≤ n → n ≤ i → (value < 2 ^ n) × ((j : ℕ) → j < n → digit 3 side j ≡ told (bit value j))
-  told-all n up down =
-      let e : i ≡ n = omega arith in
-      (rw e at t.small, λ j h. t.tells j (omega arith))

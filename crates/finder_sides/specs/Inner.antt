@@ -1,5 +1,5 @@
 -- What this crate's own functions promise one another; no other crate cites it.
-use Rattle.std.specs.Prelude.{◌≡◌, List, Bool, true, false, not, ◌&&◌, ℕ, ◌+◌, ◌*◌, ◌^◌, ◌≤◌, ◌<◌, eqb, length, get_or, drop}
+use Rattle.std.specs.Prelude.{◌≡◌, List, Bool, true, false, not, ◌&&◌, ℕ, ◌+◌, ◌*◌, ◌^◌, ◌≤◌, ◌<◌, eqb, length, get_or}
 use Rattle.ground.specs.Digits.{digit, bit}
 use Rattle.ground.specs.Table.{truth}
 use Rattle.book_block.specs.Rule.{rule}
@@ -8,8 +8,6 @@ use Rattle.knowledge.specs.Judgement.{judgement, settles}
 use Rattle.finder_sides.specs.Tables.{one_of}
 use Rattle.knowledge_acts.specs.Seven.{unknown, told}
 use Rattle.finder_sides.specs.Fill.{FilledAt}
-use Rattle.finder_sides.specs.declared.columns.Judged.{Judged}
-use Rattle.finder_sides.specs.declared.columns.Judged.TheVariants.{Make, Learn, Posts}
 use Rattle.finder_sides.specs.declared.told.SideTold.{SideTold}
 use Rattle.finder_sides.specs.declared.told.SideTold.TheVariants.{Unknown, Valuation}
 
@@ -36,12 +34,6 @@ same_of false = 2
 
 abbrev pub SettledAt : List ℕ → ℕ → ℕ → Type 0
 SettledAt t v x = x ≡ same_of (truth t v)
-
--- what is found at the valuation v
-abbrev pub FoundAt : List ℕ → Judged → ℕ → ℕ → Type 0
-FoundAt bytes Make v x = MadeAt bytes v x
-FoundAt bytes (Learn from) v x = SettledAt (drop from bytes) v x
-FoundAt bytes (Posts team setting right) v x = PostsAt bytes team setting right v x
 
 -- not 0 exactly where the formula is settled
 pub record Settled (n : ℕ) (table t : List ℕ) : Type 0 where

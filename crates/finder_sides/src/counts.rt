@@ -4,16 +4,11 @@ ghost use Rattle.std.specs.Prelude.{◌≡◌, ◌^◌, ◌≤◌, min};
 // The most settings, as a byte.
 const MOST: u8 = ground::SETTINGS_MOST as u8;
 
-const THREES: [usize; 8] = [1, 3, 9, 27, 81, 243, 729, 2187];
-
 // The settings that count: of more than seven, seven.
 pub fn up_to_seven(n: u8) -> u8
     ensures { result ≡ min n 7 }
 {
-    if MOST < n {
-        return MOST;
-    }
-    n
+    n.min(MOST)
 }
 
 // The sides of up to seven settings. For this crate alone.
@@ -21,5 +16,5 @@ pub(crate) fn sides(n: u8) -> usize
     requires { n ≤ 7 }
     ensures { result ≡ 3 ^ n }
 {
-    THREES[n as usize]
+    3usize.pow(n as u32)
 }

@@ -27,9 +27,7 @@ pub(crate) fn fill(n: u8, columns: &[u8; VALUATIONS]) -> [u8; SIDES]
     ensures { Filled n columns.now result }
 {
     let mut table = [0u8; SIDES];
-    let mut side = sides(n);
-    while 0 < side {
-        side -= 1;
+    for side in (0..sides(n)).rev() {
         table[side] = entry_of(n, columns, &table, side);
     }
     table

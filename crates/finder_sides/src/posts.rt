@@ -3,20 +3,18 @@ ghost use Rattle.std.specs.Prelude.{◌≡◌, min};
 ghost use Rattle.finder_sides.specs.Tables.{acting_on, PostTables};
 
 use crate::SIDES;
-use crate::columns::{Judged, columns_of};
+use crate::columns::{columns_of, posts_at};
 use crate::counts::up_to_seven;
 use crate::filled::fill;
 use book_block::Right;
-use ground::{SETTINGS_MOST, bit_of};
+use ground::{Present, SETTINGS_MOST, bit_of};
 
 // The posts of the team that may act on a setting: none where it is held.
+#[tactic(auto, unfolding(crate::specs::Tables::acting_on))]
 fn acting_on(team: u8, held: u8, setting: u8) -> u8
     ensures { result ≡ acting_on team held setting }
 {
-    if bit_of(held, setting) {
-        return 0;
-    }
-    team
+    if bit_of(held, setting) { 0 } else { team }
 }
 
 // For each of the n settings and each side, the posts of the team whose look or set rule is known to
@@ -33,16 +31,13 @@ pub fn posts_allowed(
 {
     let settings = up_to_seven(n);
     let mut tables = [[0u8; SIDES]; SETTINGS_MOST];
-    let mut setting: u8 = 0;
-    while setting < settings {
-        let judged = Judged::Posts {
-            team: acting_on(team, held, setting),
-            setting,
-            right,
-        };
-        let columns = columns_of(book, judged, settings);
+    for setting in 0..settings {
+        let acting = acting_on(team, held, setting);
+        let columns = columns_of(
+            settings,
+            |v| posts_at(book, acting, setting, right, Present(v)),
+        );
         tables[setting as usize] = fill(settings, &columns);
-        setting += 1;
     }
     tables
 }

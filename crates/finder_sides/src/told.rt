@@ -20,17 +20,15 @@ pub(crate) fn told_by(n: u8, side: usize) -> SideTold
     let mut power: usize = 1;
     let mut value: usize = 0;
     let mut weight: usize = 1;
-    let mut i: u8 = 0;
-    while i < n {
+    for _ in 0..n {
         let digit = rest % 3;
         if digit == 0 {
             return SideTold::Unknown(power);
         }
         value += (digit - 1) * weight;
-        rest = rest / 3;
-        power = power * 3;
-        weight = weight * 2;
-        i += 1;
+        rest /= 3;
+        power *= 3;
+        weight *= 2;
     }
     SideTold::Valuation(value)
 }

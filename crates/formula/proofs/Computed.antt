@@ -3,6 +3,7 @@ use mathlib.Core.Path.{◌≡◌, refl, sym, ap, ◌∙◌, subst}
 use mathlib.Core.Logic.{◌⊎◌, inl, inr}
 use mathlib.Core.List.{List, [], ◌∷◌}
 use mathlib.Core.Bool.{Bool, true, false, not, ◌&&◌, ◌||◌, cond}
+use Rattle.std.specs.Prelude.{Result, Ok, Err}
 use Prim.Native.Nat.{ℕ, zero, suc, ◌+◌, ◌<◌}
 use native.Mathlib.Nat.{add-zero, zero-add}
 use native.Mathlib.Omega.{arith}
@@ -19,16 +20,14 @@ use Rattle.formula_grammar.specs.Signs.{is_stray, is_past, Foreign}
 use Rattle.formula_grammar.specs.Automaton.{wants, Verdict, whole, breaks, verdict}
 use Rattle.formula_grammar.proofs.Begins.{whole-sentence}
 use Rattle.formula.specs.Read.{LengthFits, formula_rows, ReadsFormula}
-use Rattle.formula.specs.Computed.{sentence_answer, foreign_answer, formula_answer}
-use Rattle.formula.specs.declared.Answer.{Answer}
-use Rattle.formula.specs.declared.Answer.TheVariants.{Accepted, Refused}
+use Rattle.formula.specs.Computed.{sentence_answer, foreign_answer, formula_answer, without_table}
 use Rattle.formula.proofs.Unique.{accepts_clear}
 use Rattle.formula.proofs.Answers.{no_settings, no_length, foreign_at, broken}
 
 -- what an answer says of the rows
-abbrev pub Told : ℕ → List ℕ → Answer → Type 0
-Told n s Accepted = Clear (formula_rows n s)
-Told n s (Refused r) = First (formula_rows n s) r
+abbrev pub Told : ℕ → List ℕ → Result (Unit {0}) Refusal → Type 0
+Told n s (Ok _) = Clear (formula_rows n s)
+Told n s (Err r) = First (formula_rows n s) r
 
 -- ---- 4
 
@@ -37,7 +36,7 @@ module _ (n : ℕ) (s : List ℕ) (fit : SettingsFit n) (size : LengthFits s) (c
   unfolding sentence_answer
   sentence-told = go (verdict (wants 0) 0 s) refl
     where
-      go : (v : Verdict) → verdict (wants 0) 0 s ≡ v → Told n s (elim v [ whole ↦ Accepted | breaks i ↦ Refused (NotSentence i) ])
+      go : (v : Verdict) → verdict (wants 0) 0 s ≡ v → Told n s (elim v [ whole ↦ Ok tt | breaks i ↦ Err (NotSentence i) ])
       go whole e = clear-past fit (clear-past size (clear-lowest clean (clear-lowest (λ i x. x.0 (whole-sentence s e)) clear_none)))
       go (breaks i) e = broken n s fit size clean i e
 
@@ -48,17 +47,17 @@ abbrev byte_refusal : ℕ → ℕ → Refusal
 byte_refusal c i = cond (is_stray c) (StrayByte i) (LetterPast i)
 
 -- a is the refusal of the first foreign byte, the places counted from i on; or there is none, and a is what is left to be said
-abbrev Met : ℕ → ℕ → List ℕ → Answer → Answer → Type 0
+abbrev Met : ℕ → ℕ → List ℕ → Result (Unit {0}) Refusal → Result (Unit {0}) Refusal → Type 0
 Met n i s later a =
-    ((j : ℕ) × Least (Foreign n s) j × (a ≡ Refused (byte_refusal (get_or s j 0) (i + j)))) ⊎ (((j : ℕ) → Foreign n s j → ⊥) × (a ≡ later))
+    ((j : ℕ) × Least (Foreign n s) j × (a ≡ Err (byte_refusal (get_or s j 0) (i + j)))) ⊎ (((j : ℕ) → Foreign n s j → ⊥) × (a ≡ later))
 
 first-place : (n c : ℕ) (s : List ℕ) → T (is_stray c || is_past n c) → Least (Foreign n (c ∷ s)) 0
 first-place n c s h = record { here = (omega arith, h); none_below = λ j l. absurd (omega (arith, l)) }
 
 -- one more byte in front, which is not foreign
-in-front : (n i c : ℕ) (s : List ℕ) (later a : Answer) → T (not (is_stray c || is_past n c)) → Met n (suc i) s later a → Met n i (c ∷ s) later a
+in-front : (n i c : ℕ) (s : List ℕ) (later a : Result (Unit {0}) Refusal) → T (not (is_stray c || is_past n c)) → Met n (suc i) s later a → Met n i (c ∷ s) later a
 in-front n i c s later a h (inl (j, l, e)) =
-    inl (suc j, further, e ∙ ap (λ (x : ℕ). Refused (byte_refusal (get_or s j 0) x)) (omega arith))
+    inl (suc j, further, e ∙ ap (λ (x : ℕ). Err (byte_refusal (get_or s j 0) x)) (omega arith))
   where
     further : Least (Foreign n (c ∷ s)) (suc j)
     further = record { here = (omega (arith, l.here.0), l.here.1); none_below = λ k m x. below k m x }
@@ -72,13 +71,13 @@ in-front n i c s later a h (inr (none, e)) = inr (clean, e)
     clean zero x = both (is_stray c || is_past n c) x.1 h
     clean (suc k) x = none k (omega (arith, x.0), x.1)
 
-by_byte : (n i c : ℕ) (s : List ℕ) (later rest : Answer) → Met n (suc i) s later rest → (a b : Bool) → is_stray c ≡ a → is_past n c ≡ b
-    → Met n i (c ∷ s) later (cond a (Refused (StrayByte i)) (cond b (Refused (LetterPast i)) rest))
+by_byte : (n i c : ℕ) (s : List ℕ) (later rest : Result (Unit {0}) Refusal) → Met n (suc i) s later rest → (a b : Bool) → is_stray c ≡ a → is_past n c ≡ b
+    → Met n i (c ∷ s) later (cond a (Err (StrayByte i)) (cond b (Err (LetterPast i)) rest))
 by_byte n i c s later rest m true b e f = inl (0, first-place n c s (or_left (is_stray c) (is_past n c) (true→T e)), rw (e, add-zero) refl)
 by_byte n i c s later rest m false true e f = inl (0, first-place n c s (or_right (is_stray c) (is_past n c) (true→T f)), rw (e, add-zero) refl)
 by_byte n i c s later rest m false false e f = in-front n i c s later rest (false→T {a = is_stray c || is_past n c} (rw (e, f) refl)) m
 
-foreign_met : (n i : ℕ) (s : List ℕ) (later : Answer) → Met n i s later (foreign_answer n i s later)
+foreign_met : (n i : ℕ) (s : List ℕ) (later : Result (Unit {0}) Refusal) → Met n i s later (foreign_answer n i s later)
 unfolding foreign_answer
 foreign_met n i [] later = inr (λ j x. omega (arith, x.0), refl)
 foreign_met n i (c ∷ s) later = by_byte n i c s later (foreign_answer n (suc i) s later) (foreign_met n (suc i) s later) (is_stray c) (is_past n c) refl refl
@@ -86,7 +85,7 @@ foreign_met n i (c ∷ s) later = by_byte n i c s later (foreign_answer n (suc i
 module _ (n : ℕ) (s : List ℕ) (fit : SettingsFit n) (size : LengthFits s) where
   bytes-told : Told n s (foreign_answer n 0 s (sentence_answer s))
   bytes-told = elim (foreign_met n 0 s (sentence_answer s)) [
-    | inl (j, l, e) ↦ subst (Told n s) (sym (e ∙ ap (λ (x : ℕ). Refused (byte_refusal (get_or s j 0) x)) (zero-add j))) (foreign_at n s fit size l)
+    | inl (j, l, e) ↦ subst (Told n s) (sym (e ∙ ap (λ (x : ℕ). Err (byte_refusal (get_or s j 0) x)) (zero-add j))) (foreign_at n s fit size l)
     | inr (clean, e) ↦ subst (Told n s) (sym e) (sentence-told n s fit size clean)
   ]
 
@@ -123,12 +122,12 @@ formula_told n s = elim (settings-within n) [
   ]
 ]
 
-told_unique : (n : ℕ) (s : List ℕ) (a b : Answer) (t : List ℕ) → Told n s a → ReadsFormula n s b t → a ≡ b
-told_unique n s Accepted Accepted t p q = refl
-told_unique n s Accepted (Refused r) t p q = first-clear q.0 p
-told_unique n s (Refused r) Accepted t p q = first-clear p (accepts_clear q)
-told_unique n s (Refused r) (Refused x) t p q = ap Refused (first_unique p q.0)
+told_unique : (n : ℕ) (s : List ℕ) (a : Result (Unit {0}) Refusal) (b : Result (List ℕ) Refusal) → Told n s a → ReadsFormula n s b → a ≡ without_table b
+told_unique n s (Ok _) (Ok t) p q = refl
+told_unique n s (Ok _) (Err r) p q = first-clear q p
+told_unique n s (Err r) (Ok t) p q = first-clear p (accepts_clear q)
+told_unique n s (Err r) (Err x) p q = ap Err (first_unique p q)
 
 -- the answer that `read` gives
-pub read_computed : (n : ℕ) (s : List ℕ) (a : Answer) (t : List ℕ) → ReadsFormula n s a t → formula_answer n s ≡ a
-read_computed n s a t p = told_unique n s (formula_answer n s) a t (formula_told n s) p
+pub read_computed : (n : ℕ) (s : List ℕ) (a : Result (List ℕ) Refusal) → ReadsFormula n s a → formula_answer n s ≡ without_table a
+read_computed n s a p = told_unique n s (formula_answer n s) a (formula_told n s) p

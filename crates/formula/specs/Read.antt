@@ -1,22 +1,17 @@
--- What `read` answers, for n settings and the text s; `declared` are the types of src/lib.rt.
-use Rattle.std.specs.Prelude.{◌≡◌, List, [], ◌∷◌, ◌⊎◌, cond, ℕ, suc, ◌≤◌, ◌<◌, length, get_or, take, replicate}
+-- What `read` answers, for n settings and the text s.
+use Rattle.std.specs.Prelude.{◌≡◌, List, [], ◌∷◌, ◌⊎◌, ℕ, suc, ◌≤◌, ◌<◌, length, take, Result, Ok, Err}
 use Rattle.ground.specs.Bounds.{SettingsFit}
 use Rattle.ground.specs.Table.{TableOf}
 use Rattle.refusal.specs.declared.Refusal.{Refusal}
-use Rattle.refusal.specs.declared.Refusal.TheVariants.{Settings, FormulaLength, StrayByte, LetterPast, NotSentence}
+use Rattle.refusal.specs.declared.Refusal.TheVariants.{Settings, FormulaLength, NotSentence}
 use Rattle.refusal.specs.Order.{Row, when, lowest, First}
 use Rattle.formula_grammar.specs.Grammar.{meaning, IsSentence, Begins}
-use Rattle.formula_grammar.specs.Signs.{is_stray, Foreign}
-use Rattle.formula.specs.declared.Answer.{Answer}
-use Rattle.formula.specs.declared.Answer.TheVariants.{Accepted, Refused}
+use Rattle.formula_grammar.specs.Signs.{Foreign}
+use Rattle.formula_grammar.specs.Scans.{foreign_byte}
 
 -- "Formula: 1 to 255 bytes"
 abbrev pub LengthFits : List ℕ → Type 0
 LengthFits s = (1 ≤ length s) × (length s ≤ 255)
-
--- 2 for a byte that no formula has, 3 for a letter at or past n: the refusal of the foreign byte at place i
-abbrev pub foreign_byte : List ℕ → ℕ → Refusal
-foreign_byte s i = cond (is_stray (get_or s i 0)) (StrayByte i) (LetterPast i)
 
 -- "the first i + 1 bytes begin no sentence of any length"
 abbrev pub Breaks : List ℕ → ℕ → Type 0
@@ -43,7 +38,7 @@ pub record Accepts (n : ℕ) (s : List ℕ) (t : List ℕ) : Type 0 where
   pub parsed : IsSentence s
   pub table : TableOf n (meaning parsed.sentence) t
 
--- what `read` gives: the answer, and the 16 bytes beside it, which are all 0 with a refusal
-abbrev pub ReadsFormula : ℕ → List ℕ → Answer → List ℕ → Type 0
-ReadsFormula n s Accepted t = Accepts n s t
-ReadsFormula n s (Refused r) t = First (formula_rows n s) r × (t ≡ replicate 16 0)
+-- what `read` gives: the table, or the refusal
+abbrev pub ReadsFormula : ℕ → List ℕ → Result (List ℕ) Refusal → Type 0
+ReadsFormula n s (Ok t) = Accepts n s t
+ReadsFormula n s (Err r) = First (formula_rows n s) r

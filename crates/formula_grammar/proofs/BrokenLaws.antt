@@ -4,6 +4,7 @@ use mathlib.Core.Path.{◌≡◌, refl, sym, ap, ◌∙◌, subst}
 use mathlib.Core.Logic.{inl, inr}
 use mathlib.Core.List.{List, [], ◌∷◌, ◌++◌, append_assoc}
 use mathlib.Core.Bool.{Bool, true, false, not, ◌||◌, cond}
+use Rattle.std.specs.Prelude.{Result, Err}
 use Prim.Native.Nat.{ℕ, suc, ◌+◌, ◌≤◌, ◌<◌}
 use native.Mathlib.Numerals.{add-one}
 use native.Mathlib.Omega.{arith}
@@ -17,7 +18,6 @@ use Rattle.formula_grammar.specs.Signs.{is_letter}
 use Rattle.formula_grammar.specs.Automaton as A
 use Rattle.formula_grammar.specs.Automaton.{State, wants, dead, step, is_atom, breaks, ends, verdict, stops, Parsed, NoPart, Parses}
 use Rattle.formula_grammar.specs.declared.parts.Part.{Part}
-use Rattle.formula_grammar.specs.declared.parts.Part.TheVariants.{Broken}
 use Rattle.formula_table.specs.declared.Truths.{Truths}
 use Rattle.formula_grammar.proofs.Automaton.{verdict-text, verdict_dies}
 use Rattle.formula_grammar.proofs.Meaning.{Ends, heads, tails, same}
@@ -25,7 +25,7 @@ use Rattle.formula_grammar.proofs.ScanLaws.{letter-high}
 use Rattle.formula_grammar.proofs.PartLaws.{from_byte}
 
 -- what a reader ensures of its answer, once the answer is known
-pub as_broken : (k : Kind) (s : List ℕ) (i : ℕ) {r : Part} {p : ℕ} → r ≡ Broken p → Parses k s i r → NoPart k s i p
+pub as_broken : (k : Kind) (s : List ℕ) (i : ℕ) {r : Result Part ℕ} {p : ℕ} → r ≡ Err p → Parses k s i r → NoPart k s i p
 as_broken k s i e p = subst (Parses k s i) e p
 
 -- ---- steps of the verdict

@@ -3,6 +3,7 @@ use mathlib.Core.Path.{◌≡◌, refl, sym, ap, ap₂, ◌∙◌, subst}
 use mathlib.Core.Logic.{inl, inr}
 use mathlib.Core.List.{List, [], ◌∷◌, ◌++◌, append_assoc, append-nil}
 use mathlib.Core.Bool.{Bool, true, false, not, ◌&&◌, ◌||◌}
+use Rattle.std.specs.Prelude.{Result, Ok}
 use Prim.Native.Nat.{ℕ, suc, ◌+◌, ◌-◌, ◌≤◌, ◌<◌}
 use native.Mathlib.Numerals.{add-one}
 use native.Mathlib.Omega.{arith}
@@ -16,11 +17,10 @@ use Rattle.formula_grammar.specs.Grammar.{Kind, sum, product, unit, Sentence, le
 use Rattle.formula_table.specs.Two.{has, WordsOf}
 use Rattle.formula_grammar.specs.Automaton.{stops, Parsed, Parses}
 use Rattle.formula_grammar.specs.declared.parts.Part.{Part}
-use Rattle.formula_grammar.specs.declared.parts.Part.TheVariants.{Read}
 use Rattle.formula_table.specs.declared.Truths.{Truths}
 
 -- what a reader ensures of its answer, once the answer is known
-pub as_read : (k : Kind) (s : List ℕ) (i : ℕ) {r : Part} {w : Truths} {next : ℕ} → r ≡ Read w next → Parses k s i r → Parsed k s i w next
+pub as_read : (k : Kind) (s : List ℕ) (i : ℕ) {r : Result Part ℕ} {part : Part} → r ≡ Ok part → Parses k s i r → Parsed k s i part.truths part.end
 as_read k s i e p = subst (Parses k s i) e p
 
 -- a byte that is not 0 stands inside the text

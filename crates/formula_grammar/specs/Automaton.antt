@@ -1,13 +1,12 @@
 -- Where a text stops being the beginning of a sentence, computed. After each byte a unit is due (`wants`) or done (`has`), with a count of open
 -- brackets; a byte that fits neither leaves it dead. The readers' promises speak of this; proofs/Begins shows that it is the grammar.
-use Rattle.std.specs.Prelude.{◌≡◌, List, [], ◌∷◌, ◌++◌, Bool, true, not, ◌||◌, cond, ℕ, zero, suc, ◌+◌, T, eqb, length, get_or, drop}
+use Rattle.std.specs.Prelude.{◌≡◌, List, [], ◌∷◌, ◌++◌, Bool, true, not, ◌||◌, cond, ℕ, zero, suc, ◌+◌, T, eqb, length, get_or, drop, Result, Ok, Err}
 use Rattle.ground.specs.Text.{byte}
 use Rattle.formula_grammar.specs.Grammar.{Kind, sum, product, unit, Sentence, text, meaning}
 use Rattle.formula_grammar.specs.Signs.{is_letter}
 use Rattle.formula_table.specs.Two.{WordsOf}
 use Rattle.formula_table.specs.declared.Truths.{Truths}
 use Rattle.formula_grammar.specs.declared.parts.Part.{Part}
-use Rattle.formula_grammar.specs.declared.parts.Part.TheVariants.{Read, Broken}
 
 pub data State : Type 0 where
   wants has : ℕ → State
@@ -62,6 +61,6 @@ pub record NoPart (k : Kind) (s : List ℕ) (i p : ℕ) : Type 0 where
   pub broken : (d : ℕ) → verdict (wants d) i (drop i s) ≡ breaks p
 
 -- what a reader of the given kind finds at place i: a part, or that there is none
-abbrev pub Parses : Kind → List ℕ → ℕ → Part → Type 0
-Parses k s i (Read w next) = Parsed k s i w next
-Parses k s i (Broken p) = NoPart k s i p
+abbrev pub Parses : Kind → List ℕ → ℕ → Result Part ℕ → Type 0
+Parses k s i (Ok part) = Parsed k s i part.truths part.end
+Parses k s i (Err p) = NoPart k s i p

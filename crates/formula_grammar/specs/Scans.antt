@@ -1,12 +1,15 @@
--- What the first look over a text finds.
-use Rattle.std.specs.Prelude.{List, ℕ, T, get_or}
+-- What the first look over a text finds: refusals 2 and 3.
+use Rattle.std.specs.Prelude.{◌≡◌, List, cond, ℕ, get_or, Result, Ok, Err}
 use Rattle.ground.specs.Search.{Least}
-use Rattle.formula_grammar.specs.Signs.{is_stray, is_past, Foreign}
-use Rattle.formula_grammar.specs.declared.signs.Scanned.{Scanned}
-use Rattle.formula_grammar.specs.declared.signs.Scanned.TheVariants.{Clean, Stray, Past}
+use Rattle.refusal.specs.declared.Refusal.{Refusal}
+use Rattle.refusal.specs.declared.Refusal.TheVariants.{StrayByte, LetterPast}
+use Rattle.formula_grammar.specs.Signs.{is_stray, Foreign}
 
--- no foreign byte, or the lowest place of one and of which kind it is
-abbrev pub Scans : ℕ → List ℕ → Scanned → Type 0
-Scans n s Clean = (i : ℕ) → Foreign n s i → ⊥
-Scans n s (Stray i) = Least (Foreign n s) i × T (is_stray (get_or s i 0))
-Scans n s (Past i) = Least (Foreign n s) i × T (is_past n (get_or s i 0))
+-- 2 for a byte that no formula has, 3 for a letter at or past n: the refusal of the foreign byte at place i
+abbrev pub foreign_byte : List ℕ → ℕ → Refusal
+foreign_byte s i = cond (is_stray (get_or s i 0)) (StrayByte i) (LetterPast i)
+
+-- no foreign byte, or the refusal of the one at the lowest place
+abbrev pub Scans : ℕ → List ℕ → Result (Unit {0}) Refusal → Type 0
+Scans n s (Ok _) = (i : ℕ) → Foreign n s i → ⊥
+Scans n s (Err r) = (i : ℕ) × Least (Foreign n s) i × (r ≡ foreign_byte s i)

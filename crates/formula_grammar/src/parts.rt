@@ -9,93 +9,89 @@ use crate::signs::is_letter;
 use formula_table::Truths;
 use ground::peek;
 
-#[derive(Clone, Copy)]
-pub enum Part {
-    // A whole part: its table, and the place after it.
-    Read(Truths, usize),
-    // The first byte with which no sentence goes on; or the text's length, where it ends too soon.
-    Broken(usize),
+// A whole part: its truths, and the place after it.
+#[derive(Clone, Copy, Debug, PartialEq, Eq)]
+pub struct Part {
+    pub truths: Truths,
+    pub end: usize,
 }
 
-// A unit: `~` and a unit, or a sum in round brackets, or a letter, or `0` or `1`.
+// A unit: `~` and a unit, or a sum in round brackets, or a letter, or `0` or `1`. Here and below an `Err` is
+// the first byte with which no sentence goes on; or the text's length, where it ends too soon.
 #[cycle(product_sum_unit)]
-fn unit(text: &[u8], at: usize) -> Part
+fn unit(text: &[u8], at: usize) -> Result<Part, usize>
     ensures { Parses unit text.now at result }
 {
     let c = peek(text, at);
     if c == b'~' {
-        return match unit(text, at + 1) {
-            Part::Read(w, next) => Part::Read(w.negated(), next),
-            Part::Broken(i) => Part::Broken(i),
-        };
+        let part = unit(text, at + 1)?;
+        return Ok(Part {
+            truths: part.truths.negated(),
+            end: part.end,
+        });
     }
     if c == b'(' {
-        return match sum(text, at + 1) {
-            Part::Read(w, next) => {
-                if peek(text, next) == b')' {
-                    Part::Read(w, next + 1)
-                } else {
-                    Part::Broken(next)
-                }
-            }
-            Part::Broken(i) => Part::Broken(i),
-        };
+        let part = sum(text, at + 1)?;
+        if peek(text, part.end) != b')' {
+            return Err(part.end);
+        }
+        return Ok(Part {
+            truths: part.truths,
+            end: part.end + 1,
+        });
     }
     atom(text, at)
 }
 
 // A product: one or more units joined by `&`.
 #[cycle(product_sum_unit)]
-fn product(text: &[u8], at: usize) -> Part
+fn product(text: &[u8], at: usize) -> Result<Part, usize>
     ensures { Parses product text.now at result }
 {
-    match unit(text, at) {
-        Part::Broken(i) => Part::Broken(i),
-        Part::Read(w, next) => {
-            if peek(text, next) != b'&' {
-                return Part::Read(w, next);
-            }
-            match product(text, next + 1) {
-                Part::Broken(i) => Part::Broken(i),
-                Part::Read(more, end) => Part::Read(w.and(more), end),
-            }
-        }
+    let factor = unit(text, at)?;
+    if peek(text, factor.end) != b'&' {
+        return Ok(factor);
     }
+    let rest = product(text, factor.end + 1)?;
+    Ok(Part {
+        truths: factor.truths.and(rest.truths),
+        end: rest.end,
+    })
 }
 
 // A sum: one or more products joined by `|`.
 #[cycle(product_sum_unit)]
-pub fn sum(text: &[u8], at: usize) -> Part
+pub fn sum(text: &[u8], at: usize) -> Result<Part, usize>
     ensures { Parses sum text.now at result }
 {
-    match product(text, at) {
-        Part::Broken(i) => Part::Broken(i),
-        Part::Read(w, after) => {
-            if peek(text, after) != b'|' {
-                return Part::Read(w, after);
-            }
-            match sum(text, after + 1) {
-                Part::Broken(i) => Part::Broken(i),
-                Part::Read(more, end) => Part::Read(w.or(more), end),
-            }
-        }
+    let term = product(text, at)?;
+    if peek(text, term.end) != b'|' {
+        return Ok(term);
     }
+    let rest = sum(text, term.end + 1)?;
+    Ok(Part {
+        truths: term.truths.or(rest.truths),
+        end: rest.end,
+    })
 }
 
 // A unit of one byte, where no `~` and no bracket begins one.
-fn atom(text: &[u8], at: usize) -> Part
+fn atom(text: &[u8], at: usize) -> Result<Part, usize>
     requires { (get_or text.now at 0 ≡ byte "~" → ⊥) × (get_or text.now at 0 ≡ byte "(" → ⊥) }
     ensures { Parses unit text.now at result }
 {
     let c = peek(text, at);
-    if c == b'0' {
-        return Part::Read(Truths::constant(false), at + 1);
-    }
-    if c == b'1' {
-        return Part::Read(Truths::constant(true), at + 1);
-    }
-    if is_letter(c) {
-        return Part::Read(Truths::letter(c - b'a'), at + 1);
-    }
-    Part::Broken(at)
+    let truths = if c == b'0' {
+        Truths::constant(false)
+    } else if c == b'1' {
+        Truths::constant(true)
+    } else if is_letter(c) {
+        Truths::letter(c - b'a')
+    } else {
+        return Err(at);
+    };
+    Ok(Part {
+        truths,
+        end: at + 1,
+    })
 }

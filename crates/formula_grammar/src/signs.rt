@@ -4,85 +4,47 @@ ghost use Rattle.std.specs.Prelude.{◌≡◌};
 ghost use Rattle.formula_grammar.specs.Signs.{is_letter, is_sign, is_stray, is_past};
 ghost use Rattle.formula_grammar.specs.Scans.{Scans};
 
-#[derive(Clone, Copy)]
-pub enum Scanned {
-    // Every byte is one that a formula over n settings may have.
-    Clean,
-    // The byte at this place is none that a formula has, and all before it are clean.
-    Stray(usize),
-    // The letter at this place is at or past n, and all before it are clean.
-    Past(usize),
-}
+use refusal::Refusal;
 
 // A letter, a to g.
 pub fn is_letter(c: u8) -> bool
     ensures { result ≡ is_letter c }
 {
-    if c < b'a' {
-        return false;
-    }
-    c <= b'g'
+    b'a' <= c && c <= b'g'
 }
 
 // A byte of a formula that is no letter.
 fn is_sign(c: u8) -> bool
     ensures { result ≡ is_sign c }
 {
-    if c == b'0' {
-        return true;
-    }
-    if c == b'1' {
-        return true;
-    }
-    if c == b'~' {
-        return true;
-    }
-    if c == b'&' {
-        return true;
-    }
-    if c == b'|' {
-        return true;
-    }
-    if c == b'(' {
-        return true;
-    }
-    c == b')'
+    b"01~&|()".contains(&c)
 }
 
 // A byte that no formula has.
 fn is_stray(c: u8) -> bool
     ensures { result ≡ is_stray c }
 {
-    if is_letter(c) {
-        return false;
-    }
-    !is_sign(c)
+    !is_letter(c) && !is_sign(c)
 }
 
 // A letter at or past n.
 fn is_past(n: usize, c: u8) -> bool
     ensures { result ≡ is_past n c }
 {
-    if is_letter(c) {
-        return n <= (c - b'a') as usize;
-    }
-    false
+    is_letter(c) && n <= (c - b'a') as usize
 }
 
-// The first of either kind.
-pub fn scan(n: usize, text: &[u8]) -> Scanned
+// 2 or 3, at the lowest place of a byte that no formula over n settings has; or nothing, where there is none.
+pub fn scan(n: usize, text: &[u8]) -> Result<(), Refusal>
     ensures { Scans n text.now result }
 {
-    let mut i = 0;
-    while i < text.len() {
-        let c = text[i];
+    for (i, &c) in text.iter().enumerate() {
         if is_stray(c) {
-            return Scanned::Stray(i);
+            return Err(Refusal::StrayByte(i));
         }
         if is_past(n, c) {
-            return Scanned::Past(i);
+            return Err(Refusal::LetterPast(i));
         }
-        i += 1;
     }
-    Scanned::Clean
+    Ok(())
 }

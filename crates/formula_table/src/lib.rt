@@ -3,14 +3,14 @@
 // nothing is refused.
 #![tactic(auto)]
 
-ghost use Rattle.std.specs.Prelude.{◌≡◌, true, false, not, ◌&&◌, ◌||◌, cond, ℕ, ◌<◌, ◌^◌, ltb};
+ghost use Rattle.std.specs.Prelude.{◌≡◌, not, ◌&&◌, ◌||◌, cond, ◌<◌, ◌^◌, ltb};
 ghost use Rattle.ground.specs.Digits.{bit};
 ghost use Rattle.formula_table.specs.Two.{has, WordsOf, words_byte, BytesOf};
 
 use ground::{SETTINGS_MOST, TABLE};
 
 // Bit v of `low` for the valuations below 64, and bit v - 64 of `high` for the others.
-#[derive(Clone, Copy)]
+#[derive(Clone, Copy, Debug, PartialEq, Eq)]
 pub struct Truths {
     pub low: u64,
     pub high: u64,
@@ -136,10 +136,8 @@ impl Truths {
         ensures { BytesOf self result }
     {
         let mut table = [0u8; TABLE];
-        let mut j = 0;
-        while j < TABLE {
+        for j in 0..TABLE {
             table[j] = self.byte(j);
-            j += 1;
         }
         table
     }

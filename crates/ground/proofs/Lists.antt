@@ -7,6 +7,8 @@ use native.Mathlib.Nat.{add-zero, add-suc, suc-add, zero-add, min-eq_left, min-e
 use native.Mathlib.Omega.{arith}
 use native.Mathlib.Numerals.{add-one}
 use Rattle.ground.proofs.Bools.{lt_or_ge}
+use borrow.Rule.Slice.PartMut.{put_mid}
+use Rattle.std.proofs.lemmas.Slice.{put_mid-paste}
 use lib.ListN.{length, get_or, take, drop, set, length-take, length-drop, replicate, length-replicate, take-append-drop, get_or-append}
 use lib.Seq.{ext_get_or, sets, sets-eq, length-take-le, take_all, take-take, take-suc, set_out, length-sets, get_or-append-add, get_or-take, get_or-drop}
 
@@ -50,6 +52,14 @@ write_step room₀ room text to i v h e inv =
 
 pub write_done : (room₀ room text : List ℕ) (to i : ℕ) → length text ≤ i → room ≡ sets room₀ to (take i text) → room ≡ sets room₀ to text
 write_done room₀ room text to i h inv = inv ∙ ap (sets room₀ to) (take_all i text h)
+
+-- what is written to a part of a room that is lent as a slice of its own: k bytes from `at` on
+pub put_sets : (at k : ℕ) (room after run : List ℕ) → after ≡ run → length run ≡ k → at + k ≤ length room → put_mid at k room after ≡ sets room at run
+put_sets at k room after run e len h =
+    put_mid-paste at k room after run k e refl (sym len)
+    ∙ ap (λ (s : List ℕ). take at room ++ s ++ drop (at + k) room) (take_all k run (omega arith))
+    ∙ ap (λ (n : ℕ). take at room ++ run ++ drop (at + n) room) (sym len)
+    ∙ sym (sets-eq run room at (omega arith))
 
 -- the length of a part that is there
 pub length_part : (l : List ℕ) (from n : ℕ) → from + n ≤ length l → length (take n (drop from l)) ≡ n

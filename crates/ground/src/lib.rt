@@ -51,10 +51,7 @@ pub fn peek(bytes: &[u8], at: usize) -> u8
 pub fn bit_of(byte: u8, i: u8) -> bool
     ensures { result ≡ bit byte i }
 {
-    if 8 <= i {
-        return false;
-    }
-    (byte >> i) % 2 == 1
+    i < 8 && (byte >> i) % 2 == 1
 }
 
 // Bit v of the bytes from `from` on, lowest first; bytes that are not there count as 0. A table has
@@ -63,14 +60,7 @@ fn truth_at(bytes: &[u8], from: usize, v: u8) -> bool
     ensures { result ≡ truth (drop from bytes.now) v }
 {
     let step = (v / 8) as usize;
-    if bytes.len() <= from {
-        return false;
-    }
-    if bytes.len() - from <= step {
-        return false;
-    }
-    let byte = bytes[from + step];
-    (byte >> (v % 8)) % 2 == 1
+    from < bytes.len() && step < bytes.len() - from && (bytes[from + step] >> (v % 8)) % 2 == 1
 }
 
 // Whether the table that begins at byte `from` has no bit at or above 2^n.
@@ -80,12 +70,10 @@ pub fn within(bytes: &[u8], from: usize, n: u8) -> bool
     if SETTINGS_MOST <= n as usize {
         return true;
     }
-    let mut v: u8 = 1 << n;
-    while v < 128 {
+    for v in 1 << n..128 {
         if truth_at(bytes, from, v) {
             return false;
         }
-        v += 1;
     }
     true
 }

@@ -11,6 +11,8 @@ use Rattle.knowledge.proofs.state.Knowledge.number.Reads as number
 use Rattle.knowledge.proofs.state.Knowledge.digit.Reads as digit
 use Rattle.knowledge.proofs.state.Knowledge.after_set.Reads as after_set_case
 use Rattle.knowledge.proofs.state.Knowledge.after_look.Reads as after_look
+use Rattle.knowledge.proofs.acts.set_to.Reads as set-to
+use Rattle.knowledge.proofs.acts.look_at.Reads as look-at
 
 -- two states with the same digits are the same state
 same-state : {x y : Knowledge} → x.digits ≡ y.digits → x ≡ y
@@ -33,6 +35,12 @@ after-set_unique κs a x y s p q = same-state (p ∙ sym q)
 
 pub after_look_unique : (κs : _) (a : _) (x y : _) (s : _) → after_look.Post κs a x s → after_look.Post κs a y s → x ≡ y
 after_look_unique κs a x y s p q = same-state (p ∙ sym q)
+
+pub set_to_unique : (κs : _) (a : _) (x y : _) (s : _) → set-to.Post κs a x s → set-to.Post κs a y s → x ≡ y
+set_to_unique κs a x y s p q = p.0 ∙ sym q.0
+
+pub look_at_unique : (κs : _) (a : _) (x y : _) (s : _) → look-at.Post κs a x s → look-at.Post κs a y s → x ≡ y
+look_at_unique κs a x y s p q = p.0 ∙ sym q.0
 
 pub holds_unique : (κs : _) (a : _) (x y : _) (s : _) → holds.Post κs a x s → holds.Post κs a y s → x ≡ y
 holds_unique κs a x y s p q = p ∙ sym q

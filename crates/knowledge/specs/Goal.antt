@@ -1,6 +1,7 @@
 -- A goal: its make formula and its learn formulas, as tables, and when it is settled.
 use Rattle.std.specs.Prelude.{List, Bool, ◌&&◌, ℕ, ◌*◌, ◌/◌, length, take, drop}
 use Rattle.ground.specs.Digits.{digit}
+use Rattle.knowledge.specs.declared.goal.Goal as Lent
 use Rattle.ground.specs.Search.{all}
 use Rattle.knowledge.specs.Judgement.{known, learn_settled}
 
@@ -9,9 +10,12 @@ pub record Goal : Type 0 where
   pub make : List ℕ
   pub learn : List ℕ
 
--- in code a goal is two slices
+-- in code a goal is two slices, a `Goal` of src/goal.rt
 abbrev pub goal_of : List ℕ → List ℕ → Goal
 goal_of make learn = record { make = make; learn = learn }
+
+abbrev pub wanted : Lent.Goal → Goal
+wanted goal = goal_of goal.make.now goal.learn.now
 
 -- "learn tables not 0 to 4 times 16 bytes" are refused: how many there are, and the one with index j
 abbrev pub learn_count : List ℕ → ℕ

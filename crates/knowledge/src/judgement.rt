@@ -3,7 +3,7 @@ ghost use Rattle.std.specs.Prelude.{◌≡◌};
 ghost use Rattle.knowledge.specs.Judgement.{holds, settles};
 
 // True at all valuations that fit, false at all, or neither.
-#[derive(Clone, Copy)]
+#[derive(Clone, Copy, Debug, PartialEq, Eq)]
 pub enum Judgement {
     TrueAtAll,
     FalseAtAll,
@@ -15,21 +15,13 @@ impl Judgement {
     pub fn holds(self) -> bool
         ensures { result ≡ holds self }
     {
-        match self {
-            Judgement::TrueAtAll => true,
-            Judgement::FalseAtAll => false,
-            Judgement::Neither => false,
-        }
+        matches!(self, Judgement::TrueAtAll)
     }
 
     // Whether a learn formula judged so is settled.
     pub fn settles(self) -> bool
         ensures { result ≡ settles self }
     {
-        match self {
-            Judgement::TrueAtAll => true,
-            Judgement::FalseAtAll => true,
-            Judgement::Neither => false,
-        }
+        !matches!(self, Judgement::Neither)
     }
 }

@@ -3,8 +3,12 @@
 // settled: knowledge_judging and finder_sides have the code. It refuses nothing and writes nothing.
 #![tactic(auto)]
 
+mod acts;
+mod goal;
 mod judgement;
 mod state;
 
+pub use acts::{look_at, set_to};
+pub use goal::Goal;
 pub use judgement::Judgement;
 pub use state::Knowledge;

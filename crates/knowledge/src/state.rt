@@ -6,7 +6,7 @@ ghost use Rattle.knowledge.specs.Number.{digit_in, number_of, digits_of, first_a
 use ground::bit_of;
 
 // What a team knows: the digit of each setting.
-#[derive(Clone, Copy)]
+#[derive(Clone, Copy, Debug, PartialEq, Eq)]
 pub struct Knowledge {
     digits: [u8; Knowledge::MOST],
 }
@@ -20,6 +20,7 @@ fn weighed(digit: u8, power: u32) -> u32
 }
 
 // The digit of setting i at the start.
+#[tactic(auto, unfolding(crate::specs::Number::first_at))]
 fn first_at(known: u8, values: u8, i: u8) -> u8
     ensures { result ≡ first_at known values i }
 {
@@ -31,6 +32,7 @@ impl Knowledge {
     pub const MOST: usize = ground::SETTINGS_MOST;
 
     // The state with this knowledge number; of a number with more than seven digits, the lowest seven.
+    #[tactic(auto, unfolding(crate::specs::Number::digits_of, ground::specs::Digits::digit))]
     pub fn from_number(number: u32) -> Self
         ensures { result.digits ≡ digits_of number }
     {
@@ -49,6 +51,7 @@ impl Knowledge {
 
     // The state at the start of a question: bit i of `known` says that setting i is known, and bit i of
     // `values` that it is true.
+    #[tactic(auto, unfolding(crate::specs::Number::first_digits))]
     pub fn at_start(known: u8, values: u8) -> Self
         ensures { result.digits ≡ first_digits known values }
     {
@@ -66,6 +69,7 @@ impl Knowledge {
     }
 
     // The knowledge number: the sum of digit × 7^i.
+    #[tactic(auto, unfolding(crate::specs::Number::sum_of))]
     pub fn number(self) -> u32
         ensures { result ≡ number_of 7 (digit_in self.digits) }
     {

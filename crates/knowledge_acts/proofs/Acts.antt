@@ -10,7 +10,7 @@ use Rattle.ground.proofs.Bools.{and_left, and_right}
 use Rattle.knowledge_acts.specs.Acts.{setting_of, post_of, kind_of, byte_of, plan_byte, of_kind, named, act_of}
 use Rattle.knowledge_acts.specs.declared.act.Act.{Act}
 use Rattle.knowledge_acts.specs.declared.act.Act.TheVariants.{Set, Look}
-use Rattle.knowledge_acts.specs.declared.act.Named.TheVariants.{One}
+use Rattle.std.proofs.Common.{Some}
 
 -- any kind but the two sets is a look
 pub kind_look : (kind i q : ℕ) → (kind ≡ 0 → ⊥) → (kind ≡ 1 → ⊥) → of_kind kind i q ≡ Look i q
@@ -57,7 +57,7 @@ module _ (kind i q : ℕ) (hi : i < 7) (hq : q < 8) where
   post_part : (1 + (kind * 7 + i) * 8 + q - 1) % 8 ≡ q
   post_part = omega arith
 
-pub act_of_byte : (a : Act) → setting_of a < 7 → post_of a < 8 → act_of (byte_of a) ≡ One a
+pub act_of_byte : (a : Act) → setting_of a < 7 → post_of a < 8 → act_of (byte_of a) ≡ Some a
 unfolding act_of byte_of
 act_of_byte a hi hq =
     rw (
@@ -67,7 +67,7 @@ act_of_byte a hi hq =
       setting_part (kind_of a) (setting_of a) (post_of a) hi hq,
       post_part (kind_of a) (setting_of a) (post_of a) hi hq,
     )
-    (ap One (of_kind_of a))
+    (ap Some (of_kind_of a))
 
 -- what `byte` gives, on the seven settings by the eight posts
 pub plan-byte : (a : Act) → setting_of a < 7 → post_of a < 8 → plan_byte a ≡ byte_of a
@@ -75,11 +75,11 @@ unfolding plan_byte
 plan-byte a hi hq = rw (lt-ltb (setting_of a) 7 hi, lt-ltb (post_of a) 8 hq)
 
 -- what a byte names has that byte, a setting below 7 and a post below 8
-named-one : (c : Bool) (x a : Act) → named c x ≡ One a → T c × (x ≡ a)
+named-one : (c : Bool) (x a : Act) → named c x ≡ Some a → T c × (x ≡ a)
 named-one true x a e = (tt, cc)
-named-one false x a e = absurd (let z : ◌≡◌ {A = ℕ} 0 1 = cc in omega arith)
+named-one false x a e = absurd cc
 
-pub byte_of_act : (byte : ℕ) (a : Act) → act_of byte ≡ One a → (byte_of a ≡ byte) × (setting_of a < 7) × (post_of a < 8)
+pub byte_of_act : (byte : ℕ) (a : Act) → act_of byte ≡ Some a → (byte_of a ≡ byte) × (setting_of a < 7) × (post_of a < 8)
 unfolding act_of
 byte_of_act byte a e =
     let kind = (byte - 1) / 56 in

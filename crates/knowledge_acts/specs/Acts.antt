@@ -1,12 +1,10 @@
 -- "Acts, by a post of the team: set a setting false or true, ..; look, .. A look has two outcomes, digits 3 and 6." And "Plans as bytes": the byte
 -- of an act. Where an act is permitted is told by what is known of its rule and of its setting (question/specs/Permitted).
-use Rattle.std.specs.Prelude.{Bool, true, false, ◌&&◌, ℕ, zero, suc, ◌+◌, ◌*◌, ◌/◌, ◌%◌, ◌-◌, ltb, leb}
+use Rattle.std.specs.Prelude.{Bool, true, false, ◌&&◌, ℕ, zero, suc, ◌+◌, ◌*◌, ◌/◌, ◌%◌, ◌-◌, ltb, leb, Option, Some, None}
 use Rattle.ground.specs.Digits.{digit, put, bit}
 use Rattle.knowledge_acts.specs.Seven.{after_set, after_look}
 use Rattle.knowledge_acts.specs.declared.act.Act.{Act}
 use Rattle.knowledge_acts.specs.declared.act.Act.TheVariants.{Set, Look}
-use Rattle.knowledge_acts.specs.declared.act.Named.{Named}
-use Rattle.knowledge_acts.specs.declared.act.Named.TheVariants.{One, Nothing}
 
 abbrev pub setting_of : Act → ℕ
 setting_of (Set i q b) = i
@@ -40,12 +38,12 @@ of_kind zero i q = Set i q false
 of_kind (suc zero) i q = Set i q true
 of_kind (suc (suc kind)) i q = Look i q
 
-abbrev pub named : Bool → Act → Named
-named true a = One a
-named false a = Nothing
+abbrev pub named : Bool → Act → Option Act
+named true a = Some a
+named false a = None
 
 -- the act that a byte names: "168 is the largest", and a stop, 0, is none
-unfoldable pub act_of : ℕ → Named
+unfoldable pub act_of : ℕ → Option Act
 act_of byte = named (ltb 0 byte && leb byte 168) (of_kind ((byte - 1) / 56) ((byte - 1) / 8 % 7) ((byte - 1) % 8))
 
 -- "act of this book and team": the setting is one of the book's n, and the post is one of the team's

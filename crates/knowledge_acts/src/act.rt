@@ -6,20 +6,12 @@ ghost use Rattle.knowledge_acts.specs.Acts.{of_kind, or_none, plan_byte, act_of,
 use ground::bit_of;
 
 // An act, by a post, on a setting: each by its index.
-#[derive(Clone, Copy)]
+#[derive(Clone, Copy, Debug, PartialEq, Eq)]
 pub enum Act {
     // the setting is set to the value
     Set { setting: u8, post: u8, value: bool },
     // the setting's present value is read
     Look { setting: u8, post: u8 },
-}
-
-// What a byte of a plan names.
-#[derive(Clone, Copy)]
-pub enum Named {
-    One(Act),
-    // 0, which is a stop, and what is past the largest act
-    Nothing,
 }
 
 // How many settings and posts a byte can name, and how many bytes the acts of one kind take.
@@ -33,21 +25,14 @@ const KIND: u8 = SETTINGS * POSTS;
 fn of_kind(kind: u8, setting: u8, post: u8) -> Act
     ensures { result ≡ of_kind kind setting post }
 {
-    if kind == 0 {
-        return Act::Set {
+    match kind {
+        0 | 1 => Act::Set {
             setting,
             post,
-            value: false,
-        };
+            value: kind == 1,
+        },
+        _ => Act::Look { setting, post },
     }
-    if kind == 1 {
-        return Act::Set {
-            setting,
-            post,
-            value: true,
-        };
-    }
-    Act::Look { setting, post }
 }
 
 // The byte of an act of this kind, one of the three; 0 past the seven settings or the eight posts.
@@ -55,10 +40,7 @@ fn byte_of(kind: u8, setting: u8, post: u8) -> u8
     requires { kind ≤ 2 }
     ensures { result ≡ or_none (ltb setting 7 && ltb post 8) (1 + (kind * 7 + setting) * 8 + post) }
 {
-    if SETTINGS <= setting {
-        return 0;
-    }
-    if POSTS <= post {
+    if SETTINGS <= setting || POSTS <= post {
         return 0;
     }
     1 + (kind * SETTINGS + setting) * POSTS + post
@@ -68,28 +50,22 @@ fn byte_of(kind: u8, setting: u8, post: u8) -> u8
 fn offers(n: u8, team: u8, setting: u8, post: u8) -> bool
     ensures { result ≡ ltb setting n && bit team post }
 {
-    if setting < n {
-        return bit_of(team, post);
-    }
-    false
+    setting < n && bit_of(team, post)
 }
 
 impl Act {
     // The largest byte of an act: three kinds of 56, 168.
     pub const LAST: u8 = 3 * KIND;
 
-    // The act that a byte names.
-    pub fn of_byte(byte: u8) -> Named
+    // The act that a byte names; none for 0, which is a stop, and for what is past the largest act.
+    pub fn of_byte(byte: u8) -> Option<Act>
         ensures { result ≡ act_of byte }
     {
-        if byte == 0 {
-            return Named::Nothing;
-        }
-        if Act::LAST < byte {
-            return Named::Nothing;
+        if byte == 0 || Act::LAST < byte {
+            return None;
         }
         let place = byte - 1;
-        Named::One(of_kind(place / KIND, place / POSTS % SETTINGS, place % POSTS))
+        Some(of_kind(place / KIND, place / POSTS % SETTINGS, place % POSTS))
     }
 
     // The act's byte; 0, which names no act, for a setting past the seven or a post past the eight.
@@ -101,13 +77,7 @@ impl Act {
                 setting,
                 post,
                 value,
-            } => {
-                if value {
-                    byte_of(1, setting, post)
-                } else {
-                    byte_of(0, setting, post)
-                }
-            }
+            } => byte_of(u8::from(value), setting, post),
             Act::Look { setting, post } => byte_of(2, setting, post),
         }
     }
@@ -117,12 +87,9 @@ impl Act {
         ensures { result ≡ offered n team self }
     {
         match self {
-            Act::Set {
-                setting,
-                post,
-                value: _,
-            } => offers(n, team, setting, post),
-            Act::Look { setting, post } => offers(n, team, setting, post),
+            Act::Set { setting, post, .. } | Act::Look { setting, post } => offers(
+                n, team, setting, post,
+            ),
         }
     }
 }

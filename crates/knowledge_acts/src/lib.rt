@@ -7,5 +7,5 @@
 mod act;
 mod digit;
 
-pub use act::{Act, Named};
+pub use act::Act;
 pub use digit::{after_look, after_set, first_digit, now_side, start_side};

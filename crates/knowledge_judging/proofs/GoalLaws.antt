@@ -3,13 +3,17 @@ use mathlib.Core.Path.{◌≡◌, sym, ap, ◌∙◌}
 use mathlib.Core.Bool.{Bool, true, false, cond, ◌&&◌}
 use mathlib.Core.List.{List}
 use Prim.Native.Nat.{ℕ, ◌*◌, ◌/◌, ◌≤◌, ◌<◌}
+use native.Mathlib.Nat.{zero-add}
 use native.Mathlib.Omega.{arith}
-use lib.Dec.{T, leb, not_T}
+use lib.Dec.{leb, not_T}
 use lib.ListN.{length, drop}
 use borrow.Author.Tests.{le-leb}
+use Rattle.std.specs.Bool.{MatchBool}
+use Rattle.std.specs.List.{range_with_len, AllWithin, HoldsAt}
+use Rattle.std.proofs.lemmas.List.FromFn.{length-range_with_len, get_or-range_with_len}
 use Rattle.ground.specs.Digits.{digit}
 use Rattle.ground.specs.Search.{all}
-use Rattle.ground.proofs.Bools.{T→true, T→false, false→T, both}
+use Rattle.ground.proofs.Bools.{T→true, T→false, false→T, both, true→T}
 use Rattle.ground.proofs.Search.{all-at, all_intro, all_ext}
 use Rattle.knowledge_acts.specs.Seven.{start_told, now_told}
 use Rattle.knowledge.specs.Number.{digit_in, digits_of}
@@ -28,29 +32,35 @@ within_seven n x y h = rw (le-leb n 7 h)
 pub unguarded : (n : ℕ) (b : Bool) → n ≤ 7 → leb n 7 && b ≡ b
 unguarded n b h = rw (le-leb n 7 h)
 
--- the first j learn formulas are settled
-abbrev pub Learnt : ℕ → (ℕ → ℕ) → List ℕ → ℕ → Type 0
-Learnt n d learn j = (i : ℕ) → i < j → T (learn_settled n d (learn_table learn i))
+module _ (n : ℕ) (d : ℕ → ℕ) (learn : List ℕ) where
+  -- what the test of the table with index j tells, as the code has it
+  abbrev pub tested : ℕ → Bool
+  tested j = settles (cond (leb n 7) (judgement n (start_side d) (drop (16 * j) learn)) Neither)
 
-module _ (n : ℕ) (d : ℕ → ℕ) (learn : List ℕ) (few : n ≤ 7) where
   abbrev at_table : ℕ → Bool
   at_table j = learn_settled n d (learn_table learn j)
 
-  -- what the judgement of the table with index j tells
-  pub learn-at : (j : ℕ) {judged : Judgement} {r : Bool} → judged ≡ cond (leb n 7) (judgement n (start_side d) (drop (16 * j) learn)) Neither → r ≡ settles judged
-      → r ≡ learn_settled n d (learn_table learn j)
-  unfolding learn_table learn_settled
-  learn-at j e f = f ∙ ap settles (e ∙ within_seven n _ _ few ∙ sym (judgement-take n (start_side d) (drop (16 * j) learn) few))
+  module _ (few : n ≤ 7) where
+    tested-is : (j : ℕ) → tested j ≡ at_table j
+    unfolding learn_table learn_settled
+    tested-is j = ap settles (within_seven n _ _ few ∙ sym (judgement-take n (start_side d) (drop (16 * j) learn) few))
 
-  pub learnt-all : (j : ℕ) → Learnt n d learn j → length learn / 16 ≤ j → true ≡ all_settled n d learn
-  unfolding all_settled
-  learnt-all j f l = sym (T→true (all (length learn / 16) at_table) (all_intro (length learn / 16) at_table (λ i h. f i (omega arith))))
-
-  pub learnt-not : (j : ℕ) → j < length learn / 16 → at_table j ≡ false → false ≡ all_settled n d learn
-  unfolding all_settled
-  learnt-not j l e =
-      sym (T→false (all (length learn / 16) at_table)
-      (not_T (all (length learn / 16) at_table) (λ t. both (at_table j) (all-at (length learn / 16) at_table t j l) (false→T e))))
+    -- the test of all the learn tables, from first to last
+    pub learnt_told : (r : Bool)
+        → MatchBool r (AllWithin (λ j. tested j ≡ true) (range_with_len 0 (length learn / 16)) 0 (length (range_with_len 0 (length learn / 16))))
+        ((k : ℕ) × (k < length (range_with_len 0 (length learn / 16))) × HoldsAt (λ j. tested j ≡ false) (range_with_len 0 (length learn / 16)) k)
+        → r ≡ all_settled n d learn
+    unfolding all_settled
+    learnt_told true every =
+        sym (T→true (all (length learn / 16) at_table) (all_intro (length learn / 16) at_table (λ i h.
+        let here = get_or-range_with_len 0 (length learn / 16) i 0 h ∙ zero-add i in
+        true→T (sym (tested-is i) ∙ (rw here at (every i 0 (omega arith) (omega (arith, h, length-range_with_len 0 (length learn / 16)))))))))
+    learnt_told false (k, l, none) =
+        let h : k < length learn / 16 = omega (arith, l, length-range_with_len 0 (length learn / 16)) in
+        let here = get_or-range_with_len 0 (length learn / 16) k 0 h ∙ zero-add k in
+        sym (T→false (all (length learn / 16) at_table)
+        (not_T (all (length learn / 16) at_table) (λ t. both (at_table k) (all-at (length learn / 16) at_table t k h)
+        (false→T (sym (tested-is k) ∙ (rw here at (none 0)))))))
 
 -- the digits of a state of k are those of k, as far as up to seven settings look
 module _ (n k : ℕ) (few : n ≤ 7) {ds : List ℕ} (e : ds ≡ digits_of k) where

@@ -1,7 +1,7 @@
 -- The masks of a side, setting by setting: each turn gives both masks one bit more, which the bits below do not see.
 use mathlib.Core.Path.{◌≡◌, refl}
 use mathlib.Core.Bool.{Bool, true, false, cond}
-use Prim.Native.Nat.{ℕ, zero, suc, ◌+◌, ◌*◌, ◌^◌, ◌≤◌, ◌<◌}
+use Prim.Native.Nat.{ℕ, zero, suc, ◌+◌, ◌*◌, ◌%◌, ◌^◌, ◌<◌}
 use native.Mathlib.Nat.{pow-succ', two-pow-succ}
 use native.Mathlib.Numerals.{add-one}
 use native.Mathlib.Omega.{arith}
@@ -16,8 +16,6 @@ use Rattle.knowledge_acts.proofs.Seven.{now_lt, start_lt}
 use Rattle.knowledge_judging.specs.Sides.{told_of}
 use Rattle.knowledge_judging.specs.declared.valuation.Side.{Side}
 use Rattle.knowledge_judging.specs.declared.valuation.Side.TheVariants.{Start, Now}
-use Rattle.knowledge_judging.specs.Walk.{MasksOf}
-use Rattle.knowledge_judging.specs.declared.masks.Masks.{Masks}
 
 -- a mask with one bit more
 module _ (x i : ℕ) (b : Bool) (small : x < 2 ^ i) where
@@ -67,14 +65,6 @@ pub record MasksTo (side : ℕ → ℕ) (i unknowns values : ℕ) : Type 0 where
   pub tells : (j : ℕ) → j < i → side j ≡ cond (bit unknowns j) unknown (told (bit values j))
   pub clear : (j : ℕ) → j < i → T (bit unknowns j) → bit values j ≡ false
 
-pub no_masks : (side : ℕ → ℕ) → MasksTo side 0 0 0
-no_masks side = record {
-  unknowns-small = lit< tt;
-  values_small = lit< tt;
-  tells = λ j l. absurd (omega arith);
-  clear = λ j l. absurd (omega arith);
-}
-
 module _ {side : ℕ → ℕ} {i unknowns values : ℕ} (m : MasksTo side i unknowns values) (three : side i < 3) where
   abbrev unknowns' : ℕ
   unknowns' = unknowns + cond (eqb (side i) 0) (2 ^ i) 0
@@ -112,22 +102,9 @@ module _ {side : ℕ → ℕ} {i unknowns values : ℕ} (m : MasksTo side i unkn
       → MasksTo side (i + 1) (unknowns + u) (values + w)
   masks_turn e p f g = rw (add-one i, f, g, e, p) one_mask_more
 
--- a mask of up to seven settings stays one, and so does the bit
-pub bit-most : {i power : ℕ} → i < 7 → power ≡ 2 ^ i → power * 2 ≤ 128
-bit-most {i} {power} few p = omega (arith, p, two-pow-succ i, pow_mono {i = suc i} {j = 7} few)
-
-pub mask_fits : {x i power b : ℕ} → x < 2 ^ i → i < 7 → power ≡ 2 ^ i → b ≤ power → x + b < 128
-mask_fits {x} {i} {power} {b} small few p l = omega (arith, p, bit-most few p)
-
-pub bit-next : (i : ℕ) {power : ℕ} → power ≡ 2 ^ i → power * 2 ≡ 2 ^ (i + 1)
-bit-next i {power} p = rw (add-one i) (omega (arith, p, two-pow-succ i))
-
--- where all n settings are in the masks
-pub all_masks : {n i : ℕ} {side : ℕ → ℕ} (m : Masks) → MasksTo side i m.unknown m.values → i ≤ n → n ≤ i → MasksOf n side m
-all_masks {n} {i} {side} m x up down =
-    let e : i ≡ n = omega arith in
-    let y : MasksTo side n m.unknown m.values = rw e at x in
-    record { unknown_small = y.unknowns-small; values_small = y.values_small; tells = y.tells; clear = y.clear }
+-- the bit of one of seven settings is a byte
+pub one_bit : {i : ℕ} → i < 7 → 1 * 2 ^ i % 256 ≡ 2 ^ i
+one_bit {i} few = omega (arith, two-pow-succ i, pow_mono {i = suc i} {j = 7} few)
 
 -- what either side tells is one of three
 pub side_three : (side : Side) (d : ℕ → ℕ) (i : ℕ) → told_of side d i < 3

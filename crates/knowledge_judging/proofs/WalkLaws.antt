@@ -9,7 +9,7 @@ use native.Mathlib.Nat.{pow-zero, two-pow-succ}
 use native.Mathlib.Decide.{ℕ_discrete}
 use native.Mathlib.Omega.{arith}
 use lib.Bits.{bit_and, bit_or, and_le_l, and_le_r, or_lt}
-use lib.Dec.{T, eqb, eqb→eq, not_T, lit<}
+use lib.Dec.{T, eqb, eqb→eq, not_T}
 use lib.Pow.{pow_mono}
 use Rattle.ground.specs.Digits.{bit}
 use Rattle.ground.specs.Search.{all}
@@ -17,7 +17,6 @@ use Rattle.ground.specs.Table.{truth}
 use Rattle.ground.proofs.Bits.{bit_zero, bit-suc, bit-bit_and, bit-bit_or, same_bits}
 use Rattle.ground.proofs.Bools.{T→true, T→false, true→T, false→T, and_in, and_true, and_false, and_left, and_right, both, decide, eq→eqb, or_false, lt_or_ge, T_iff}
 use Rattle.ground.proofs.Search.{all-at, all_intro}
-use Rattle.knowledge_acts.specs.Seven.{unknown}
 use Rattle.knowledge.specs.Fits.{fits, implies, is, always}
 use Rattle.knowledge.proofs.Fits.{implies_in, implies_out, agrees-unknown, agrees-told, agrees-only, fits-at, fits_intro, always-at, always_intro}
 use Rattle.knowledge_judging.specs.Walk.{MasksOf, within, next_of, everywhere}
@@ -127,9 +126,6 @@ pub record WalkedTo (value : Bool) (table : List ℕ) (mask values s : ℕ) : Ty
 module _ (value : Bool) (table : List ℕ) (mask values : ℕ) where
   abbrev has : ℕ → Bool
   has t = is value (truth table (bit_or values t))
-
-  pub none_walked : WalkedTo value table mask values 0
-  none_walked = record { small = lit< tt; part = eq→eqb {a = bit_and 0 mask} {b = 0} (omega (arith, and_le_l 0 mask)); passed = λ t l. absurd (omega arith) }
 
   module _ (few : mask < 128) {s : ℕ} (w : WalkedTo value table mask values s) where
     -- the way out where the value is another

@@ -18,10 +18,7 @@ use knowledge::{Judgement, Knowledge};
 fn has_value(side: Side, v: u8, bytes: &[u8], from: usize, value: bool) -> bool
     ensures { result ≡ is value (truth (drop from bytes.now) v) }
 {
-    if value {
-        return side.valuation(v).finds(bytes, from);
-    }
-    !side.valuation(v).finds(bytes, from)
+    side.valuation(v).finds(bytes, from) == value
 }
 
 // The bits of all seven settings.

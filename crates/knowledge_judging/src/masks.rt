@@ -24,10 +24,7 @@ const TRUE: u8 = 2;
 fn bit_if(so: bool, bit: u8) -> u8
     ensures { (result ≡ cond so bit 0) × (result ≤ bit) }
 {
-    if so {
-        return bit;
-    }
-    0
+    if so { bit } else { 0 }
 }
 
 // The masks of a side of up to seven settings.
@@ -37,14 +34,11 @@ pub(crate) fn masks_of(state: Knowledge, n: u8, side: Side) -> Masks
 {
     let mut unknown: u8 = 0;
     let mut values: u8 = 0;
-    let mut bit: u8 = 1;
-    let mut i: u8 = 0;
-    while i < n {
+    for i in 0..n {
+        let bit: u8 = 1 << i;
         let told = side.told(state, i);
         unknown += bit_if(told == UNKNOWN, bit);
         values += bit_if(told == TRUE, bit);
-        bit *= 2;
-        i += 1;
     }
     Masks { unknown, values }
 }

@@ -10,7 +10,7 @@ use knowledge::Knowledge;
 use knowledge_acts::{now_side, start_side};
 
 // The two sides of a knowledge digit.
-#[derive(Clone, Copy)]
+#[derive(Clone, Copy, Debug, PartialEq, Eq)]
 pub enum Side {
     // the value at the start
     Start,

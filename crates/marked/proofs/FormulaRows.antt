@@ -1,12 +1,13 @@
 -- The rows on formulas, by tests that the checker computes: the table that is read, or the refusal; `read_unique` says that there is no other answer.
-use mathlib.Core.Path.{◌≡◌, refl}
+use mathlib.Core.Path.{◌≡◌}
 use mathlib.Core.Logic.{inl, inr}
 use mathlib.Core.List.{List, [], ◌∷◌}
 use mathlib.Core.Bool.{Bool, false, not, ◌&&◌, ◌||◌}
 use Prim.Native.Nat.{ℕ}
 use Prim.Native.String.{String}
 use lib.Dec.{T, eqb, ltb, leb, eqb→eq, ltb→lt, leb→le, le→leb}
-use lib.ListN.{length, get_or, replicate}
+use lib.ListN.{length, get_or}
+use Rattle.std.specs.Prelude.{Result, Ok, Err}
 use Rattle.ground.specs.Bounds.{SettingsFit}
 use Rattle.ground.specs.Search.{Least, all}
 use Rattle.ground.specs.Text.{bytes}
@@ -18,9 +19,8 @@ use Rattle.refusal.specs.declared.Refusal.{Refusal}
 use Rattle.refusal.specs.declared.Refusal.TheVariants.{Settings, FormulaLength, NotSentence}
 use Rattle.refusal.specs.Order.{First}
 use Rattle.refusal.specs.Refusals.{number, place}
-use Rattle.formula.specs.Read.{ReadsFormula, formula_rows, foreign_byte}
-use Rattle.formula.specs.declared.Answer.{Answer}
-use Rattle.formula.specs.declared.Answer.TheVariants.{Accepted, Refused}
+use Rattle.formula_grammar.specs.Scans.{foreign_byte}
+use Rattle.formula.specs.Read.{ReadsFormula, formula_rows}
 use Rattle.formula.proofs.Answers.{no_settings, no_length, foreign_at}
 use Rattle.formula.proofs.ByTest.{foreign, bounds, clean, settings_fit, length-fits, broken-at}
 use Rattle.formula.proofs.Unique.{read_unique}
@@ -28,8 +28,8 @@ use Rattle.marked.specs.Row.{Only, RowHolds, reads, refuses}
 use Rattle.marked.proofs.Tests.{every, pick}
 use Rattle.marked.proofs.Formulas.{table_of, takes, taken}
 
-only : {n : ℕ} {s : List ℕ} (a : Answer) (t : List ℕ) → ReadsFormula n s a t → Only n s a t
-only {n} {s} a t r = record { allowed = r; no_other = λ b u q. read_unique n s b a u t q r }
+only : {n : ℕ} {s : List ℕ} (a : Result (List ℕ) Refusal) → ReadsFormula n s a → Only n s a
+only {n} {s} a r = record { allowed = r; no_other = λ b q. read_unique n s b a q r }
 
 -- ---- a formula that is taken
 
@@ -43,7 +43,7 @@ unfolding reads_so
 row_reads n s byte h =
     let t : List ℕ = table_of n (bytes s) in
     let a = and_left (takes n (bytes s) t) (eqb (get_or t 0 0) byte) h in
-    (t, only Accepted t (taken n (bytes s) t a), eqb→eq (get_or t 0 0) byte (and_right (takes n (bytes s) t) (eqb (get_or t 0 0) byte) h))
+    (t, only (Ok t) (taken n (bytes s) t a), eqb→eq (get_or t 0 0) byte (and_right (takes n (bytes s) t) (eqb (get_or t 0 0) byte) h))
 
 -- ---- a formula that is refused
 
@@ -78,12 +78,12 @@ refuses_so n s x p = every (five n (bytes s) x p) || (every (first n (bytes s) x
 
 module _ (n : ℕ) (s : List ℕ) (x p : ℕ) where
   abbrev Row : Type 0
-  Row = (r : Refusal) × Only n s (Refused r) (replicate 16 0) × (number r ≡ x) × (place r ≡ p)
+  Row = (r : Refusal) × Only n s (Err r) × (number r ≡ x) × (place r ≡ p)
 
   with_refusal : (r : Refusal) → First (formula_rows n s) r → T (numbered r x p) → Row
   with_refusal r f h = (
     r,
-    only (Refused r) (replicate 16 0) (f, refl),
+    only (Err r) f,
     eqb→eq (number r) x (and_left (eqb (number r) x) (eqb (place r) p) h),
     eqb→eq (place r) p (and_right (eqb (number r) x) (eqb (place r) p) h),
   )

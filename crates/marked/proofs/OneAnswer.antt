@@ -7,6 +7,8 @@ use Prim.Native.Nat.{ℕ, zero, suc, ◌^◌, ◌≤◌, ◌<◌}
 use native.Mathlib.Omega.{arith}
 use lib.ListN.{length, get_or, set, drop, length-set}
 use lib.Seq.{get_or-set_same, get_or-set_other}
+use Rattle.std.specs.Prelude.{Result, Ok, Err}
+use Rattle.refusal.specs.declared.Refusal.{Refusal}
 use Rattle.ground.specs.Search.{Least}
 use Rattle.ground.proofs.Bools.{lt_or_ge}
 use Rattle.ground.proofs.Search.{least_unique}
@@ -26,7 +28,7 @@ use Rattle.knowledge.specs.Goal.{Goal}
 use Rattle.finder.specs.Finds.{RanksFilled, Finds, find_rows}
 use Rattle.finder.specs.Answers.{AnswersFrom}
 use Rattle.finder.specs.declared.answer.Answer.{Answer}
-use Rattle.finder.specs.declared.answer.Answer.TheVariants.{Reach, Cannot, Refused}
+use Rattle.finder.specs.declared.answer.Answer.TheVariants.{Reach, Cannot}
 use Rattle.question.proofs.RowLaws.{question_clear}
 
 module _ {book : List ℕ} {q : Question} {goal : Goal} {n m : ℕ} (v : ValidQuestion book q goal n m) (ranks room : List ℕ) (l : 7 ^ n ≤ length ranks) where
@@ -37,7 +39,7 @@ module _ {book : List ℕ} {q : Question} {goal : Goal} {n m : ℕ} (v : ValidQu
       (clear-when (λ h. omega (arith, l, subst (λ (x : ℕ). length ranks < 7 ^ x) (sound-settings v.sound) h)) clear_none)
 
   -- every result allowed answers the question
-  pub answers : (a : Answer) (ranks' room' : List ℕ) → Finds book q goal ranks room a ranks' room' → AnswersFrom (system_of n book q goal) (start_of q) room a room'
+  pub answers : (a : Result Answer Refusal) (ranks' room' : List ℕ) → Finds book q goal ranks room a ranks' room' → AnswersFrom (system_of n book q goal) (start_of q) room a room'
   answers a ranks' room' (inl u) = first-clear u.first clear
   answers a ranks' room' (inr (k, o, d, e, f, g)) =
       let same : k ≡ n = (sound-one d.sound v.sound).0 in
@@ -45,20 +47,20 @@ module _ {book : List ℕ} {q : Question} {goal : Goal} {n m : ℕ} (v : ValidQu
 
 module _ {n : ℕ} {S : System} (law : Lawful n S) (few : n ≤ 7) (k : ℕ) (room room' : List ℕ) where
   pub one_reach : (h : ℕ) (p : Plan) → Least (ReachIn S k) h → Written S k p → length (encode p) ≤ length room
-      → (a : Answer) → AnswersFrom S k room a room' → (a ≡ Reach h (length (encode p))) × (room' ≡ encode p ++ drop (length (encode p)) room)
-  one_reach h p least w big (Reach j size) (m, (s, t, e, f, g)) =
+      → (a : Result Answer Refusal) → AnswersFrom S k room a room' → (a ≡ (Ok (Reach h (length (encode p))))) × (room' ≡ encode p ++ drop (length (encode p)) room)
+  one_reach h p least w big (Ok (Reach j size)) (m, (s, t, e, f, g)) =
       let z : s ≡ p = written_unique law few s p k t w in
       let y : size ≡ length (encode p) = e ∙ ap (λ (x : Plan). length (encode x)) z in
-      (ap₂ Reach (least_unique m least) y, g ∙ ap₂ (λ (x : Plan) (i : ℕ). encode x ++ drop i room) z y)
-  one_reach h p least w big Cannot (m, s) = absurd (m p (written_works S p k w))
-  one_reach h p least w big (Refused r) (e, m, s) =
+      (ap₂ (λ (h size : ℕ). Ok (Reach h size)) (least_unique m least) y, g ∙ ap₂ (λ (x : Plan) (i : ℕ). encode x ++ drop i room) z y)
+  one_reach h p least w big (Ok Cannot) (m, s) = absurd (m p (written_works S p k w))
+  one_reach h p least w big (Err r) (e, m, s) =
       let z : m.0 ≡ p = written_unique law few m.0 p k m.1 w in
       absurd (omega (arith, m.2, ap (λ (x : Plan). length (encode x)) z))
 
-  pub one_cannot : CannotFrom S k → (a : Answer) → AnswersFrom S k room a room' → (a ≡ Cannot) × (room' ≡ room)
-  one_cannot none (Reach j size) (m, (s, t, e, f, g)) = absurd (none s (written_works S s k t))
-  one_cannot none Cannot m = (refl, m.1)
-  one_cannot none (Refused r) (e, m, s) = absurd (none m.0 (written_works S m.0 k m.1))
+  pub one_cannot : CannotFrom S k → (a : Result Answer Refusal) → AnswersFrom S k room a room' → (a ≡ Ok Cannot) × (room' ≡ room)
+  one_cannot none (Ok (Reach j size)) (m, (s, t, e, f, g)) = absurd (none s (written_works S s k t))
+  one_cannot none (Ok Cannot) m = (refl, m.1)
+  one_cannot none (Err r) (e, m, s) = absurd (none m.0 (written_works S m.0 k m.1))
 
 -- a rank table with all ranks in it
 unfoldable fill : (ℕ → ℕ) → ℕ → List ℕ → List ℕ

@@ -6,6 +6,7 @@ use mathlib.Core.Bool.{Bool, false, ◌&&◌}
 use Prim.Native.Nat.{ℕ, ◌≤◌}
 use lib.Dec.{T, eqb, eqb→eq}
 use lib.ListN.{length}
+use Rattle.std.specs.Prelude.{Err}
 use Rattle.ground.proofs.Bools.{and_left, and_right}
 use Rattle.refusal.specs.declared.Refusal.{Refusal}
 use Rattle.refusal.specs.Refusals.{number, place}
@@ -13,7 +14,6 @@ use Rattle.plan.specs.Bytes.{encode}
 use Rattle.plan.specs.Check.{Verdict, accepted, faulty, check}
 use Rattle.plancheck.specs.Refusals.{refusal_of}
 use Rattle.plancheck.specs.Checks.{Checks}
-use Rattle.plancheck.specs.declared.answer.CheckAnswer.TheVariants.{Refused as No}
 use Rattle.plancheck.proofs.OneAnswer.{checks-one}
 use Rattle.sheet_reading.specs.Sheet.{Sheet}
 use Rattle.sheet_reading.specs.Grammar.{WellFormed}
@@ -81,14 +81,14 @@ module _ (s : Sheet) (w : WellFormed s) (a : SheetAsks s (rights_in s) (question
   by_verdict accepted e h = absurd h
   by_verdict (faulty f i) e h =
       let r : Refusal = refusal_of f i in
-      let yes : Checks (book_in s) (question_in s) (goal_in s) plan (No r) =
+      let yes : Checks (book_in s) (question_in s) (goal_in s) plan (Err r) =
       inr (f, i, refl, record { n = s.size.settings; m = s.size.posts; valid = asked-valid w a; short = short; judged = e })
       in (
         r,
         eqb→eq (number r) x (and_left (eqb (number r) x) (eqb (place r) p) h),
         eqb→eq (place r) p (and_right (eqb (number r) x) (eqb (place r) p) h),
         yes,
-        λ answer k. checks-one (book_in s) (question_in s) (goal_in s) plan answer (No r) k yes,
+        λ answer k. checks-one (book_in s) (question_in s) (goal_in s) plan answer (Err r) k yes,
       )
 
   pub judged : T (fault_so (check (system_in s) (start_in s) plan) x p) → Of (stated s) (Faults plan x p)

@@ -1,6 +1,6 @@
 -- A row of the table of marked examples: what is asked and what the answer is. `RowHolds` is what a row says: that the answer is one that the public
 -- function's contract allows, and that the contract allows no other. Every formula stands in a row as its text.
-use Rattle.std.specs.Prelude.{◌≡◌, List, [], ◌∷◌, ◌++◌, ℕ, ◌^◌, ◌≤◌, length, get_or, drop, replicate}
+use Rattle.std.specs.Prelude.{◌≡◌, List, [], ◌∷◌, ◌++◌, ℕ, ◌^◌, ◌≤◌, length, get_or, drop, Result, Ok, Err}
 use Prim.Native.String.{String}
 use Rattle.ground.specs.Text.{bytes}
 use Rattle.book_block.specs.Check.{check}
@@ -14,16 +14,12 @@ use Rattle.question.specs.declared.Question.{Question}
 use Rattle.finder.specs.declared.answer.Answer as F
 use Rattle.finder.specs.declared.answer.Answer.TheVariants.{Reach, Cannot}
 use Rattle.plancheck.specs.Checks.{Checks}
-use Rattle.plancheck.specs.declared.answer.CheckAnswer.{CheckAnswer}
-use Rattle.plancheck.specs.declared.answer.CheckAnswer.TheVariants.{Refused as No}
 use Rattle.print_answer.specs.Printed.{fitted}
 use Rattle.sheet_rules.specs.Rules.{Rule}
 use Rattle.sheet_reading.specs.Sheet.{Sheet}
 use Rattle.sheet_reading.specs.Reading.{Meaning, refused, stated, sheet_meaning}
 use Rattle.sheet.specs.Answer.{SheetAsks, sheet_book, AnswersSheet}
 use Rattle.formula.specs.Read.{ReadsFormula}
-use Rattle.formula.specs.declared.Answer.{Answer}
-use Rattle.formula.specs.declared.Answer.TheVariants.{Accepted, Refused}
 
 -- the rule of a setting for a post, both as indexes, with its formula
 abbrev pub rule : Right → (setting post : ℕ) → String → Rule
@@ -47,10 +43,10 @@ pub data Row : Type 0 where
   -- a sheet with a question that no plan answers, and all that is printed
   sheet_cannot : (sheet printed : String) → Row
 
--- `formula::read` gives this answer with this table, and no other
-pub record Only (n : ℕ) (s : List ℕ) (answer : Answer) (table : List ℕ) : Type 0 where
-  pub allowed : ReadsFormula n s answer table
-  pub no_other : (b : Answer) (u : List ℕ) → ReadsFormula n s b u → (b ≡ answer) × (u ≡ table)
+-- `formula::read` gives this answer, and no other
+pub record Only (n : ℕ) (s : List ℕ) (answer : Result (List ℕ) Refusal) : Type 0 where
+  pub allowed : ReadsFormula n s answer
+  pub no_other : (b : Result (List ℕ) Refusal) → ReadsFormula n s b → b ≡ answer
 
 -- a claim about the book of a question, the question and its goal, over n settings
 abbrev pub Claim : Type 1
@@ -66,21 +62,21 @@ Of (stated s) Claims = (rights : List ℕ) × (q : Question) × (goal : Goal) ×
 abbrev pub Reaches : ℕ → List ℕ → Claim
 Reaches h plan n book q goal =
     (ranks room : List ℕ) → 7 ^ n ≤ length ranks → length plan ≤ length room
-    → ((ranks' : List ℕ) × Finds book q goal ranks room (Reach h (length plan)) ranks' (plan ++ drop (length plan) room))
-    × ((answer : F.Answer) (ranks' room' : List ℕ) → Finds book q goal ranks room answer ranks' room'
-    → (answer ≡ Reach h (length plan)) × (room' ≡ plan ++ drop (length plan) room))
+    → ((ranks' : List ℕ) × Finds book q goal ranks room (Ok (Reach h (length plan))) ranks' (plan ++ drop (length plan) room))
+    × ((answer : Result F.Answer Refusal) (ranks' room' : List ℕ) → Finds book q goal ranks room answer ranks' room'
+    → (answer ≡ (Ok (Reach h (length plan)))) × (room' ≡ plan ++ drop (length plan) room))
 
 abbrev pub NoneReaches : Claim
 NoneReaches n book q goal =
     (ranks room : List ℕ) → 7 ^ n ≤ length ranks
-    → ((ranks' : List ℕ) × Finds book q goal ranks room Cannot ranks' room)
-    × ((answer : F.Answer) (ranks' room' : List ℕ) → Finds book q goal ranks room answer ranks' room' → (answer ≡ Cannot) × (room' ≡ room))
+    → ((ranks' : List ℕ) × Finds book q goal ranks room (Ok Cannot) ranks' room)
+    × ((answer : Result F.Answer Refusal) (ranks' room' : List ℕ) → Finds book q goal ranks room answer ranks' room' → (answer ≡ Ok Cannot) × (room' ≡ room))
 
 -- `check` refuses the plan with this number and place, and does not answer otherwise
 abbrev pub Faults : List ℕ → ℕ → ℕ → Claim
 Faults plan x p n book q goal =
-    (r : Refusal) × (number r ≡ x) × (place r ≡ p) × Checks book q goal plan (No r)
-    × ((answer : CheckAnswer) → Checks book q goal plan answer → answer ≡ No r)
+    (r : Refusal) × (number r ≡ x) × (place r ≡ p) × Checks book q goal plan (Err r)
+    × ((answer : Result (Unit {0}) Refusal) → Checks book q goal plan answer → answer ≡ Err r)
 
 -- whatever the room held: `sheet::answer` gives the length of this text and writes as much of it as fits, and not otherwise
 abbrev pub Printed : List ℕ → List ℕ → Type 0
@@ -90,8 +86,8 @@ Printed s t =
     × ((r : ℕ) (new : List ℕ) → AnswersSheet s old r new → (r ≡ length t) × (new ≡ fitted old t))
 
 abbrev pub RowHolds : Row → Type 0
-RowHolds (reads n s byte) = (t : List ℕ) × Only n (bytes s) Accepted t × (get_or t 0 0 ≡ byte)
-RowHolds (refuses n s x p) = (r : Refusal) × Only n (bytes s) (Refused r) (replicate 16 0) × (number r ≡ x) × (place r ≡ p)
+RowHolds (reads n s byte) = (t : List ℕ) × Only n (bytes s) (Ok t) × (get_or t 0 0 ≡ byte)
+RowHolds (refuses n s x p) = (r : Refusal) × Only n (bytes s) (Err r) × (number r ≡ x) × (place r ≡ p)
 RowHolds (sums block s t) = (r : Sums) → r ≡ check (drop 0 block) → (r.s ≡ s) × (r.t ≡ t)
 RowHolds (reaches asked h plan) = Of (stated asked) (Reaches h plan)
 RowHolds (faults asked plan x p) = Of (stated asked) (Faults plan x p)

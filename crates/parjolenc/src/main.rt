@@ -3,30 +3,15 @@
 // standard error.
 #![tactic(auto)]
 
-use program_files::Input;
-use sheet_reading::SheetTold;
-
 // One byte more than a sheet may have, so that a longer one is seen to be too long without reading on.
 const READ_MOST: usize = sheet_reading::SHEET_MOST + 1;
 
 // Writes out the answer to a sheet, and says what came of it, of a refusal with its own place.
 fn deliver(rt: &HostRuntime, sheet: &[u8], answer: &[u8]) {
     let outcome = program_outcome::of_answer(answer);
-    let reading = sheet_reading::read(sheet);
-    let told = reading.told;
-    match told {
-        SheetTold::Refused(why, _) => {
-            let numbers = why.numbers();
-            program_outcome::deliver_fault(
-                rt,
-                answer,
-                outcome,
-                numbers.number,
-                numbers.place,
-                b"sheet\n",
-            );
-        }
-        SheetTold::Stated => program_outcome::deliver(rt, answer, outcome),
+    match sheet_reading::read(sheet) {
+        Ok(_) => program_outcome::deliver(rt, answer, outcome),
+        Err(fault) => { program_outcome::deliver_fault(rt, answer, outcome, fault.why, b"sheet\n") }
     }
 }
 
@@ -40,7 +25,7 @@ fn answer(rt: &HostRuntime, sheet: &[u8]) {
 fn main(rt: HostRuntime) {
     let mut sheet = [0u8; READ_MOST];
     match program_files::read_all(&mut rt.stdin(), &mut sheet) {
-        Input::Failed(error) => program_outcome::trouble(&rt, b"parjolenc: standard input", error),
-        Input::Whole(length) => answer(&rt, &sheet[..length]),
+        Ok(length) => answer(&rt, &sheet[..length]),
+        Err(error) => program_outcome::trouble(&rt, b"parjolenc: standard input", error),
     }
 }

@@ -2,7 +2,7 @@
 use mathlib.Core.Path.{◌≡◌}
 use mathlib.Core.Logic.{inl, inr}
 use mathlib.Core.Bool.{Bool, true, ◌&&◌}
-use Prim.Native.Nat.{ℕ, ◌-◌, ◌<◌}
+use Prim.Native.Nat.{ℕ, ◌<◌}
 use native.Mathlib.Omega.{arith}
 use lib.Dec.{T, eqb, ltb, eqb→eq, ltb→lt}
 use borrow.Author.Tests.{lt-ltb, lt-leb}
@@ -12,18 +12,17 @@ use Rattle.ground.proofs.Search.{all-at}
 use Rattle.knowledge_acts.specs.Acts.{setting_of, post_of, byte_of, act_of}
 use Rattle.knowledge_acts.specs.declared.act.Act.{Act}
 use Rattle.knowledge_acts.proofs.Acts.{act_of_byte}
-use Rattle.knowledge_acts.specs.declared.act.Named.{Named}
-use Rattle.knowledge_acts.specs.declared.act.Named.TheVariants.{One, Nothing}
+use Rattle.std.proofs.Common.{Option, Some, None}
 
 -- no byte past 168 names an act
-past : (c : ℕ) → 168 < c → act_of c ≡ Nothing
+past : (c : ℕ) → 168 < c → act_of c ≡ None
 unfolding act_of
 past c h = rw (lt-ltb 0 c (omega arith), lt-leb c 168 h)
 
 -- an act named by a byte has that byte
-right : ℕ → Named → Bool
-right c (One a) = eqb (byte_of a) c && ltb c 169
-right c Nothing = true
+right : ℕ → Option Act → Bool
+right c (Some a) = eqb (byte_of a) c && ltb c 169
+right c None = true
 
 byte-right : (c : ℕ) → T (right c (act_of c))
 unfolding right all act_of byte_of
@@ -32,10 +31,10 @@ byte-right c = elim (lt_or_ge c 169) [
   | inr l ↦ rw (past c l) tt
 ]
 
-pub byte_of_act : (c : ℕ) (a : Act) → act_of c ≡ One a → (byte_of a ≡ c) × (c < 169)
+pub byte_of_act : (c : ℕ) (a : Act) → act_of c ≡ Some a → (byte_of a ≡ c) × (c < 169)
 unfolding right
 byte_of_act c a e =
-    let t : T (right c (One a)) = rw e at (byte-right c) in
+    let t : T (right c (Some a)) = rw e at (byte-right c) in
     (eqb→eq (byte_of a) c (and_left (eqb (byte_of a) c) (ltb c 169) t), ltb→lt c 169 (and_right (eqb (byte_of a) c) (ltb c 169) t))
 
 -- acts of seven settings and eight posts with one byte are one act

@@ -12,8 +12,7 @@ use Rattle.ground.proofs.Bools.{T→true, T→false, true→T, and_in, and_left,
 use Rattle.knowledge_acts.specs.Acts.{byte_of, act_of, set_to, look_at}
 use Rattle.knowledge_acts.specs.declared.act.Act.{Act}
 use Rattle.knowledge_acts.specs.declared.act.Act.TheVariants.{Set, Look}
-use Rattle.knowledge_acts.specs.declared.act.Named.{Named}
-use Rattle.knowledge_acts.specs.declared.act.Named.TheVariants.{One, Nothing}
+use Rattle.std.proofs.Common.{Option, Some, None}
 use Rattle.refusal.specs.declared.Why.{Why}
 use Rattle.plan.specs.declared.Permit.{Permit}
 use Rattle.plan.specs.declared.Permit.TheVariants.{Given, Denied, ChangesNothing}
@@ -40,21 +39,21 @@ module _ (S : System) (k : ℕ) where
   read_named_lem zero h = absurd (omega arith)
   read_named_lem (suc c) h = refl
 
-  pub read_nothing : (c : ℕ) → 0 < c → act_of c ≡ Nothing → read_byte S k c ≡ fails no_act
+  pub read_nothing : (c : ℕ) → 0 < c → act_of c ≡ None → read_byte S k c ≡ fails no_act
   read_nothing c h e = read_named_lem c h ∙ rw e
 
-  pub read-other : (c : ℕ) (a : Act) → 0 < c → act_of c ≡ One a → T (not (S.offers a)) → read_byte S k c ≡ fails no_act
+  pub read-other : (c : ℕ) (a : Act) → 0 < c → act_of c ≡ Some a → T (not (S.offers a)) → read_byte S k c ≡ fails no_act
   read-other c a h e o = read_named_lem c h ∙ rw (e, T→false (S.offers a) o)
 
-  pub read_forbidden : (c : ℕ) (a : Act) (why : Why) → 0 < c → act_of c ≡ One a → T (S.offers a) → S.permits k a ≡ Denied why
+  pub read_forbidden : (c : ℕ) (a : Act) (why : Why) → 0 < c → act_of c ≡ Some a → T (S.offers a) → S.permits k a ≡ Denied why
       → read_byte S k c ≡ fails (not_permitted why)
   read_forbidden c a why h e o p = read_named_lem c h ∙ rw (e, T→true (S.offers a) o, p)
 
-  pub read_idle : (c : ℕ) (a : Act) → 0 < c → act_of c ≡ One a → T (S.offers a) → S.permits k a ≡ ChangesNothing
+  pub read_idle : (c : ℕ) (a : Act) → 0 < c → act_of c ≡ Some a → T (S.offers a) → S.permits k a ≡ ChangesNothing
       → read_byte S k c ≡ fails changes_nothing_case
   read_idle c a h e o p = read_named_lem c h ∙ rw (e, T→true (S.offers a) o, p)
 
-  pub read_act_lem : (c : ℕ) (a : Act) → 0 < c → act_of c ≡ One a → T (may S k a) → read_byte S k c ≡ goes_on (outcomes k a)
+  pub read_act_lem : (c : ℕ) (a : Act) → 0 < c → act_of c ≡ Some a → T (may S k a) → read_byte S k c ≡ goes_on (outcomes k a)
   read_act_lem c a h e m =
       read_named_lem c h
       ∙ rw (
@@ -66,22 +65,22 @@ module _ (S : System) (k : ℕ) where
   -- a byte that reads well is a stop with the goal, or an act that may be done
   pub data Good : ℕ → List ℕ → Type 0 where
     good_stop : T (S.goal k) → Good 0 []
-    good_act : (c : ℕ) (a : Act) → 0 < c → act_of c ≡ One a → T (may S k a) → Good c (outcomes k a)
+    good_act : (c : ℕ) (a : Act) → 0 < c → act_of c ≡ Some a → T (may S k a) → Good c (outcomes k a)
 
-  named_good : (c : ℕ) (x : Named) (new : List ℕ) → 0 < c → act_of c ≡ x → read_named S k x ≡ goes_on new → Good c new
-  named_good c Nothing new h e r = absurd (let z : ◌≡◌ {A = ℕ} 0 1 = cc in omega arith)
-  named_good c (One a) new h e r = go (S.offers a) (S.permits k a) refl refl r
+  named_good : (c : ℕ) (x : Option Act) (new : List ℕ) → 0 < c → act_of c ≡ x → read_named S k x ≡ goes_on new → Good c new
+  named_good c None new h e r = absurd cc
+  named_good c (Some a) new h e r = go (S.offers a) (S.permits k a) refl refl r
     where
       go : (o : Bool) (p : Permit) → S.offers a ≡ o → S.permits k a ≡ p → read_act o p (outcomes k a) ≡ goes_on new → Good c new
-      go false p eo ep s = absurd (let z : ◌≡◌ {A = ℕ} 0 1 = cc in omega arith)
-      go true (Denied why) eo ep s = absurd (let z : ◌≡◌ {A = ℕ} 0 1 = cc in omega arith)
-      go true ChangesNothing eo ep s = absurd (let z : ◌≡◌ {A = ℕ} 0 1 = cc in omega arith)
+      go false p eo ep s = absurd cc
+      go true (Denied why) eo ep s = absurd cc
+      go true ChangesNothing eo ep s = absurd cc
       go true Given eo ep s =
           let same : outcomes k a ≡ new = cc in
           rw (← same) (good_act c a h e (and_in (S.offers a) (given (S.permits k a)) (true→T eo) (true→T (ap given ep))))
 
   stop_good : (g : Bool) (new : List ℕ) → S.goal k ≡ g → read_stop g ≡ goes_on new → Good 0 new
-  stop_good false new e r = absurd (let z : ◌≡◌ {A = ℕ} 0 1 = cc in omega arith)
+  stop_good false new e r = absurd cc
   stop_good true new e r = let same : ◌≡◌ {A = List ℕ} [] new = cc in rw (← same) (good_stop (true→T e))
 
   pub read_good : (c : ℕ) (new : List ℕ) → read_byte S k c ≡ goes_on new → Good c new
@@ -158,8 +157,8 @@ grow S k c new ks cs (good_act c₁ (Look i q) h e m) (p, w, (rest, f, (r, x, (l
 
 pub accepts_out : (S : System) (bytes ks : List ℕ) (at : ℕ) → judge S ks at bytes ≡ accepted → Plans S ks bytes
 accepts_out S [] [] at e = refl
-accepts_out S [] (k ∷ ks) at e = absurd (let z : ◌≡◌ {A = ℕ} 0 1 = cc in omega arith)
-accepts_out S (c ∷ cs) [] at e = absurd (let z : ◌≡◌ {A = ℕ} 0 1 = cc in omega arith)
+accepts_out S [] (k ∷ ks) at e = absurd cc
+accepts_out S (c ∷ cs) [] at e = absurd cc
 accepts_out S (c ∷ cs) (k ∷ ks) at e =
     go (λ new. accepts_out S cs (new ++ ks) (suc at)) (read_byte S k c) refl
   where

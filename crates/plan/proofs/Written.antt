@@ -12,8 +12,7 @@ use Rattle.ground.proofs.Bools.{lt_or_ge}
 use Rattle.knowledge_acts.specs.Acts.{byte_of, act_of, set_to, look_at}
 use Rattle.knowledge_acts.specs.declared.act.Act.{Act}
 use Rattle.knowledge_acts.specs.declared.act.Act.TheVariants.{Set, Look}
-use Rattle.knowledge_acts.specs.declared.act.Named.{Named}
-use Rattle.knowledge_acts.specs.declared.act.Named.TheVariants.{One, Nothing}
+use Rattle.std.proofs.Common.{Option, Some, None}
 use Rattle.plan.specs.Plans.{System, Lawful, Outcome, after_set_case, after_look, Plan, stop, set_then, look_then, Works, height}
 use Rattle.plan.specs.Ranks.{IsRank, Lowers, Chosen, Written}
 use Rattle.plan.proofs.Acts.{can_in, can-may, can-at}
@@ -82,14 +81,14 @@ module _ {n : ℕ} {S : System} (law : Lawful n S) (few : n ≤ 7) where
       can_in S (below n S r) k a l.allowed (λ x o. let s = l.lower x o in rank_in law x s.0 r s.1 s.2 h)
 
   -- the byte names an act that lowers the rank
-  good : ℕ → ℕ → Named → Bool
-  good k r Nothing = false
-  good k r (One a) = can S (below n S r) k a
+  good : ℕ → ℕ → Option Act → Bool
+  good k r None = false
+  good k r (Some a) = can S (below n S r) k a
 
-  good_out : (k r : ℕ) (x : Named) → T (good k r x) → (a : Act) × (x ≡ One a) × T (can S (below n S r) k a)
+  good_out : (k r : ℕ) (x : Option Act) → T (good k r x) → (a : Act) × (x ≡ Some a) × T (can S (below n S r) k a)
   unfolding good
-  good_out k r Nothing t = absurd t
-  good_out k r (One a) t = (a, refl, t)
+  good_out k r None t = absurd t
+  good_out k r (Some a) t = (a, refl, t)
 
   good_in : (k r : ℕ) (a : Act) → T (can S (below n S r) k a) → T (good k r (act_of (byte_of a)))
   unfolding good

@@ -1,7 +1,6 @@
 -- After a run: what the team knows from the acts and readings alone, and the real settings that the acts have left.
-use Rattle.std.specs.Prelude.{Bool, List, [], ◌∷◌, ℕ}
+use Rattle.std.specs.Prelude.{List, [], ◌∷◌, ℕ}
 use Rattle.knowledge_acts.specs.Acts.{set_to, look_at}
-use Rattle.knowledge_acts.specs.declared.act.Act.{Act}
 use Rattle.knowledge_acts.specs.declared.act.Act.TheVariants.{Set, Look}
 use Rattle.plan.specs.Runs.{change, Event, did, saw}
 

@@ -1,11 +1,9 @@
 -- The verdict on a plan's bytes: "the first fault in reading order, 17 before 18", and 32 after 18. Reading goes on from a list of pending states:
 -- the next byte is for the first of them; the true outcome of a look waits behind the false one.
-use Rattle.std.specs.Prelude.{Bool, true, false, List, [], ◌∷◌, ◌++◌, ℕ, zero, suc}
+use Rattle.std.specs.Prelude.{Bool, true, false, List, [], ◌∷◌, ◌++◌, ℕ, zero, suc, Option, Some, None}
 use Rattle.knowledge_acts.specs.Acts.{act_of, set_to, look_at}
 use Rattle.knowledge_acts.specs.declared.act.Act.{Act}
 use Rattle.knowledge_acts.specs.declared.act.Act.TheVariants.{Set, Look}
-use Rattle.knowledge_acts.specs.declared.act.Named.{Named}
-use Rattle.knowledge_acts.specs.declared.act.Named.TheVariants.{One, Nothing}
 use Rattle.refusal.specs.declared.Why.{Why}
 use Rattle.plan.specs.Plans.{System}
 use Rattle.plan.specs.declared.Permit.{Permit}
@@ -48,9 +46,9 @@ read_act true (Denied why) new = fails (not_permitted why)
 read_act true ChangesNothing new = fails changes_nothing_case
 read_act true Given new = goes_on new
 
-abbrev pub read_named : System → ℕ → Named → Reading
-read_named S k Nothing = fails no_act
-read_named S k (One a) = read_act (S.offers a) (S.permits k a) (outcomes k a)
+abbrev pub read_named : System → ℕ → Option Act → Reading
+read_named S k None = fails no_act
+read_named S k (Some a) = read_act (S.offers a) (S.permits k a) (outcomes k a)
 
 -- a stop: is the goal settled
 abbrev pub read_stop : Bool → Reading

@@ -5,7 +5,7 @@
 use refusal::Why;
 
 // What is said of an act where a team knows so much.
-#[derive(Clone, Copy)]
+#[derive(Clone, Copy, Debug, PartialEq, Eq)]
 pub enum Permit {
     // It is permitted.
     Given,

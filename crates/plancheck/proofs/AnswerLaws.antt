@@ -17,7 +17,7 @@ use Rattle.question.specs.declared.Question.{Question}
 use Rattle.question.proofs.RowLaws.{question_clear}
 use Rattle.plancheck.specs.Checks.{check_rows, JudgedAs, RefusesPlan, Checks}
 use Rattle.plancheck.specs.Inner.{answer_of}
-use Rattle.plancheck.specs.declared.answer.CheckAnswer.{CheckAnswer}
+use Rattle.std.proofs.Common.{Result}
 
 module _ (book : List ℕ) (q : Question) (goal : Goal) (plan : List ℕ) where
   -- the question's refusals come first
@@ -35,7 +35,7 @@ module _ (book : List ℕ) (q : Question) (goal : Goal) (plan : List ℕ) where
   judged-checks accepted j = j
   judged-checks (faulty f i) j = inr (f, i, refl, j)
 
-  pub verdict-checks : {n m s : ℕ} {r : CheckAnswer} → ValidQuestion book q goal n m → length plan ≤ 32640 → s ≡ start_of q
+  pub verdict-checks : {n m s : ℕ} {r : Result (Unit {0}) Refusal} → ValidQuestion book q goal n m → length plan ≤ 32640 → s ≡ start_of q
       → r ≡ answer_of (check (system_of n book q goal) s plan) → Checks book q goal plan r
   verdict-checks {n} {m} v l e f =
       subst (Checks book q goal plan) (sym (f ∙ ap (λ (s : ℕ). answer_of (check (system_of n book q goal) s plan)) e))

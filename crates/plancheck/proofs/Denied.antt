@@ -4,15 +4,15 @@ use mathlib.Core.Path.{◌≡◌, refl, subst}
 use mathlib.Core.Logic.{◌↔◌}
 use mathlib.Core.List.{List, [], ◌∷◌, ◌++◌}
 use Prim.Native.Nat.{ℕ, ◌≤◌}
-use native.Mathlib.Omega.{arith}
 use lib.Dec.{T}
 use lib.ListN.{length}
 use Rattle.ground.specs.Digits.{digit}
 use Rattle.refusal.specs.declared.Why.{Why}
+use Rattle.refusal.specs.declared.Refusal.{Refusal}
 use Rattle.refusal.specs.declared.Refusal.TheVariants.{NotPermitted, ChangesNothing}
 use Rattle.knowledge_acts.specs.Acts.{act_of, offered}
 use Rattle.knowledge_acts.specs.declared.act.Act.{Act}
-use Rattle.knowledge_acts.specs.declared.act.Named.TheVariants.{One}
+use Rattle.std.proofs.Common.{Some, Result, Err}
 use Rattle.knowledge.specs.Goal.{Goal}
 use Rattle.plan.specs.Plans.{System}
 use Rattle.plan.specs.declared.Permit.{Permit}
@@ -27,8 +27,6 @@ use Rattle.question.specs.Permitted.{permitted}
 use Rattle.question.proofs.WhyLaws.{WhyNot, why_exactly}
 use Rattle.question.proofs.NothingLaws.{NothingHere, nothing_exactly}
 use Rattle.plancheck.specs.Checks.{Checks}
-use Rattle.plancheck.specs.declared.answer.CheckAnswer.{CheckAnswer}
-use Rattle.plancheck.specs.declared.answer.CheckAnswer.TheVariants.{Refused}
 use Rattle.plancheck.specs.Refusals.{refusal_of}
 use Rattle.plancheck.proofs.ByteLaws.{FaultAt, fault_means}
 use Rattle.plancheck.proofs.Theorems.{fault_exact}
@@ -45,7 +43,7 @@ pub record ActAt (n : ℕ) (book : List ℕ) (q : Question) (goal : Goal) (plan 
   pub waiting : List ℕ
   pub reads : Reads (system_of n book q goal) (start_of q ∷ []) before (k ∷ waiting)
   pub act : Act
-  pub named : act_of byte ≡ One act
+  pub named : act_of byte ≡ Some act
   pub ours : T (offered n q.team act)
   pub holds : Holds (digit 7 k) act
 
@@ -69,7 +67,7 @@ module _ {book : List ℕ} {q : Question} {goal : Goal} {n m : ℕ} (valid : Val
   -- a fault of a byte that is given where an act of the book and team is said to be so, and what that means in the request's words
   module _ (f : Fault) (said : Permit) (Holds : (ℕ → ℕ) → Act → Type 0) (more : f ≡ left_over → ⊥) (less : f ≡ too_soon → ⊥)
       (means : (k c : ℕ) → FaultAt (system_of n book q goal) k c f
-      ↔ ((a : Act) × (act_of c ≡ One a) × T ((system_of n book q goal).offers a) × ((system_of n book q goal).permits k a ≡ said)))
+      ↔ ((a : Act) × (act_of c ≡ Some a) × T ((system_of n book q goal).offers a) × ((system_of n book q goal).permits k a ≡ said)))
       (exactly : (d : ℕ → ℕ) (a : Act) → permitted n book q.held d a ≡ said ↔ Holds d a) where
     act_out : (i : ℕ) → Faults.First (system_of n book q goal) (start_of q ∷ []) plan f i → ActAt n book q goal plan i Holds
     unfolding system_of
@@ -104,23 +102,23 @@ module _ {book : List ℕ} {q : Question} {goal : Goal} {n m : ℕ} (valid : Val
           ((means d.k d.byte).1 (d.act, d.named, d.ours, (exactly (digit 7 d.k) d.act).1 d.holds));
     }
 
-    act_exact : (r : CheckAnswer) → Checks book q goal plan r → length plan ≤ 32640
-        → (i : ℕ) → (r ≡ Refused (refusal_of f i)) ↔ ActAt n book q goal plan i Holds
+    act_exact : (r : Result (Unit {0}) Refusal) → Checks book q goal plan r → length plan ≤ 32640
+        → (i : ℕ) → (r ≡ Err (refusal_of f i)) ↔ ActAt n book q goal plan i Holds
     act_exact r answer short i = (
       λ e. act_out i ((fault_exact valid plan r answer short f i).0 e),
       λ d. (fault_exact valid plan r answer short f i).1 (act_in i d),
     )
 
-  pub denied_exact : (r : CheckAnswer) → Checks book q goal plan r → length plan ≤ 32640
-      → (i : ℕ) (why : Why) → (r ≡ Refused (NotPermitted i why)) ↔ DeniedAt n book q goal plan i why
+  pub denied_exact : (r : Result (Unit {0}) Refusal) → Checks book q goal plan r → length plan ≤ 32640
+      → (i : ℕ) (why : Why) → (r ≡ Err (NotPermitted i why)) ↔ DeniedAt n book q goal plan i why
   denied_exact r answer short i why =
       act_exact (not_permitted why) (Denied why) (λ d a. WhyNot n book q.held d a why)
-      (λ e. let z : ◌≡◌ {A = ℕ} 0 1 = cc in omega arith) (λ e. let z : ◌≡◌ {A = ℕ} 0 1 = cc in omega arith)
+      (λ e. cc) (λ e. cc)
       (λ k c. (λ w. w, λ w. w)) (λ d a. why_exactly n book q.held d a why) r answer short i
 
-  pub nothing_exact : (r : CheckAnswer) → Checks book q goal plan r → length plan ≤ 32640
-      → (i : ℕ) → (r ≡ Refused (ChangesNothing i)) ↔ NothingAt n book q goal plan i
+  pub nothing_exact : (r : Result (Unit {0}) Refusal) → Checks book q goal plan r → length plan ≤ 32640
+      → (i : ℕ) → (r ≡ Err (ChangesNothing i)) ↔ NothingAt n book q goal plan i
   nothing_exact r answer short i =
       act_exact changes_nothing_case NothingSaid (NothingHere n book q.held)
-      (λ e. let z : ◌≡◌ {A = ℕ} 0 1 = cc in omega arith) (λ e. let z : ◌≡◌ {A = ℕ} 0 1 = cc in omega arith)
+      (λ e. cc) (λ e. cc)
       (λ k c. (λ w. w, λ w. w)) (λ d a. nothing_exactly n book q.held d a) r answer short i

@@ -3,7 +3,6 @@
 use mathlib.Core.Path.{◌≡◌, refl, sym, ap, ◌∙◌}
 use mathlib.Core.List.{List, [], ◌∷◌, append-nil}
 use Prim.Native.Nat.{ℕ, ◌≤◌}
-use native.Mathlib.Omega.{arith}
 use Rattle.plan.specs.Plans.{System, Lawful, Plan, Works}
 use Rattle.plan.specs.Bytes.{encode}
 use Rattle.plan.specs.Check.{too_soon, left_over, check}
@@ -13,14 +12,14 @@ use Rattle.plancheck.proofs.ByteLaws.{fault_means}
 
 pub ends : (S : System) (pending left : List ℕ) → Wrong S pending left too_soon → (left ≡ []) × ((k : ℕ) × ((ks : List ℕ) × (pending ≡ k ∷ ks)))
 ends S [] [] w = absurd w
-ends S [] (c ∷ cs) w = absurd (let z : ◌≡◌ {A = ℕ} 0 1 = cc in omega arith)
+ends S [] (c ∷ cs) w = absurd cc
 ends S (k ∷ ks) [] w = (refl, (k, (ks, refl)))
 ends S (k ∷ ks) (c ∷ cs) w = absurd ((fault_means S k c too_soon).0 w)
 
 pub over : (S : System) (pending left : List ℕ) → Wrong S pending left left_over → (pending ≡ []) × ((c : ℕ) × ((cs : List ℕ) × (left ≡ c ∷ cs)))
 over S [] [] w = absurd w
 over S [] (c ∷ cs) w = (refl, (c, (cs, refl)))
-over S (k ∷ ks) [] w = absurd (let z : ◌≡◌ {A = ℕ} 0 1 = cc in omega arith)
+over S (k ∷ ks) [] w = absurd cc
 over S (k ∷ ks) (c ∷ cs) w = absurd ((fault_means S k c left_over).0 w)
 
 -- bytes that read without a fault and leave nothing pending are those of a plan that works

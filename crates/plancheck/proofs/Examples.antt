@@ -30,7 +30,7 @@ use Rattle.question.specs.Question.{system_of, start_of}
 use Rattle.question.specs.Asks.{ValidQuestion}
 use Rattle.question.specs.declared.Question.{Question}
 use Rattle.plancheck.specs.Checks.{Checks}
-use Rattle.plancheck.specs.declared.answer.CheckAnswer.TheVariants.{Refused}
+use Rattle.std.proofs.Common.{Err}
 
 -- the tables over one setting of `1`, `~a` and `a`
 abbrev pub always_true : List ℕ
@@ -69,7 +69,7 @@ p10-judged book e =
     (read-unsettled (system_of 1 book p9_question p9-goal) (set_to 0 0 false) (then_stop book))
 
 pub p10 : {book : List ℕ} {m : ℕ} → ValidQuestion book p9_question p9-goal 1 m → rule book 0 0 set-rule ≡ always_true
-    → Checks book p9_question p9-goal (1 ∷ 0 ∷ []) (Refused (NotSettled 1))
+    → Checks book p9_question p9-goal (1 ∷ 0 ∷ []) (Err (NotSettled 1))
 p10 {book} {m} valid e = inr (not_settled, 1, refl, record { n = 1; m = m; valid = valid; short = lit≤ tt; judged = p10-judged book e })
 
 -- the plan 1, 1, 0 sets `a` false a second time, where the team knows that it is: 32 at 1 (R-9)
@@ -87,5 +87,5 @@ twice-judged book e =
     (read_idle (system_of 1 book p9_question p9-goal) (set_to 0 0 false) 1 (Set 0 0 false) (lit< tt) refl tt (again book e))
 
 pub twice : {book : List ℕ} {m : ℕ} → ValidQuestion book p9_question p9-goal 1 m → rule book 0 0 set-rule ≡ always_true
-    → Checks book p9_question p9-goal (1 ∷ 1 ∷ 0 ∷ []) (Refused (NothingChanged 1))
+    → Checks book p9_question p9-goal (1 ∷ 1 ∷ 0 ∷ []) (Err (NothingChanged 1))
 twice {book} {m} valid e = inr (changes_nothing_case, 1, refl, record { n = 1; m = m; valid = valid; short = lit≤ tt; judged = twice-judged book e })

@@ -20,17 +20,16 @@ use Rattle.question.proofs.RowLaws.{question_clear}
 use Rattle.plancheck.specs.Refusals.{refusal_of}
 use Rattle.plancheck.specs.Checks.{check_rows, JudgedAs, Checks}
 use Rattle.plancheck.specs.Inner.{answer_of}
-use Rattle.plancheck.specs.declared.answer.CheckAnswer.{CheckAnswer}
-use Rattle.plancheck.specs.declared.answer.CheckAnswer.TheVariants.{Yes, Refused}
+use Rattle.std.proofs.Common.{Result, Ok, Err}
 use Rattle.plancheck.proofs.RefusalLaws.{fault-one, fault-short}
 
 -- the judgement behind an answer
-pub answer-fault : (v : Verdict) (f : Fault) (i : ℕ) → answer_of v ≡ Refused (refusal_of f i) → v ≡ faulty f i
+pub answer-fault : (v : Verdict) (f : Fault) (i : ℕ) → answer_of v ≡ Err (refusal_of f i) → v ≡ faulty f i
 answer-fault accepted f i e = cc
 answer-fault (faulty g j) f i e = fault-one g f j i cc
 
-pub answer-short : (v : Verdict) → answer_of v ≡ Refused PlanLength → ⊥
-answer-short accepted e = let z : ◌≡◌ {A = ℕ} 0 1 = cc in omega arith
+pub answer-short : (v : Verdict) → answer_of v ≡ Err PlanLength → ⊥
+answer-short accepted e = cc
 answer-short (faulty f i) e = fault-short f i cc
 
 module _ (book : List ℕ) (q : Question) (goal : Goal) (plan : List ℕ) where
@@ -45,23 +44,23 @@ module _ (book : List ℕ) (q : Question) (goal : Goal) (plan : List ℕ) where
   judged-one a b =
       sym a.judged ∙ ap (λ (n : ℕ). check (system_of n book q goal) (start_of q) plan) (sound-one a.valid.sound b.valid.sound).0 ∙ b.judged
 
-  no_refusal : (r : Refusal) → JudgedAs book q goal plan accepted → Checks book q goal plan (Refused r) → ⊥
+  no_refusal : (r : Refusal) → JudgedAs book q goal plan accepted → Checks book q goal plan (Err r) → ⊥
   no_refusal r j (inl f) = first-clear f (judged-clear j)
-  no_refusal r j (inr f) = let e = judged-one j f.3 in let z : ◌≡◌ {A = ℕ} 0 1 = cc in omega arith
+  no_refusal r j (inr f) = let e = judged-one j f.3 in cc
 
-  pub checks-one : (x y : CheckAnswer) → Checks book q goal plan x → Checks book q goal plan y → x ≡ y
-  checks-one Yes Yes a b = refl
-  checks-one Yes (Refused r) a b = absurd (no_refusal r a b)
-  checks-one (Refused r) Yes a b = absurd (no_refusal r b a)
-  checks-one (Refused r) (Refused s) (inl a) (inl b) = ap Refused (first_unique a b)
-  checks-one (Refused r) (Refused s) (inl a) (inr b) = first-clear a (judged-clear b.3)
-  checks-one (Refused r) (Refused s) (inr a) (inl b) = first-clear b (judged-clear a.3)
-  checks-one (Refused r) (Refused s) (inr a) (inr b) =
-      ap Refused a.2 ∙ ap answer_of (judged-one a.3 b.3) ∙ sym (ap Refused b.2)
+  pub checks-one : (x y : Result (Unit {0}) Refusal) → Checks book q goal plan x → Checks book q goal plan y → x ≡ y
+  checks-one (Ok u) (Ok v) a b = refl
+  checks-one (Ok u) (Err r) a b = absurd (no_refusal r a b)
+  checks-one (Err r) (Ok u) a b = absurd (no_refusal r b a)
+  checks-one (Err r) (Err s) (inl a) (inl b) = ap Err (first_unique a b)
+  checks-one (Err r) (Err s) (inl a) (inr b) = first-clear a (judged-clear b.3)
+  checks-one (Err r) (Err s) (inr a) (inl b) = first-clear b (judged-clear a.3)
+  checks-one (Err r) (Err s) (inr a) (inr b) =
+      ap Err a.2 ∙ ap answer_of (judged-one a.3 b.3) ∙ sym (ap Err b.2)
 
   -- ---- a refusal by where it comes from: the question's rows, 16, or a fault
 
-  pub refused_by : (w : Refusal) → Checks book q goal plan (Refused w)
+  pub refused_by : (w : Refusal) → Checks book q goal plan (Err w)
       → First (question_rows book q goal) w ⊎ ((w ≡ PlanLength) × (32640 < length plan))
       ⊎ ((f : Fault) × (i : ℕ) × (w ≡ refusal_of f i) × JudgedAs book q goal plan (faulty f i))
   unfolding check_rows

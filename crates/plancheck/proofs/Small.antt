@@ -14,11 +14,11 @@ use Rattle.question.specs.Question.{system_of, start_of}
 use Rattle.question.specs.declared.Question.{Question}
 use Rattle.question.proofs.Places.{question_place-small}
 use Rattle.plancheck.specs.Checks.{Checks}
-use Rattle.plancheck.specs.declared.answer.CheckAnswer.TheVariants.{Refused}
+use Rattle.std.proofs.Common.{Err}
 use Rattle.plancheck.proofs.RefusalLaws.{fault-place}
 use Rattle.plancheck.proofs.OneAnswer.{refused_by}
 
-pub place-small : (book : List ℕ) (q : Question) (goal : Goal) (plan : List ℕ) (r : Refusal) → Checks book q goal plan (Refused r) → place r ≤ 32640
+pub place-small : (book : List ℕ) (q : Question) (goal : Goal) (plan : List ℕ) (r : Refusal) → Checks book q goal plan (Err r) → place r ≤ 32640
 place-small book q goal plan r answer = elim (refused_by book q goal plan r answer) [
   | inl f ↦ omega (arith, question_place-small book q goal r f)
   | inr (inl (e, l)) ↦ omega (arith, ap place e)

@@ -33,8 +33,7 @@ use Rattle.question.proofs.SystemLaws as System
 use Rattle.plancheck.specs.Refusals.{refusal_of}
 use Rattle.plancheck.specs.Checks.{JudgedAs, Checks}
 use Rattle.plancheck.specs.Inner.{answer_of}
-use Rattle.plancheck.specs.declared.answer.CheckAnswer.{CheckAnswer}
-use Rattle.plancheck.specs.declared.answer.CheckAnswer.TheVariants.{Yes, Refused}
+use Rattle.std.proofs.Common.{Result, Ok, Err}
 use Rattle.plancheck.proofs.EndLaws.{ends, over, whole-plan}
 use Rattle.plancheck.proofs.AnswerLaws.{question_row, long-row, judged-checks}
 use Rattle.plancheck.proofs.OneAnswer.{checks-one, refused_by, answer-fault, answer-short}
@@ -47,14 +46,14 @@ check_unique κs a x y s p q = checks-one _ _ _ _ x y p q
 
 -- ---- 6 to 12 and 31: the question's own, whatever the plan
 
-module _ (book : List ℕ) (q : Question) (goal : Goal) (plan : List ℕ) (r : CheckAnswer) (answer : Checks book q goal plan r) where
+module _ (book : List ℕ) (q : Question) (goal : Goal) (plan : List ℕ) (r : Result (Unit {0}) Refusal) (answer : Checks book q goal plan r) where
   -- what the question's rows give is the answer
-  pub question_refused : (w : Refusal) → First (question_rows book q goal) w → r ≡ Refused w
-  question_refused w f = checks-one book q goal plan r (Refused w) answer (question_row book q goal plan f)
+  pub question_refused : (w : Refusal) → First (question_rows book q goal) w → r ≡ Err w
+  question_refused w f = checks-one book q goal plan r (Err w) answer (question_row book q goal plan f)
 
   -- and a refusal that is not one of a plan's own, 16 to 21 and 32, is given exactly where they give it
   pub question_exact : (w : Refusal) → (w ≡ PlanLength → ⊥) → ((f : Fault) (i : ℕ) → w ≡ refusal_of f i → ⊥)
-      → (r ≡ Refused w) ↔ First (question_rows book q goal) w
+      → (r ≡ Err w) ↔ First (question_rows book q goal) w
   question_exact w not-length no-fault = (
     λ e. elim (refused_by book q goal plan w (subst (Checks book q goal plan) e answer)) [
       | inl f ↦ f
@@ -77,16 +76,16 @@ module _ {book : List ℕ} {q : Question} {goal : Goal} {n m : ℕ} (valid : Val
   judged-at : {v : Verdict} → JudgedAs book q goal plan v → check (system_of n book q goal) (start_of q) plan ≡ v
   judged-at j = ap (λ (n : ℕ). check (system_of n book q goal) (start_of q) plan) (sound-one valid.sound j.valid.sound).0 ∙ j.judged
 
-  yes_in : (p : Plan) → length plan ≤ 32640 → Works (system_of n book q goal) (start_of q) p → plan ≡ encode p → Checks book q goal plan Yes
+  yes_in : (p : Plan) → length plan ≤ 32640 → Works (system_of n book q goal) (start_of q) p → plan ≡ encode p → Checks book q goal plan (Ok tt)
   yes_in p l w e = record { n = n; m = m; valid = valid; short = l; judged = (check_exact law few (start_of q) plan).1 (p, w, e) }
 
-  module _ (r : CheckAnswer) (answer : Checks book q goal plan r) where
+  module _ (r : Result (Unit {0}) Refusal) (answer : Checks book q goal plan r) where
     -- demand 2: yes exactly where the bytes are those of a plan that works, up to 32,640 bytes
-    pub yes_exact : (r ≡ Yes) ↔ ((length plan ≤ 32640) × ((p : Plan) × Works (system_of n book q goal) (start_of q) p × (plan ≡ encode p)))
+    pub yes_exact : (r ≡ Ok tt) ↔ ((length plan ≤ 32640) × ((p : Plan) × Works (system_of n book q goal) (start_of q) p × (plan ≡ encode p)))
     yes_exact = (
       λ e. let j : JudgedAs book q goal plan accepted = subst (Checks book q goal plan) e answer in
           (j.short, (check_exact law few (start_of q) plan).0 (judged-at j)),
-      λ w. checks-one book q goal plan r Yes answer (yes_in w.1.0 w.0 w.1.1 w.1.2),
+      λ w. checks-one book q goal plan r (Ok tt) answer (yes_in w.1.0 w.0 w.1.1 w.1.2),
     )
 
     -- a plan of at most 32,640 bytes gets the answer of the judgement on its bytes
@@ -97,19 +96,19 @@ module _ {book : List ℕ} {q : Question} {goal : Goal} {n m : ℕ} (valid : Val
         (record { n = n; m = m; valid = valid; short = l; judged = refl }))
 
     -- 16 "plan to check over 32,640 bytes"
-    pub long_exact : (r ≡ Refused PlanLength) ↔ (32640 < length plan)
+    pub long_exact : (r ≡ Err PlanLength) ↔ (32640 < length plan)
     long_exact = (
       λ e. elim (lt_or_ge 32640 (length plan)) [
         | inl l ↦ l
         | inr l ↦ absurd (answer-short (check (system_of n book q goal) (start_of q) plan) (sym (answer-is l) ∙ e))
       ],
-      λ l. checks-one book q goal plan r (Refused PlanLength) answer (long-row book q goal plan valid l),
+      λ l. checks-one book q goal plan r (Err PlanLength) answer (long-row book q goal plan valid l),
     )
 
     module _ (short : length plan ≤ 32640) where
       -- 17 to 21 and 32: "the first fault in reading order". All bytes before it read without one, and it is the fault of the byte that stands
       -- there, or of the end; `fault_means` of plancheck/proofs/ByteLaws says in paper 01's words what a byte's fault is
-      pub fault_exact : (f : Fault) (i : ℕ) → (r ≡ Refused (refusal_of f i)) ↔ Faults.First (system_of n book q goal) (start_of q ∷ []) plan f i
+      pub fault_exact : (f : Fault) (i : ℕ) → (r ≡ Err (refusal_of f i)) ↔ Faults.First (system_of n book q goal) (start_of q ∷ []) plan f i
       fault_exact f i = (
         λ e. let w = fault_out (system_of n book q goal) plan (start_of q ∷ []) 0 f i
             (answer-fault (check (system_of n book q goal) (start_of q) plan) f i (sym (answer-is short) ∙ e)) in
@@ -118,7 +117,7 @@ module _ {book : List ℕ} {q : Question} {goal : Goal} {n m : ℕ} (valid : Val
       )
 
       -- 20 "plan ends too soon", at its length: all its bytes read without a fault, and a state is still pending
-      pub soon_exact : (i : ℕ) → (r ≡ Refused (TooSoon i))
+      pub soon_exact : (i : ℕ) → (r ≡ Err (TooSoon i))
           ↔ ((i ≡ length plan) × ((k : ℕ) × ((ks : List ℕ) × Reads (system_of n book q goal) (start_of q ∷ []) plan (k ∷ ks))))
       soon_exact i = (
         λ e. let w = (fault_exact too_soon i).0 e in
@@ -137,7 +136,7 @@ module _ {book : List ℕ} {q : Question} {goal : Goal} {n m : ℕ} (valid : Val
       )
 
       -- 21 "bytes after a whole plan", at the first of them
-      pub over_exact : (i : ℕ) → (r ≡ Refused (LeftOver i))
+      pub over_exact : (i : ℕ) → (r ≡ Err (LeftOver i))
           ↔ ((p : Plan) × Works (system_of n book q goal) (start_of q) p × (i ≡ length (encode p)) × ((c : ℕ) × ((cs : List ℕ) × (plan ≡ encode p ++ c ∷ cs))))
       over_exact i = (
         λ e. let w = (fault_exact left_over i).0 e in
@@ -150,18 +149,18 @@ module _ {book : List ℕ} {q : Question} {goal : Goal} {n m : ℕ} (valid : Val
       )
 
   -- no accepted plan is lower than the rank
-  pub accepted-height : Checks book q goal plan Yes → (rank : ℕ) → IsRank (system_of n book q goal) (start_of q) rank
+  pub accepted-height : Checks book q goal plan (Ok tt) → (rank : ℕ) → IsRank (system_of n book q goal) (start_of q) rank
       → (p : Plan) × Works (system_of n book q goal) (start_of q) p × (plan ≡ encode p) × (rank ≤ height p)
   accepted-height j rank is = Plans.accepted-plan law few (start_of q) plan rank is (judged-at j)
 
 -- the empty plan is 20 at 0
 pub empty_plan : {book : List ℕ} {q : Question} {goal : Goal} {n m : ℕ} → ValidQuestion book q goal n m
-    → Checks book q goal [] (Refused (TooSoon 0))
+    → Checks book q goal [] (Err (TooSoon 0))
 empty_plan {n = n} {m = m} valid = inr (too_soon, 0, refl, record { n = n; m = m; valid = valid; short = lit≤ tt; judged = refl })
 
 -- the bytes of the written plan get a yes
 pub written-accepted : {book : List ℕ} {q : Question} {goal : Goal} {n m : ℕ} → ValidQuestion book q goal n m
-    → (p : Plan) → Written (system_of n book q goal) (start_of q) p → Checks book q goal (encode p) Yes
+    → (p : Plan) → Written (system_of n book q goal) (start_of q) p → Checks book q goal (encode p) (Ok tt)
 written-accepted {book} {q} {goal} {n} {m} valid p w =
     let few = valid.sound.settings.most in
     let law = System.lawful valid in

@@ -1,6 +1,6 @@
 -- "Plan check: the same through 12, then 16, then the first fault in reading order, 17 before 18; acceptance is a bare yes." And "32 .., after 18
 -- at the same byte". What `check` answers, for every book, question, goal and plan; it writes nothing.
-use Rattle.std.specs.Prelude.{◌≡◌, List, [], ◌∷◌, ◌++◌, ◌⊎◌, ℕ, ◌≤◌, ◌<◌, length}
+use Rattle.std.specs.Prelude.{◌≡◌, List, [], ◌∷◌, ◌++◌, ◌⊎◌, ℕ, ◌≤◌, ◌<◌, length, Result, Ok, Err}
 use Rattle.refusal.specs.declared.Refusal.{Refusal}
 use Rattle.refusal.specs.declared.Refusal.TheVariants.{PlanLength}
 use Rattle.refusal.specs.Order.{Row, when, First}
@@ -11,8 +11,6 @@ use Rattle.question.specs.Rows.{question_rows}
 use Rattle.question.specs.Asks.{ValidQuestion}
 use Rattle.question.specs.declared.Question.{Question}
 use Rattle.plancheck.specs.Refusals.{refusal_of}
-use Rattle.plancheck.specs.declared.answer.CheckAnswer.{CheckAnswer}
-use Rattle.plancheck.specs.declared.answer.CheckAnswer.TheVariants.{Yes, Refused}
 
 -- "Plan check: the same through 12, then 16": "plan to check over 32,640 bytes"
 unfoldable pub check_rows : List ℕ → Question → Goal → List ℕ → List Row
@@ -32,6 +30,6 @@ RefusesPlan book q goal plan r =
     First (check_rows book q goal plan) r ⊎ ((f : Fault) × (i : ℕ) × (r ≡ refusal_of f i) × JudgedAs book q goal plan (faulty f i))
 
 -- "acceptance is a bare yes"
-abbrev pub Checks : List ℕ → Question → Goal → List ℕ → CheckAnswer → Type 0
-Checks book q goal plan Yes = JudgedAs book q goal plan accepted
-Checks book q goal plan (Refused r) = RefusesPlan book q goal plan r
+abbrev pub Checks : List ℕ → Question → Goal → List ℕ → Result (Unit {0}) Refusal → Type 0
+Checks book q goal plan (Ok done) = JudgedAs book q goal plan accepted
+Checks book q goal plan (Err r) = RefusesPlan book q goal plan r

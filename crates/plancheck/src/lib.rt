@@ -3,10 +3,8 @@
 // It says yes exactly where the bytes are those of a plan that works. Nothing that is lent is written to.
 #![tactic(auto)]
 
-mod answer;
 mod reading;
 mod standing;
 mod walk;
 
-pub use answer::CheckAnswer;
 pub use walk::{PLAN_MOST, check};

@@ -1,18 +1,17 @@
 // The plan's bytes, one after the other: a loop, and where it stands, with room for seven numbers that
 // wait, so that a plan of 32,640 sets in a row takes no more of the machine's stack than a stop.
 ghost use Rattle.std.specs.Prelude.{◌≡◌, ◌^◌, ◌≤◌, ◌<◌};
-ghost use Rattle.knowledge.specs.Goal.{goal_of};
+ghost use Rattle.knowledge.specs.Goal.{wanted};
 ghost use Rattle.plan.specs.Plans.{Lawful};
 ghost use Rattle.plan.specs.Check.{check};
 ghost use Rattle.question.specs.Question.{system_of};
 ghost use Rattle.plancheck.specs.Inner.{answer_of, Ready, Turned};
 ghost use Rattle.plancheck.specs.Checks.{Checks};
 
-use crate::answer::CheckAnswer;
 use crate::reading::read_byte;
-use crate::standing::{Standing, Stands};
-use knowledge::Knowledge;
-use question::{Asked, Question};
+use crate::standing::Standing;
+use knowledge::{Goal, Knowledge};
+use question::Question;
 use refusal::Refusal;
 
 // The most bytes that a plan may have: 2^7 branches of 254 acts and a stop.
@@ -23,23 +22,19 @@ fn turn(
     n: u8,
     book: &[u8],
     question: Question,
-    make: &[u8],
-    learn: &[u8],
+    goal: Goal,
     standing: Standing,
     at: usize,
     byte: u8,
-) -> Standing
-    requires { (n ≤ 7) × Lawful n (system_of n book.now question (goal_of make.now learn.now)) × Ready n standing }
-    ensures { Turned n (system_of n book.now question (goal_of make.now learn.now)) standing at byte result }
+) -> Result<Standing, Refusal>
+    requires { (n ≤ 7) × Lawful n (system_of n book.now question (wanted goal)) × Ready n standing }
+    ensures { Turned n (system_of n book.now question (wanted goal.entry)) standing at byte result }
 {
-    let stands = standing.stands;
-    match stands {
-        Stands::Open => {
-            standing.after(read_byte(n, book, question, make, learn, standing.here, at, byte))
-        }
-        Stands::Whole => standing.stands_as(Stands::Fails(Refusal::LeftOver(at))),
-        Stands::Fails(_) => standing,
-    }
+    let Some(here) = standing.here else {
+        return Err(Refusal::LeftOver(at));
+    };
+    let reading = read_byte(n, book, question, goal, here, at, byte)?;
+    Ok(standing.after(reading))
 }
 
 // The judgement on a plan's bytes from the knowledge number `start`.
@@ -47,36 +42,32 @@ fn walk(
     n: u8,
     book: &[u8],
     question: Question,
-    make: &[u8],
-    learn: &[u8],
+    goal: Goal,
     start: u32,
     plan: &[u8],
-) -> CheckAnswer
-    requires { (n ≤ 7) × Lawful n (system_of n book.now question (goal_of make.now learn.now)) × (start < 7 ^ 7) }
-    ensures { result ≡ answer_of (check (system_of n book.now question (goal_of make.now learn.now)) start plan.now) }
+) -> Result<(), Refusal>
+    requires { (n ≤ 7) × Lawful n (system_of n book.now question (wanted goal)) × (start < 7 ^ 7) }
+    ensures { result ≡ answer_of (check (system_of n book.now question (wanted goal.entry)) start plan.now) }
 {
     let mut standing = Standing::first(start);
-    let mut at = 0;
-    while at < plan.len() {
-        standing = turn(n, book, question, make, learn, standing, at, plan[at]);
-        at += 1;
+    for (at, byte) in plan.iter().enumerate() {
+        standing = turn(n, book, question, goal, standing, at, *byte)?;
     }
-    standing.ended(at)
+    match standing.here {
+        Some(_) => Err(Refusal::TooSoon(plan.len())),
+        None => Ok(()),
+    }
 }
 
 // Whether the bytes are those of a plan that works for this question, or the first refusal: 6 to 12
 // with 31 after 11, then 16 before any byte is read, then the first fault in reading order.
-pub fn check(book: &[u8], question: Question, make: &[u8], learn: &[u8], plan: &[u8]) -> CheckAnswer
-    ensures { Checks book.now question (goal_of make.now learn.now) plan.now result }
+pub fn check(book: &[u8], question: Question, goal: Goal, plan: &[u8]) -> Result<(), Refusal>
+    ensures { Checks book.now question (wanted goal.entry) plan.now result }
 {
-    match question::ask(book, question, make, learn) {
-        Asked::Not(why) => CheckAnswer::Refused(why),
-        Asked::Valid { settings, posts: _ } => {
-            if PLAN_MOST < plan.len() {
-                return CheckAnswer::Refused(Refusal::PlanLength);
-            }
-            let start = Knowledge::at_start(question.known, question.values).number();
-            walk(settings, book, question, make, learn, start, plan)
-        }
+    let size = question::ask(book, question, goal)?;
+    if PLAN_MOST < plan.len() {
+        return Err(Refusal::PlanLength);
     }
+    let start = Knowledge::at_start(question.known, question.values).number();
+    walk(size.settings, book, question, goal, start, plan)
 }

@@ -2,7 +2,8 @@
 use mathlib.Core.Path.{◌≡◌, refl, sym, ap, ◌∙◌, subst}
 use mathlib.Core.Bool.{Bool, true, false, cond}
 use mathlib.Core.List.{List, [], ◌∷◌, ◌++◌, append_assoc}
-use Prim.Native.Nat.{ℕ, zero, suc, ◌+◌, ◌*◌, ◌≤◌, ◌<◌}
+use Rattle.std.specs.Prelude.{Option, Some, None}
+use Prim.Native.Nat.{ℕ, zero, suc, ◌*◌, ◌≤◌, ◌<◌}
 use native.Mathlib.Omega.{arith}
 use lib.ListN.{length, get_or, drop, length-append}
 use Rattle.ground.specs.Text.{bytes}
@@ -20,30 +21,30 @@ use Rattle.plancheck_text.proofs.WrittenLines.{line_taken, line-split}
 -- ---- lines that are taken are written so
 
 -- one line, where none is stray
-fine_line : (L : ℕ) (l another : List ℕ) (more : List (List ℕ)) → 1 ≤ L → stray_line L (l ∷ another ∷ more) ≡ 0
-    → (is_plan_line l ≡ true) × (stray_line (suc L) (another ∷ more) ≡ 0)
+fine_line : (L : ℕ) (l another : List ℕ) (more : List (List ℕ)) → stray_line L (l ∷ another ∷ more) ≡ None
+    → (is_plan_line l ≡ true) × (stray_line (suc L) (another ∷ more) ≡ None)
 unfolding stray_line
-fine_line L l another more h e = by_test (is_plan_line l) (stray_line (suc L) (another ∷ more)) e
+fine_line L l another more e = by_test (is_plan_line l) (stray_line (suc L) (another ∷ more)) e
   where
-    by_test : (c : Bool) (n : ℕ) → cond c n L ≡ 0 → (c ≡ true) × (n ≡ 0)
+    by_test : (c : Bool) (n : Option ℕ) → cond c n (Some L) ≡ None → (c ≡ true) × (n ≡ None)
     by_test true n e = (refl, e)
-    by_test false n e = absurd (omega (arith, e, h))
+    by_test false n e = absurd cc
 
-pub rest_empty : (L : ℕ) (rest : List ℕ) → 1 ≤ L → stray_rest L rest ≡ 0 → rest ≡ []
-rest_empty L [] h e = refl
-rest_empty L (c ∷ rest) h e = absurd (omega (arith, e, h))
+pub rest_empty : (L : ℕ) (rest : List ℕ) → stray_rest L rest ≡ None → rest ≡ []
+rest_empty L [] e = refl
+rest_empty L (c ∷ rest) e = absurd cc
 
-lines-only : (L : ℕ) (pieces : List (List ℕ)) → 1 ≤ L → stray_line L pieces ≡ 0 → LinesOf (joined newline pieces) (line_bytes pieces)
+lines-only : (L : ℕ) (pieces : List (List ℕ)) → stray_line L pieces ≡ None → LinesOf (joined newline pieces) (line_bytes pieces)
 unfolding stray_line line_bytes
-lines-only L [] h e = refl
-lines-only L (rest ∷ []) h e = ap (λ (t : List ℕ). t ++ []) (rest_empty L rest h e)
-lines-only L (l ∷ another ∷ more) h e =
-    let x = fine_line L l another more h e in (
+lines-only L [] e = refl
+lines-only L (rest ∷ []) e = ap (λ (t : List ℕ). t ++ []) (rest_empty L rest e)
+lines-only L (l ∷ another ∷ more) e =
+    let x = fine_line L l another more e in (
       l,
       joined newline (another ∷ more),
       line-only l x.0,
       sym (append_assoc l (10 ∷ []) (joined newline (another ∷ more))),
-      lines-only (suc L) (another ∷ more) (omega arith) x.1,
+      lines-only (suc L) (another ∷ more) x.1,
     )
 
 -- ---- the whole text
@@ -51,16 +52,16 @@ lines-only L (l ∷ another ∷ more) h e =
 module _ {b : List ℕ} where
   no_refusal : (c : Bool) (m : Meaning) → cond c m (refused (Malformed 1)) ≡ plan b → (c ≡ true) × (m ≡ plan b)
   no_refusal true m e = (refl, e)
-  no_refusal false m e = absurd (let z : ◌≡◌ {A = ℕ} 0 1 = cc in omega arith)
+  no_refusal false m e = absurd cc
 
-  no_stray : (L : ℕ) (t : List ℕ) → unless_stray L t ≡ plan b → (L ≡ 0) × (t ≡ b)
-  no_stray zero t e = (refl, cc)
-  no_stray (suc L) t e = absurd (let z : ◌≡◌ {A = ℕ} 0 1 = cc in omega arith)
+  no_stray : (L : Option ℕ) (t : List ℕ) → unless_stray L t ≡ plan b → (L ≡ None) × (t ≡ b)
+  no_stray None t e = (refl, cc)
+  no_stray (Some L) t e = absurd cc
 
 pub text-only : (pieces : List (List ℕ)) (b : List ℕ) → lines_meaning pieces ≡ plan b → PlanTextOf (joined newline pieces) b
 unfolding lines_meaning
-text-only [] b e = absurd (let z : ◌≡◌ {A = ℕ} 0 1 = cc in omega arith)
-text-only (rest ∷ []) b e = absurd (let z : ◌≡◌ {A = ℕ} 0 1 = cc in omega arith)
+text-only [] b e = absurd cc
+text-only (rest ∷ []) b e = absurd cc
 text-only (l ∷ another ∷ more) b e =
     let pieces = another ∷ more in
     let x = no_refusal (is_reach_line l) (unless_stray (stray_line 2 pieces) (line_bytes pieces)) e in
@@ -71,7 +72,7 @@ text-only (l ∷ another ∷ more) b e =
       number = r.0;
       rest = joined newline pieces;
       text = sym (append_assoc l (10 ∷ []) (joined newline pieces)) ∙ ap (λ (t : List ℕ). line t ++ joined newline pieces) r.1;
-      lines = subst (LinesOf (joined newline pieces)) y.1 (lines-only 2 pieces (omega arith) y.0);
+      lines = subst (LinesOf (joined newline pieces)) y.1 (lines-only 2 pieces y.0);
     }
 
 -- ---- the line of a byte

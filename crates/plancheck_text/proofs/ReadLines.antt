@@ -1,6 +1,6 @@
 -- A line that is taken is written as the grammar says, for the byte that is read: its digits are a number, and each form spells the words of one act.
 use mathlib.Core.Path.{◌≡◌, refl, sym, ap, ap₂, ◌∙◌, subst}
-use mathlib.Core.Logic.{◌⊎◌, ⊎_elim}
+use mathlib.Core.Logic.{⊎_elim}
 use mathlib.Core.Bool.{Bool, true, false, not, ◌&&◌, ◌||◌, cond}
 use mathlib.Core.List.{List, [], ◌∷◌, ◌++◌, append_assoc}
 use Prim.Native.Nat.{ℕ, zero, suc, ◌+◌, ◌-◌, ◌<◌}
@@ -19,7 +19,7 @@ use Rattle.sheet_words.specs.Words.{among, begins}
 use Rattle.sheet_words.proofs.NameForms.{between}
 use Rattle.plancheck_text.specs.Lines.{digit_count, is_number, is_reach_line, stands_for, has_form, is_stop, is_look, is_set, after_depth, is_plan_line, line_byte}
 use Rattle.plancheck_text.specs.Grammar.{Number, LineOf, stops, acts}
-use Rattle.plancheck_text.proofs.LineLaws.{digits-most, stands_by}
+use Rattle.plancheck_text.proofs.LineLaws.{digits_most, stands_by}
 use Rattle.plancheck_text.proofs.WrittenLines.{line_taken}
 
 -- ---- digits
@@ -107,7 +107,7 @@ module _ (line : List ℕ) (h : 0 < digit_count line) where
 
   is_depth : Number depth
   unfolding depth
-  is_depth = (digits-taken line, omega (arith, h, length-take-le (digit_count line) line (digits-most line)))
+  is_depth = (digits-taken line, omega (arith, h, length-take-le (digit_count line) line (digits_most line)))
 
   spelled : (w : List ℕ) → after_depth line ≡ 32 ∷ w → line ≡ depth ++ bytes " " ++ w
   unfolding depth after_depth

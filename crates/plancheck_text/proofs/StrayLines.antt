@@ -3,6 +3,7 @@ use mathlib.Core.Path.{◌≡◌, refl, sym, ap, ◌∙◌}
 use mathlib.Core.Logic.{inl, inr}
 use mathlib.Core.Bool.{Bool, true, false, cond}
 use mathlib.Core.List.{List, [], ◌∷◌}
+use Rattle.std.specs.Prelude.{Option, Some, None}
 use Prim.Native.Nat.{ℕ, zero, suc, ◌+◌, ◌<◌}
 use native.Mathlib.Omega.{arith}
 use lib.ListN.{length, drop}
@@ -55,22 +56,22 @@ module _ (L : ℕ) (l : List ℕ) (pieces : List (List ℕ)) where
       up_to zero h = fine
       up_to (suc i) h = later l pieces i (f.before i (omega (arith, h)))
 
-stray_is : (L : ℕ) (pieces : List (List ℕ)) (M : ℕ) → 0 < length pieces → 0 < M → stray_line L pieces ≡ M → First L pieces M
+stray_is : (L : ℕ) (pieces : List (List ℕ)) (M : ℕ) → 0 < length pieces → stray_line L pieces ≡ Some M → First L pieces M
 unfolding stray_line
-stray_is L [] M some h e = absurd (omega arith)
-stray_is L ([] ∷ []) M some h e = absurd (omega (arith, h, e))
-stray_is L ((c ∷ rest) ∷ []) M some h e = rw (sym e) (at_once L (c ∷ rest) [] (λ x. unended x))
+stray_is L [] M some e = absurd (omega arith)
+stray_is L ([] ∷ []) M some e = absurd cc
+stray_is L ((c ∷ rest) ∷ []) M some e = let z : M ≡ L = cc in rw z (at_once L (c ∷ rest) [] (λ x. unended x))
   where
     unended : FineAfter ((c ∷ rest) ∷ []) 0 → ⊥
     unended (inl (h, x)) = omega (arith, h)
     unended (inr (h, x)) = let z = ap length x in omega (arith, z)
-stray_is L (l ∷ another ∷ more) M some h e =
-    by_test (is_plan_line l) refl (stray_is (suc L) (another ∷ more) M (omega arith) h) e
+stray_is L (l ∷ another ∷ more) M some e =
+    by_test (is_plan_line l) refl (stray_is (suc L) (another ∷ more) M (omega arith)) e
   where
-    by_test : (b : Bool) → is_plan_line l ≡ b → (stray_line (suc L) (another ∷ more) ≡ M → First (suc L) (another ∷ more) M)
-        → cond b (stray_line (suc L) (another ∷ more)) L ≡ M → First L (l ∷ another ∷ more) M
+    by_test : (b : Bool) → is_plan_line l ≡ b → (stray_line (suc L) (another ∷ more) ≡ Some M → First (suc L) (another ∷ more) M)
+        → cond b (stray_line (suc L) (another ∷ more)) (Some L) ≡ Some M → First L (l ∷ another ∷ more) M
     by_test true t f e = past L l (another ∷ more) (inl (omega arith, (line_byte l, line-only l t))) (f e)
-    by_test false t f e = rw (sym e) (at_once L l (another ∷ more) (λ x. not_fine x))
+    by_test false t f e = let z : M ≡ L = cc in rw z (at_once L l (another ∷ more) (λ x. not_fine x))
       where
         not_fine : FineAfter (l ∷ another ∷ more) 0 → ⊥
         not_fine (inl (h, (c, x))) = true_false (sym (line_taken l c x).is-line ∙ t)
@@ -84,11 +85,11 @@ no_reach l pieces stray = (0, refl, record { there = omega arith; before = λ i 
 pub refusal_is : {x r : Refusal} → refused x ≡ refused r → r ≡ x
 refusal_is e = cc
 
-after_reach : (l : List ℕ) (pieces : List (List ℕ)) (M : ℕ) (t : List ℕ) (r : Refusal) → Fine (l ∷ pieces) 0 → (0 < M → First 2 pieces M)
+after_reach : (l : List ℕ) (pieces : List (List ℕ)) (M : Option ℕ) (t : List ℕ) (r : Refusal) → Fine (l ∷ pieces) 0 → ((m : ℕ) → M ≡ Some m → First 2 pieces m)
     → unless_stray M t ≡ refused r → RefusedAt (l ∷ pieces) r
-after_reach l pieces zero t r fine f e = absurd (let z : ◌≡◌ {A = ℕ} 0 1 = cc in omega arith)
-after_reach l pieces (suc M) t r fine f e =
-    let g = f (omega arith) in (
+after_reach l pieces None t r fine f e = absurd cc
+after_reach l pieces (Some M) t r fine f e =
+    let g = f M refl in (
       suc g.index,
       refusal_is e ∙ ap Malformed (omega (arith, g.number)),
       record {
@@ -98,7 +99,7 @@ after_reach l pieces (suc M) t r fine f e =
       },
     )
   where
-    up_to : (g : First 2 pieces (suc M)) (i : ℕ) → i < suc g.index → Fine (l ∷ pieces) i
+    up_to : (g : First 2 pieces M) (i : ℕ) → i < suc g.index → Fine (l ∷ pieces) i
     up_to g zero h = fine
     up_to g (suc i) h = later l pieces i (g.before i (omega (arith, h)))
 
@@ -114,7 +115,7 @@ lines_stray (l ∷ another ∷ more) r some e = by_test (is_reach_line l) refl e
     by_test true t e =
         let x = reach_only l t in
         after_reach l (another ∷ more) (stray_line 2 (another ∷ more)) (line_bytes (another ∷ more)) r (omega arith, (drop 6 l, x.0, x.1))
-        (λ h. stray_is 2 (another ∷ more) (stray_line 2 (another ∷ more)) (omega arith) h refl) e
+        (λ m x. stray_is 2 (another ∷ more) m (omega arith) x) e
     by_test false t e =
         rw (refusal_is e)
         (no_reach l (another ∷ more) (λ x. true_false (sym (is_reach x.1.0 x.1.1) ∙ ap is_reach_line (sym x.1.2) ∙ t)))

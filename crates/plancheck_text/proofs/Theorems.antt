@@ -21,8 +21,7 @@ use Rattle.sheet_words.specs.Words.{split, newline}
 use Rattle.sheet_words.proofs.Split.{some_piece, joined_split}
 use Rattle.plancheck_text.specs.Meaning.{Meaning, refused, plan, unless_stray, lines_meaning, plan_text_meaning, ReadsPlan}
 use Rattle.plancheck_text.specs.Grammar.{LineOf, LinesOf, PlanTextOf, RefusedAt}
-use Rattle.plancheck_text.specs.declared.PlanTold.{PlanTold}
-use Rattle.plancheck_text.specs.declared.PlanTold.TheVariants.{Read, Refused}
+use Rattle.std.specs.Prelude.{Result, Ok, Err}
 use Rattle.plancheck_text.proofs.TextLaws.{too_long, by_lines, reach_line, within}
 use Rattle.plancheck_text.proofs.PlanTexts.{text-only, line_at, lines-least}
 use Rattle.plancheck_text.proofs.StrayLines.{refusal_is, lines_stray}
@@ -106,13 +105,13 @@ stray_first s r e =
 
 -- ---- one result
 
-pub read_one : (m : Meaning) (x y : PlanTold) (old new other : List ℕ) → ReadsPlan m x old new → ReadsPlan m y old other → (x ≡ y) × (new ≡ other)
-read_one (refused r) (Refused why) (Refused cause) old new other p q = (ap Refused (p.0 ∙ sym q.0), p.1 ∙ sym q.1)
-read_one (plan b) (Read n) (Read k) old new other p q = (ap Read (p.count ∙ sym q.count), p.room ∙ sym q.room)
-read_one (refused r) (Read n) y old new other p q = elim p [ ]
-read_one (refused r) (Refused why) (Read k) old new other p q = elim q [ ]
-read_one (plan b) (Read n) (Refused cause) old new other p q = elim q [ ]
-read_one (plan b) (Refused why) y old new other p q = elim p [ ]
+pub read_one : (m : Meaning) (x y : Result ℕ Refusal) (old new other : List ℕ) → ReadsPlan m x old new → ReadsPlan m y old other → (x ≡ y) × (new ≡ other)
+read_one (refused r) (Err why) (Err cause) old new other p q = (ap Err (p.0 ∙ sym q.0), p.1 ∙ sym q.1)
+read_one (plan b) (Ok n) (Ok k) old new other p q = (ap Ok (p.count ∙ sym q.count), p.room ∙ sym q.room)
+read_one (refused r) (Ok n) y old new other p q = elim p [ ]
+read_one (refused r) (Err why) (Ok k) old new other p q = elim q [ ]
+read_one (plan b) (Ok n) (Err cause) old new other p q = elim q [ ]
+read_one (plan b) (Err why) y old new other p q = elim p [ ]
 
 pub has_form_unique : (κs : _) (a : _) (x y : _) (s : _) → has-form.Post κs a x s → has-form.Post κs a y s → x ≡ y
 has_form_unique κs a x y s p q = p ∙ sym q

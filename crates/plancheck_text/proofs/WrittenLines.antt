@@ -3,6 +3,7 @@
 use mathlib.Core.Path.{◌≡◌, refl, sym, ap, ap₂, ◌∙◌}
 use mathlib.Core.Bool.{Bool, true, false, ◌&&◌, ◌||◌, cond}
 use mathlib.Core.List.{List, [], ◌∷◌, ◌++◌, append_assoc, append-nil}
+use Rattle.std.specs.Prelude.{None}
 use Prim.Native.Nat.{ℕ, suc, ◌+◌, ◌-◌, ◌<◌}
 use native.Mathlib.Omega.{arith}
 use lib.Dec.{ltb, eqb, ltb→lt}
@@ -165,7 +166,7 @@ line_taken l c (stops depth number e x) = rw (e, x) (words_taken depth number (b
 line_taken l c (acts depth (Set i q b) number hi hq e x) = rw (e, x) (words_taken depth number (act_text (Set i q b)) (set_words i q hi hq b))
 line_taken l c (acts depth (Look i q) number hi hq e x) = rw (e, x) (words_taken depth number (act_text (Look i q)) (look_words i q hi hq))
 
-pub lines-taken : (b s : List ℕ) (L : ℕ) → LinesOf s b → (stray_line L (split newline s) ≡ 0) × (line_bytes (split newline s) ≡ b)
+pub lines-taken : (b s : List ℕ) (L : ℕ) → LinesOf s b → (stray_line L (split newline s) ≡ None) × (line_bytes (split newline s) ≡ b)
 unfolding split stray_line line_bytes
 lines-taken [] s L e = (ap (λ (t : List ℕ). stray_line L (split newline t)) e, ap (λ (t : List ℕ). line_bytes (split newline t)) e)
 lines-taken (c ∷ b) s L h =

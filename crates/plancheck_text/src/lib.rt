@@ -6,7 +6,7 @@
 
 mod line;
 
-ghost use Rattle.std.specs.Prelude.{◌≡◌, ◌≤◌, length, drop};
+ghost use Rattle.std.specs.Prelude.{◌≡◌, ◌≤◌, length};
 ghost use Rattle.print_room.specs.Wrote.{Wrote};
 ghost use Rattle.sheet_words.specs.Words.{split, newline};
 ghost use Rattle.plancheck_text.specs.Meaning.{plan_text_meaning, stray_line, line_bytes, ReadsPlan};
@@ -14,7 +14,7 @@ ghost use Rattle.plancheck_text.specs.Meaning.{plan_text_meaning, stray_line, li
 use crate::line::{is_plan_line, is_reach, line_byte};
 pub use line::{has_form, index};
 use refusal::Refusal;
-use sheet_words::piece_end;
+use sheet_words::first_line;
 
 // The most bytes of a plan's text: "over 524,288 bytes is 24".
 pub const PLAN_TEXT_MOST: usize = 524288;
@@ -23,72 +23,53 @@ pub const PLAN_TEXT_MOST: usize = 524288;
 // fits: 524,288 less 8 for the first line, by 7 for each other.
 pub const TEXT_BYTES_MOST: usize = (PLAN_TEXT_MOST - 8) / 7;
 
-// What is said of a plan's text.
-#[derive(Clone, Copy)]
-pub enum PlanTold {
-    // It is a text of this many plan bytes. The room holds as many of them as fit.
-    Read(usize),
-    // It is refused: 22 with the line as its place, or 24.
-    Refused(Refusal),
-}
-
-// The number of the first stray line from byte `from` on, where line 2 begins; 0 where there is none.
-fn stray_line(text: &[u8], from: usize) -> usize
-    requires { (1 ≤ from) × (from ≤ length text.now) × (length text.now ≤ 524288) }
-    ensures { result ≡ stray_line 2 (split newline (drop from text.now)) }
+// The number of the first stray line of a text that begins with line 2; None where there is none.
+fn stray_line(text: &[u8]) -> Option<usize>
+    requires { length text.now ≤ 524288 }
+    ensures { result ≡ stray_line 2 (split newline text.now) }
 {
-    let mut at = from;
     let mut number = 2;
-    loop {
-        let end = piece_end(text, at, b'\n');
-        if text.len() <= end {
-            if at < text.len() {
-                return number;
-            }
-            return 0;
+    let mut rest = text;
+    while let Some((line, after)) = first_line(rest) {
+        if !is_plan_line(line) {
+            return Some(number);
         }
-        if !is_plan_line(&text[at..end]) {
-            return number;
-        }
-        at = end + 1;
         number += 1;
+        rest = after;
     }
+    if rest.is_empty() { None } else { Some(number) }
 }
 
-// Writes the byte of each line from byte `from` on into the room, and gives their count.
-fn write(text: &[u8], from: usize, room: &mut [u8]) -> usize
-    requires { (from ≤ length text.now) × (length text.now ≤ 524288) }
-    ensures { Wrote room.old 0 (line_bytes (split newline (drop from text.now))) room.new result }
+// Writes the byte of each line into the room, and gives their count.
+fn write(text: &[u8], room: &mut [u8]) -> usize
+    requires { length text.now ≤ 524288 }
+    ensures { Wrote room.old 0 (line_bytes (split newline text.now)) room.new result }
 {
-    let mut at = from;
     let mut to = 0;
-    loop {
-        let end = piece_end(text, at, b'\n');
-        if text.len() <= end {
-            return to;
-        }
-        to = print_room::put(line_byte(&text[at..end]), room, to);
-        at = end + 1;
+    let mut rest = text;
+    while let Some((line, after)) = first_line(rest) {
+        to = print_room::put(line_byte(line), room, to);
+        rest = after;
     }
+    to
 }
 
-// The plan bytes of a text of any length and content, into a room of any length.
-pub fn read(text: &[u8], room: &mut [u8]) -> PlanTold
+// The plan bytes of a text of any length and content, into a room of any length: how many they are; the
+// room holds as many of them as fit. Or why it is refused: 22 with the line as its place, or 24.
+pub fn read(text: &[u8], room: &mut [u8]) -> Result<usize, Refusal>
     ensures { ReadsPlan (plan_text_meaning text.now) result room.old room.new }
 {
     if PLAN_TEXT_MOST < text.len() {
-        return PlanTold::Refused(Refusal::SheetLength);
+        return Err(Refusal::SheetLength);
     }
-    let end = piece_end(text, 0, b'\n');
-    if text.len() <= end {
-        return PlanTold::Refused(Refusal::Malformed(1));
+    let Some((first, rest)) = first_line(text) else {
+        return Err(Refusal::Malformed(1));
+    };
+    if !is_reach(first) {
+        return Err(Refusal::Malformed(1));
     }
-    if !is_reach(&text[..end]) {
-        return PlanTold::Refused(Refusal::Malformed(1));
+    if let Some(stray) = stray_line(rest) {
+        return Err(Refusal::Malformed(stray));
     }
-    let stray = stray_line(text, end + 1);
-    if stray != 0 {
-        return PlanTold::Refused(Refusal::Malformed(stray));
-    }
-    PlanTold::Read(write(text, end + 1, room))
+    Ok(write(rest, room))
 }

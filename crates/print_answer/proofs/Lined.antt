@@ -9,7 +9,7 @@ use Rattle.ground.specs.Text.{bytes}
 use Rattle.knowledge_acts.specs.Acts.{act_of}
 use Rattle.knowledge_acts.specs.declared.act.Act.{Act}
 use Rattle.knowledge_acts.specs.declared.act.Act.TheVariants.{Set, Look}
-use Rattle.knowledge_acts.specs.declared.act.Named.TheVariants.{One, Nothing}
+use Rattle.std.specs.Prelude.{Some, None}
 use Rattle.plan.specs.Plans.{Plan}
 use Rattle.plan.specs.Bytes.{encode}
 use Rattle.print_room.specs.Decimal.{decimal}
@@ -31,14 +31,14 @@ module _ {plan : List ℕ} {at depth to : ℕ} where
   bounds : (r : Readable plan at depth to) {p : Plan} → r.tree ≡ p → (depth + length (encode p) < 2 ^ 64) × Ends to (plan_text depth p)
   bounds r e = subst (λ (p : Plan). (depth + length (encode p) < 2 ^ 64) × Ends to (plan_text depth p)) e (r.deep, r.ends)
 
-  module _ (named : act_of (get_or plan at 0) ≡ Nothing) where
+  module _ (named : act_of (get_or plan at 0) ≡ None) where
     pub stop-ends : Readable plan at depth to → Ends to (numbered depth (bytes "stop"))
     stop-ends r = (bounds r (parts r.tree r.shown named)).1
 
     pub stop_lined : {old new : List ℕ} {next : ℕ} → Wrote old to (numbered depth (bytes "stop")) new next → Lines plan at depth old to (record { at = at + 1; to = next }) new
     stop_lined w p s = subst (Lined plan at depth _ to _ _) (sym (parts p s named)) (record { wrote = w; read = refl })
 
-  module _ {i q : ℕ} {b : Bool} {old between : List ℕ} {next : ℕ} (named : act_of (get_or plan at 0) ≡ One (Set i q b)) (w : Wrote old to (numbered depth (act_text (Set i q b))) between next) where
+  module _ {i q : ℕ} {b : Bool} {old between : List ℕ} {next : ℕ} (named : act_of (get_or plan at 0) ≡ Some (Set i q b)) (w : Wrote old to (numbered depth (act_text (Set i q b))) between next) where
     pub set_next : Readable plan at depth to → Readable plan (at + 1) (depth + 1) next
     set_next r =
         let s = parts r.tree r.shown named in
@@ -55,7 +55,7 @@ module _ {plan : List ℕ} {at depth to : ℕ} where
         let l = later x.0 x.2 in
         subst (Lined plan at depth old to r new) (sym x.1) (record { wrote = wrote_then w l.wrote; read = omega (arith, l.read) })
 
-  module _ {i q : ℕ} {old between : List ℕ} {next : ℕ} (named : act_of (get_or plan at 0) ≡ One (Look i q)) (w : Wrote old to (numbered depth (act_text (Look i q))) between next) where
+  module _ {i q : ℕ} {old between : List ℕ} {next : ℕ} (named : act_of (get_or plan at 0) ≡ Some (Look i q)) (w : Wrote old to (numbered depth (act_text (Look i q))) between next) where
     pub false_next : Readable plan at depth to → Readable plan (at + 1) (depth + 1) next
     false_next r =
         let s = parts r.tree r.shown named in
@@ -91,7 +91,7 @@ module _ {plan : List ℕ} {at depth to : ℕ} where
           })
 
   -- a line that the room's places have a number for
-  pub act_ends : (a : Act) → act_of (get_or plan at 0) ≡ One a → Readable plan at depth to → Ends to (numbered depth (act_text a))
+  pub act_ends : (a : Act) → act_of (get_or plan at 0) ≡ Some a → Readable plan at depth to → Ends to (numbered depth (act_text a))
   act_ends (Set i q b) named r =
       let s = parts r.tree r.shown named in
       ends-left _ (plan_text (depth + 1) s.0) (bounds r s.1).1

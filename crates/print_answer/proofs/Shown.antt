@@ -10,23 +10,23 @@ use lib.ListN.{length, get_or, drop, length-drop}
 use lib.Seq.{drop-cons, drop-drop, drop-append_seam}
 use Rattle.knowledge_acts.specs.Acts.{act_of}
 use Rattle.knowledge_acts.specs.declared.act.Act.TheVariants.{Set, Look}
-use Rattle.knowledge_acts.specs.declared.act.Named.{Named}
-use Rattle.knowledge_acts.specs.declared.act.Named.TheVariants.{One, Nothing}
+use Rattle.knowledge_acts.specs.declared.act.Act.{Act}
+use Rattle.std.specs.Prelude.{Option, Some, None}
 use Rattle.knowledge_acts.proofs.Acts.{act_of_byte}
 use Rattle.plan.specs.Plans.{Plan, stop, set_then, look_then}
 use Rattle.plan.specs.Bytes.{encode}
 use Rattle.print_answer.specs.Inner.{Shows}
 
-abbrev pub named_by : Plan → Named
-named_by stop = Nothing
-named_by (set_then i q b p) = One (Set i q b)
-named_by (look_then i q p r) = One (Look i q)
+abbrev pub named_by : Plan → Option Act
+named_by stop = None
+named_by (set_then i q b p) = Some (Set i q b)
+named_by (look_then i q p r) = Some (Look i q)
 
 -- the plan's form, by what its first byte names, and where its parts begin
-abbrev pub Parts : List ℕ → ℕ → Plan → Named → Type 0
-Parts plan at p Nothing = p ≡ stop
-Parts plan at p (One (Set i q b)) = (t : Plan) × (p ≡ set_then i q b t) × Shows plan (at + 1) t
-Parts plan at p (One (Look i q)) =
+abbrev pub Parts : List ℕ → ℕ → Plan → Option Act → Type 0
+Parts plan at p None = p ≡ stop
+Parts plan at p (Some (Set i q b)) = (t : Plan) × (p ≡ set_then i q b t) × Shows plan (at + 1) t
+Parts plan at p (Some (Look i q)) =
     (t : Plan) × (u : Plan) × (p ≡ look_then i q t u) × Shows plan (at + 1) t × Shows plan (at + 1 + length (encode t)) u
 
 drop-first : (plan : List ℕ) (at : ℕ) {c : ℕ} {rest : List ℕ} → drop at plan ≡ c ∷ rest → (at < length plan) × (get_or plan at 0 ≡ c) × (drop (at + 1) plan ≡ rest)
@@ -70,5 +70,5 @@ module _ {plan : List ℕ} {at : ℕ} where
   own (set_then i q b p) s = (p, refl, set_after s)
   own (look_then i q p r) s = (p, r, refl, false_after s, true_after s)
 
-  pub parts : (p : Plan) {named : Named} → Shows plan at p → act_of (get_or plan at 0) ≡ named → Parts plan at p named
+  pub parts : (p : Plan) {named : Option Act} → Shows plan at p → act_of (get_or plan at 0) ≡ named → Parts plan at p named
   parts p s e = subst (Parts plan at p) (sym (shown-first p s).1 ∙ e) (own p s)

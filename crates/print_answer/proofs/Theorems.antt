@@ -21,6 +21,7 @@ use Rattle.print_answer.proofs.Lengths.{plan-length, whole-shown}
 use lib.Seq.{take_all, take-append_seam}
 use Rattle.print_room.proofs.Decimals.{decimal-length}
 use Rattle.print_answer.specs.Printed.{refused_text, reach_text, fitted, Prints}
+use Rattle.print_answer.proofs.listing.value_digit.Reads as value_digit
 
 -- ---- a lettered plan's bytes determine it
 
@@ -116,3 +117,6 @@ reach_length h p few low = simp length-append (omega (arith, decimal-length 2 h 
 pub sample_text : reach_text 4 sample ≡ bytes "reach 4\n0 look c 2\n1 set a 2 1\n2 set b 1 1\n3 stop\n1 set c 2 0\n2 set a 2 1\n3 set b 1 1\n4 stop\n"
 unfolding decimal
 sample_text = ap (λ (lines : List ℕ). bytes "reach 4\n" ++ lines) sample_lines
+
+pub value_digit_unique : (κs : _) (a : _) (x y : _) (s : _) → value_digit.Post κs a x s → value_digit.Post κs a y s → x ≡ y
+value_digit_unique κs a x y s p q = p ∙ sym q

@@ -1,6 +1,6 @@
 -- "It prints `refused NUMBER PLACE` .., or `cannot`, or `reach H` and a line per plan byte"; and a refusal with its second number. What a plan's lines are stands in
 -- print_answer/specs/Listed.
-use Rattle.std.specs.Prelude.{◌≡◌, List, ◌++◌, ℕ, zero, suc, length, take, drop}
+use Rattle.std.specs.Prelude.{◌≡◌, List, ◌++◌, ℕ, length, take, drop, Option, Some, None}
 use Rattle.ground.specs.Text.{bytes}
 use Rattle.plan.specs.Plans.{Plan}
 use Rattle.print_room.specs.Decimal.{decimal}
@@ -13,10 +13,10 @@ refused_at number place = bytes "refused " ++ decimal number ++ bytes " " ++ dec
 abbrev pub refused_text : ℕ → ℕ → List ℕ
 refused_text number place = line (refused_at number place)
 
--- "Refusal 18 carries a second number": where there is one, it stands last. It is given as one more than it is, and as 0 where there is none
-abbrev pub seconded_text : ℕ → ℕ → ℕ → List ℕ
-seconded_text number place zero = refused_text number place
-seconded_text number place (suc second) = line (refused_at number place ++ bytes " " ++ decimal second)
+-- "Refusal 18 carries a second number": where there is one, it stands last
+abbrev pub seconded_text : ℕ → ℕ → Option ℕ → List ℕ
+seconded_text number place None = refused_text number place
+seconded_text number place (Some second) = line (refused_at number place ++ bytes " " ++ decimal second)
 
 -- "`cannot`"
 abbrev pub cannot_text : List ℕ

@@ -5,12 +5,14 @@
 
 mod listing;
 
-ghost use Rattle.std.specs.Prelude.{◌≡◌, ◌≤◌, length};
+ghost use Rattle.std.specs.Prelude.{◌≡◌, ◌≤◌, length, Some};
 ghost use Rattle.plan.specs.Plans.{Plan};
 ghost use Rattle.plan.specs.Bytes.{encode};
 ghost use Rattle.print_room.specs.Wrote.{Wrote};
 ghost use Rattle.print_answer.specs.Listed.{Lettered};
 ghost use Rattle.print_answer.specs.Printed.{refused_at, refused_text, seconded_text, cannot_text, height_text, reach_text, Prints};
+
+pub use listing::value_digit;
 
 // `refused NUMBER PLACE` without the line's end, and its length.
 fn refused_at(number: u64, place: usize, out: &mut [u8]) -> usize
@@ -30,18 +32,24 @@ pub fn refused(number: u64, place: usize, out: &mut [u8]) -> usize
     print_room::put(b'\n', out, to)
 }
 
-// The answer `refused NUMBER PLACE SECOND`, and its length: `above` is one more than the second number, or 0
-// where there is none, and then none is printed.
-pub fn seconded(number: u64, place: usize, above: u8, out: &mut [u8]) -> usize
-    ensures { Prints out.old (seconded_text number place above) result out.new }
+// The answer `refused NUMBER PLACE SECOND`, and its length.
+fn refused_second(number: u64, place: usize, second: u8, out: &mut [u8]) -> usize
+    ensures { Prints out.old (seconded_text number place (Some second)) result out.new }
 {
-    if above == 0 {
-        return refused(number, place, out);
-    }
     let to = refused_at(number, place, out);
     let to = print_room::put(b' ', out, to);
-    let to = print_room::number(above as u64 - 1, out, to);
+    let to = print_room::number(second as u64, out, to);
     print_room::put(b'\n', out, to)
+}
+
+// The same, or `refused NUMBER PLACE` where there is no second number.
+pub fn seconded(number: u64, place: usize, second: Option<u8>, out: &mut [u8]) -> usize
+    ensures { Prints out.old (seconded_text number place second) result out.new }
+{
+    match second {
+        Some(second) => refused_second(number, place, second, out),
+        None => refused(number, place, out),
+    }
 }
 
 // The answer `cannot`, and its length.
@@ -74,6 +82,5 @@ pub fn reach(height: u8, plan: &[u8], out: &mut [u8]) -> usize
     ensures { (p : Plan) → plan.now ≡ encode p → Lettered p → Prints out.old (reach_text height p) result out.new }
 {
     let to = reach_line(height, out);
-    let end = listing::lines(plan, 0, 0, out, to);
-    end.to
+    listing::lines(plan, 0, 0, out, to).to
 }

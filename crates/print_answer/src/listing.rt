@@ -7,7 +7,7 @@ ghost use Rattle.print_room.specs.Wrote.{Ends, Wrote};
 ghost use Rattle.print_answer.specs.Listed.{value_digit, act_text, numbered};
 ghost use Rattle.print_answer.specs.Inner.{Readable, Lines};
 
-use knowledge_acts::{Act, Named};
+use knowledge_acts::Act;
 
 // The places after a plan's bytes and after its lines.
 #[derive(Clone, Copy)]
@@ -16,14 +16,11 @@ pub struct Next {
     pub to: usize,
 }
 
-// V of a set act.
-fn value_digit(value: bool) -> u8
+// V of a set act, and of what a look has seen: the digit of a value.
+pub fn value_digit(value: bool) -> u8
     ensures { result ≡ value_digit value }
 {
-    if value {
-        return b'1';
-    }
-    b'0'
+    if value { b'1' } else { b'0' }
 }
 
 // One line: the depth, the text, the end.
@@ -83,27 +80,16 @@ pub(crate) fn lines(plan: &[u8], at: usize, depth: u64, out: &mut [u8], to: usiz
     requires { Readable plan.now at depth to }
     ensures { Lines plan.now at depth out.old to result out.new }
 {
-    match Act::of_byte(plan[at]) {
-        Named::Nothing => {
-            let to = line(depth, b"stop", out, to);
-            Next { at: at + 1, to }
-        }
-        Named::One(act) => {
-            let to = act_line(depth, act, out, to);
-            match act {
-                Act::Set {
-                    setting: _,
-                    post: _,
-                    value: _,
-                } => lines(plan, at + 1, depth + 1, out, to),
-                Act::Look {
-                    setting: _,
-                    post: _,
-                } => {
-                    let no = lines(plan, at + 1, depth + 1, out, to);
-                    lines(plan, no.at, depth + 1, out, no.to)
-                }
-            }
+    let Some(act) = Act::of_byte(plan[at]) else {
+        let to = line(depth, b"stop", out, to);
+        return Next { at: at + 1, to };
+    };
+    let to = act_line(depth, act, out, to);
+    match act {
+        Act::Set { .. } => lines(plan, at + 1, depth + 1, out, to),
+        Act::Look { .. } => {
+            let no = lines(plan, at + 1, depth + 1, out, to);
+            lines(plan, no.at, depth + 1, out, no.to)
         }
     }
 }

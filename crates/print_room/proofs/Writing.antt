@@ -1,11 +1,11 @@
 -- Text written piece by piece is written whole.
 use mathlib.Core.Path.{◌≡◌, refl, sym, ap, ap₂, ◌∙◌, subst}
 use mathlib.Core.List.{List, [], ◌∷◌, ◌++◌}
-use Prim.Native.Nat.{ℕ, ◌+◌, ◌≤◌, ◌<◌}
+use Prim.Native.Nat.{ℕ, ◌+◌, ◌<◌}
 use native.Mathlib.Numerals.{add-one}
 use native.Mathlib.Omega.{arith}
 use lib.ListN.{length, get_or, take, length-append}
-use lib.Seq.{sets, length-sets, take_all, take-suc}
+use lib.Seq.{sets, length-sets, take-suc}
 use Rattle.ground.proofs.Lists.{sets-append}
 use Rattle.print_room.specs.Wrote.{Ends, Wrote}
 
@@ -27,13 +27,10 @@ ends-right {s = s} {t = t} w e = record { below = omega (arith, e.below, w.next_
 pub wrote-length : {a b s : List ℕ} {i j : ℕ} → Wrote a i s b j → length b ≡ length a
 wrote-length {a} {s = s} {i = i} w = ap length w.room ∙ length-sets a i s
 
--- one turn of the loop over a text, and its end
+-- one turn of the loop over a text
 module _ {old new : List ℕ} {to at : ℕ} (text : List ℕ) (i : ℕ) (so_far : Wrote old to (take i text) new at) where
   pub wrote-more : {last : List ℕ} {next : ℕ} → i < length text → Wrote new at (get_or text i 0 ∷ []) last next → Wrote old to (take (i + 1) text) last next
   wrote-more {last} {next} h w = rw (add-one, take-suc text i 0 h) (wrote_then so_far w)
-
-  pub wrote-all : length text ≤ i → Wrote old to text new at
-  wrote-all h = rw (take_all i text h) at so_far
 
 -- nothing written, and a text under another name
 pub wrote_none : {old : List ℕ} {to : ℕ} → Wrote old to [] old to

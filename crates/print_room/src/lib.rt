@@ -14,7 +14,6 @@ pub fn put(byte: u8, out: &mut [u8], to: usize) -> usize
 {
     if to < out.len() {
         out[to] = byte;
-        return to + 1;
     }
     to + 1
 }
@@ -24,11 +23,9 @@ pub fn word(text: &[u8], out: &mut [u8], to: usize) -> usize
     requires { Ends to text.now }
     ensures { Wrote out.old to text.now out.new result }
 {
-    let mut i = 0;
     let mut at = to;
-    while i < text.len() {
-        at = put(text[i], out, at);
-        i += 1;
+    for byte in text {
+        at = put(*byte, out, at);
     }
     at
 }

@@ -4,10 +4,8 @@
 
 ghost use Rattle.std.specs.Prelude.{◌≡◌, length};
 
-use book_sound::ReadAnswer;
-use program_files::Input;
+use book_sound::Size;
 use program_outcome::Outcome;
-use sheet_legs::LegsTold;
 
 const BOOK_WORD: usize = 1;
 
@@ -22,44 +20,21 @@ const QUESTION_READ_MOST: usize = sheet_words::TEXT_MOST + 1;
 const RANKS_MOST: usize = 2 * 7 * 7 * 7 * 7 * 7 * 7 * 7;
 
 // Writes out the answer to a question over a book of this size, and says what came of it.
-fn deliver_sound(rt: &HostRuntime, settings: u8, posts: u8, question: &[u8], answer: &[u8]) {
+fn deliver_sound(rt: &HostRuntime, size: Size, question: &[u8], answer: &[u8]) {
     let outcome = program_outcome::of_answer(answer);
-    let reading = sheet_legs::read_legs(question, settings, posts);
-    let told = reading.told;
-    match told {
-        LegsTold::Refused(why, _) => {
-            let numbers = why.numbers();
-            program_outcome::deliver_fault(
-                rt,
-                answer,
-                outcome,
-                numbers.number,
-                numbers.place,
-                b"question\n",
-            );
+    match sheet_legs::read_legs(question, size.settings, size.posts) {
+        Ok(_) => program_outcome::deliver(rt, answer, outcome),
+        Err(fault) => {
+            program_outcome::deliver_fault(rt, answer, outcome, fault.why, b"question\n")
         }
-        LegsTold::One => program_outcome::deliver(rt, answer, outcome),
-        LegsTold::Two => program_outcome::deliver(rt, answer, outcome),
     }
 }
 
 // Writes out the answer, and says what came of it; of a refusal whose it is, with its own place.
 fn deliver(rt: &HostRuntime, book: &[u8], question: &[u8], answer: &[u8]) {
     match book_sound::sound(book) {
-        ReadAnswer::Refused(why) => {
-            let numbers = why.numbers();
-            program_outcome::deliver_fault(
-                rt,
-                answer,
-                Outcome::Refused,
-                numbers.number,
-                numbers.place,
-                b"book\n",
-            );
-        }
-        ReadAnswer::Book { settings, posts } => deliver_sound(
-            rt, settings, posts, question, answer,
-        ),
+        Ok(size) => deliver_sound(rt, size, question, answer),
+        Err(why) => { program_outcome::deliver_fault(rt, answer, Outcome::Refused, why, b"book\n") }
     }
 }
 
@@ -87,17 +62,15 @@ fn ask(rt: &HostRuntime, book: &[u8], question: &[u8]) {
 
 // The question that is put to a book.
 fn question_over(rt: &HostRuntime, book: &[u8]) {
-    let mut question = [0u8; QUESTION_READ_MOST];
-    match program_files::read_named(rt, QUESTION_WORD, &mut question) {
-        Input::Failed(_) => program_outcome::say(rt, Outcome::Trouble),
-        Input::Whole(length) => ask(rt, book, &question[..length]),
+    let mut room = [0u8; QUESTION_READ_MOST];
+    if let Some(question) = program_outcome::input(rt, QUESTION_WORD, &mut room) {
+        ask(rt, book, question);
     }
 }
 
 fn main(rt: HostRuntime) {
-    let mut book = [0u8; BOOK_READ_MOST];
-    match program_files::read_named(&rt, BOOK_WORD, &mut book) {
-        Input::Failed(_) => program_outcome::say(&rt, Outcome::Trouble),
-        Input::Whole(length) => question_over(&rt, &book[..length]),
+    let mut room = [0u8; BOOK_READ_MOST];
+    if let Some(book) = program_outcome::input(&rt, BOOK_WORD, &mut room) {
+        question_over(&rt, book);
     }
 }

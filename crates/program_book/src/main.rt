@@ -2,10 +2,6 @@
 // names. That file is made; one that is there is never overwritten, and a refusal or a failed write leaves none.
 #![tactic(auto)]
 
-use program_files::Input;
-use program_outcome::Outcome;
-use sheet_book::MakeAnswer;
-
 const RULES_WORD: usize = 1;
 
 const BOOK_WORD: usize = 2;
@@ -17,25 +13,14 @@ const READ_MOST: usize = sheet_words::TEXT_MOST + 1;
 fn make(rt: &HostRuntime, rules: &[u8]) {
     let mut book = [0u8; sheet_book::BOOK_MOST];
     match sheet_book::make_book(rules, &mut book) {
-        MakeAnswer::Made(length) => program_outcome::store(rt, BOOK_WORD, &book[..length]),
-        MakeAnswer::Refused(why, line) => {
-            let numbers = why.numbers();
-            program_outcome::refuse(
-                rt,
-                numbers.number,
-                line,
-                numbers.place,
-                b"rules\n",
-                Outcome::Refused,
-            );
-        }
+        Ok(length) => program_outcome::store(rt, BOOK_WORD, &book[..length]),
+        Err(fault) => program_outcome::refuse_line(rt, fault, b"rules\n"),
     }
 }
 
 fn main(rt: HostRuntime) {
-    let mut rules = [0u8; READ_MOST];
-    match program_files::read_named(&rt, RULES_WORD, &mut rules) {
-        Input::Failed(_) => program_outcome::say(&rt, Outcome::Trouble),
-        Input::Whole(length) => make(&rt, &rules[..length]),
+    let mut room = [0u8; READ_MOST];
+    if let Some(rules) = program_outcome::input(&rt, RULES_WORD, &mut room) {
+        make(&rt, rules);
     }
 }

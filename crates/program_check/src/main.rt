@@ -9,9 +9,8 @@ ghost use Rattle.std.specs.Prelude.{◌≡◌, ◌<◌, ◌≤◌};
 use book_block::BLOCK;
 use ground::SETTINGS_MOST;
 use plancheck_text::PLAN_TEXT_MOST;
-use program_files::{Input, read_named};
 use program_outcome::Outcome;
-use sheet_check::CheckTold;
+use sheet_check::CheckFault;
 use sheet_words::TEXT_MOST;
 
 const BOOK_WORD: usize = 1;
@@ -33,84 +32,57 @@ fn plan_outcome(number: u64) -> Outcome
     ensures { (number < 17 → result ≡ Outcome.Refused) × (17 ≤ number → result ≡ Outcome.No) }
 {
     if number < 17 {
-        return Outcome::Refused;
+        Outcome::Refused
+    } else {
+        Outcome::No
     }
-    Outcome::No
+}
+
+// Writes out what is wrong.
+fn refuse(rt: &HostRuntime, fault: CheckFault) {
+    match fault {
+        CheckFault::Book(why) => program_outcome::refuse(rt, why, b"book\n", Outcome::Refused),
+        CheckFault::Question(fault) => program_outcome::refuse_line(rt, fault, b"question\n"),
+        CheckFault::Text(why) => program_outcome::refuse(rt, why, b"plan\n", Outcome::Refused),
+        CheckFault::Plan(why) => {
+            let numbers = why.numbers();
+            program_outcome::refuse(rt, why, b"plan\n", plan_outcome(numbers.number));
+        }
+    }
 }
 
 // Writes out what is said of a plan.
-fn tell(rt: &HostRuntime, told: CheckTold) {
+fn tell(rt: &HostRuntime, told: Result<(), CheckFault>) {
     match told {
-        CheckTold::Yes => program_outcome::deliver(rt, b"yes\n", Outcome::Done),
-        CheckTold::BookRefused(why) => {
-            let numbers = why.numbers();
-            program_outcome::refuse(
-                rt,
-                numbers.number,
-                numbers.place,
-                numbers.place,
-                b"book\n",
-                Outcome::Refused,
-            );
-        }
-        CheckTold::QuestionRefused(why, line) => {
-            let numbers = why.numbers();
-            program_outcome::refuse(
-                rt,
-                numbers.number,
-                line,
-                numbers.place,
-                b"question\n",
-                Outcome::Refused,
-            );
-        }
-        CheckTold::TextRefused(why) => {
-            let numbers = why.numbers();
-            program_outcome::refuse(
-                rt,
-                numbers.number,
-                numbers.place,
-                numbers.place,
-                b"plan\n",
-                Outcome::Refused,
-            );
-        }
-        CheckTold::PlanRefused(why) => {
-            let numbers = why.numbers();
-            program_outcome::refuse_seconded(
-                rt,
-                numbers.number,
-                numbers.place,
-                numbers.second,
-                b"plan\n",
-                plan_outcome(numbers.number),
-            );
-        }
+        Ok(()) => program_outcome::deliver(rt, b"yes\n", Outcome::Done),
+        Err(fault) => refuse(rt, fault),
     }
 }
 
-// Reads the plan, and checks it.
-fn check_plan(rt: &HostRuntime, book: &[u8], question: &[u8]) {
-    let mut plan = [0u8; PLAN_ROOM];
-    match read_named(rt, PLAN_WORD, &mut plan) {
-        Input::Failed(_) => program_outcome::say(rt, Outcome::Trouble),
-        Input::Whole(length) => tell(rt, sheet_check::check(book, question, &plan[..length])),
+// Reads the plan into this room, and checks it.
+fn check_named(rt: &HostRuntime, book: &[u8], question: &[u8], room: &mut [u8]) {
+    if let Some(plan) = program_outcome::input(rt, PLAN_WORD, room) {
+        tell(rt, sheet_check::check(book, question, plan));
     }
+}
+
+// The room for a plan, which another function fills: so the prover never writes it out.
+fn check_plan(rt: &HostRuntime, book: &[u8], question: &[u8]) {
+    let mut room = [0u8; PLAN_ROOM];
+    check_named(rt, book, question, &mut room);
 }
 
 // Reads the question, and then the plan.
 fn check_question(rt: &HostRuntime, book: &[u8]) {
-    let mut question = [0u8; QUESTION_ROOM];
-    match read_named(rt, QUESTION_WORD, &mut question) {
-        Input::Failed(_) => program_outcome::say(rt, Outcome::Trouble),
-        Input::Whole(length) => check_plan(rt, book, &question[..length]),
+    let mut room = [0u8; QUESTION_ROOM];
+    if let Some(question) = program_outcome::input(rt, QUESTION_WORD, &mut room) {
+        check_plan(rt, book, question);
     }
 }
 
 fn main(rt: HostRuntime) {
-    let mut book = [0u8; BOOK_ROOM];
-    match read_named(&rt, BOOK_WORD, &mut book) {
-        Input::Failed(_) => program_outcome::say(&rt, Outcome::Trouble),
-        Input::Whole(length) => check_question(&rt, &book[..length]),
+    let mut room = [0u8; BOOK_ROOM];
+    if let Some(book) = program_outcome::input(&rt, BOOK_WORD, &mut room) {
+        check_question(&rt, book);
     }
 }

@@ -1,8 +1,5 @@
 -- What is counted of an input is in the room.
-use Rattle.std.specs.Prelude.{List, ℕ, ◌≤◌, length}
-use Rattle.program_files.specs.declared.Input.{Input}
-use Rattle.program_files.specs.declared.Input.TheVariants.{Whole, Failed}
+use Rattle.std.specs.Prelude.{List, ℕ, ◌≤◌, length, Result, IfOk}
 
-abbrev pub InRoom : Input → List ℕ → Type 0
-InRoom (Whole n) room = n ≤ length room
-InRoom (Failed why) room = Unit
+abbrev pub InRoom : {E : Type 0} → Result ℕ E → List ℕ → Type 0
+InRoom result room = IfOk result (λ n. n ≤ length room)

@@ -13,15 +13,6 @@ use std::fs::{self, File, OpenOptions};
 use std::io::{self, ErrorKind, Read, Write};
 use std::str;
 
-// What was read.
-#[derive(Clone, Copy)]
-pub enum Input {
-    // All of it, so many bytes at the start of the room; or as many as the room has.
-    Whole(usize),
-    // A read failed, for this reason. What the room holds counts for nothing.
-    Failed(io::Error),
-}
-
 // How often in a row a read may be interrupted by a signal before it counts as failed: a program has to
 // end.
 const INTERRUPTED_MOST: u32 = 1000000;
@@ -42,19 +33,20 @@ fn read_some<R: Read>(from: &mut R, room: &mut [u8]) -> io::Result<usize>
     Err(io::Error::from(ErrorKind::Interrupted))
 }
 
-// Reads until the room is full or the input ends.
-pub fn read_all<R: Read>(from: &mut R, room: &mut [u8]) -> Input
+// Reads until the room is full or the input ends: so many bytes at the start of the room. After an error what the room
+// holds counts for nothing.
+pub fn read_all<R: Read>(from: &mut R, room: &mut [u8]) -> io::Result<usize>
     ensures { InRoom result room.new }
 {
     let mut done: usize = 0;
     while done < room.len() {
-        match read_some(from, &mut room[done..]) {
-            Ok(0) => return Input::Whole(done),
-            Ok(more) => done += more,
-            Err(error) => return Input::Failed(error),
+        let more = read_some(from, &mut room[done..])?;
+        if more == 0 {
+            break;
         }
+        done += more;
     }
-    Input::Whole(done)
+    Ok(done)
 }
 
 // Zeros for one of the program's words.
@@ -69,10 +61,7 @@ pub fn word_room() -> [u8; WORD_MOST]
 pub fn word_in(rt: &HostRuntime, word: usize, room: &mut [u8]) -> usize
     ensures { result ≤ length room.new }
 {
-    match rt.arg(word, room) {
-        Ok(length) => length,
-        Err(_) => 0,
-    }
+    rt.arg(word, room).unwrap_or(0)
 }
 
 // The words of an error's text, without the number that std puts behind them.
@@ -100,31 +89,23 @@ fn path_of(name: &[u8]) -> io::Result<&str> {
     }
 }
 
-// The file of this name, opened for reading.
-fn opened(rt: &HostRuntime, name: &[u8]) -> io::Result<File> {
-    File::open(rt, path_of(name)?)
-}
-
 // Reads the file of this name.
-fn read_file(rt: &HostRuntime, name: &[u8], room: &mut [u8]) -> Input
+fn read_file(rt: &HostRuntime, name: &[u8], room: &mut [u8]) -> io::Result<usize>
     ensures { InRoom result room.new }
 {
-    match opened(rt, name) {
-        Ok(mut file) => read_all(&mut file, room),
-        Err(error) => Input::Failed(error),
-    }
+    let mut file = File::open(rt, path_of(name)?)?;
+    read_all(&mut file, room)
 }
 
-// The file that one of the program's words names, whole or as many bytes as the room has.
-pub fn read_named(rt: &HostRuntime, word: usize, room: &mut [u8]) -> Input
+// The file that one of the program's words names, whole or as many bytes as the room has. An error has been said.
+pub fn read_named(rt: &HostRuntime, word: usize, room: &mut [u8]) -> io::Result<usize>
     ensures { InRoom result room.new }
 {
     let mut name = word_room();
     let length = word_in(rt, word, &mut name);
     let input = read_file(rt, &name[..length], room);
-    match input {
-        Input::Failed(error) => fail(rt, &name[..length], error),
-        Input::Whole(_) => {}
+    if let Err(error) = input {
+        fail(rt, &name[..length], error);
     }
     input
 }

@@ -3,9 +3,11 @@
 // descriptor 3 is not open for writing, nobody asked.
 #![tactic(auto)]
 
-ghost use Rattle.std.specs.Prelude.{◌≡◌};
+ghost use Rattle.std.specs.Prelude.{◌≡◌, ◌≤◌, length, IfSome};
 ghost use Rattle.program_outcome.specs.Outcomes.{status_digit, answer_outcome};
 
+use refusal::Refusal;
+use sheet_words::Fault;
 use std::fs::{self, OpenOptions};
 use std::io::{self, Write};
 use std::os::unix::prelude::PermissionsExt;
@@ -21,7 +23,7 @@ const OWNER_WRITES: u32 = 0o200;
 const REFUSED_MOST: usize = 64;
 
 // What came of a program.
-#[derive(Clone, Copy)]
+#[derive(Clone, Copy, Debug, PartialEq, Eq)]
 pub enum Outcome {
     // Reach, yes or done.
     Done,
@@ -127,8 +129,7 @@ pub fn deliver_fault(
     rt: &HostRuntime,
     answer: &[u8],
     outcome: Outcome,
-    number: u64,
-    place: usize,
+    why: Refusal,
     whose: &[u8],
 ) {
     if !written(rt, answer) {
@@ -136,42 +137,45 @@ pub fn deliver_fault(
     }
     say(rt, outcome);
     tell(rt, answer);
+    let numbers = why.numbers();
     let mut room = [0u8; REFUSED_MOST];
-    let length = print_answer::refused(number, place, &mut room);
+    let length = print_answer::refused(numbers.number, numbers.place, &mut room);
     if length <= room.len() {
         tell(rt, &room[..length]);
     }
     tell(rt, whose);
 }
 
-// Writes out a refusal by its numbers, and says it; `second` is one more than its second number, or 0 where it has none.
-pub fn refuse_seconded(
-    rt: &HostRuntime,
-    number: u64,
-    place: usize,
-    second: u8,
-    whose: &[u8],
-    outcome: Outcome,
-) {
+// Writes out a refusal at its own place, with its second number, and says it.
+pub fn refuse(rt: &HostRuntime, why: Refusal, whose: &[u8], outcome: Outcome) {
+    let numbers = why.numbers();
     let mut room = [0u8; REFUSED_MOST];
-    let length = print_answer::seconded(number, place, second, &mut room);
+    let length = print_answer::seconded(numbers.number, numbers.place, numbers.second, &mut room);
     if length <= room.len() {
-        deliver_fault(rt, &room[..length], outcome, number, place, whose);
+        deliver_fault(rt, &room[..length], outcome, why, whose);
     }
 }
 
-// Writes out a refusal by its number, at this place of a text, and says it; `own` is the refusal's own place.
-pub fn refuse(
-    rt: &HostRuntime,
-    number: u64,
-    place: usize,
-    own: usize,
-    whose: &[u8],
-    outcome: Outcome,
-) {
+// Writes out a refusal at its line of a text, and says it.
+pub fn refuse_line(rt: &HostRuntime, fault: Fault, whose: &[u8]) {
+    let numbers = fault.why.numbers();
     let mut room = [0u8; REFUSED_MOST];
-    let length = print_answer::refused(number, place, &mut room);
+    let length = print_answer::refused(numbers.number, fault.line, &mut room);
     if length <= room.len() {
-        deliver_fault(rt, &room[..length], outcome, number, own, whose);
+        deliver_fault(rt, &room[..length], Outcome::Refused, fault.why, whose);
+    }
+}
+
+// The bytes of the file that one of the program's words names, at the start of the room; None where it could not be
+// read, and that is said.
+pub fn input<'a>(rt: &HostRuntime, word: usize, room: &'a mut [u8]) -> Option<&'a [u8]>
+    ensures { IfSome result (λ bytes. length bytes.now ≤ length room.old) }
+{
+    match program_files::read_named(rt, word, room) {
+        Ok(length) => Some(&room[..length]),
+        Err(_) => {
+            say(rt, Outcome::Trouble);
+            None
+        }
     }
 }

@@ -3,9 +3,9 @@
 // of it on descriptor 3. Where a file cannot be read nothing is answered, and that is said on standard error.
 #![tactic(auto)]
 
-use program_files::{Input, read_named};
+use finder_plain::PlainAnswer;
 use program_outcome::Outcome;
-use sheet_plain::PlainTold;
+use sheet_plain::AskFault;
 
 const BOOK_WORD: usize = 1;
 
@@ -29,48 +29,28 @@ fn reached(rt: &HostRuntime, height: u8) {
 }
 
 // Writes out what is said of a question.
-fn tell(rt: &HostRuntime, told: PlainTold) {
+fn tell(rt: &HostRuntime, told: Result<PlainAnswer, AskFault>) {
     match told {
-        PlainTold::Reach(height) => reached(rt, height),
-        PlainTold::Cannot => program_outcome::deliver(rt, b"cannot\n", Outcome::No),
-        PlainTold::BookRefused(why) => {
-            let numbers = why.numbers();
-            program_outcome::refuse(
-                rt,
-                numbers.number,
-                numbers.place,
-                numbers.place,
-                b"book\n",
-                Outcome::Refused,
-            );
+        Ok(PlainAnswer::Reach(height)) => reached(rt, height),
+        Ok(PlainAnswer::Cannot) => program_outcome::deliver(rt, b"cannot\n", Outcome::No),
+        Err(AskFault::Book(why)) => {
+            program_outcome::refuse(rt, why, b"book\n", Outcome::Refused)
         }
-        PlainTold::QuestionRefused(why, line) => {
-            let numbers = why.numbers();
-            program_outcome::refuse(
-                rt,
-                numbers.number,
-                line,
-                numbers.place,
-                b"question\n",
-                Outcome::Refused,
-            );
-        }
+        Err(AskFault::Question(fault)) => program_outcome::refuse_line(rt, fault, b"question\n"),
     }
 }
 
 // Reads the question, and asks it.
 fn ask_question(rt: &HostRuntime, book: &[u8]) {
-    let mut question = [0u8; QUESTION_READ_MOST];
-    match read_named(rt, QUESTION_WORD, &mut question) {
-        Input::Failed(_) => program_outcome::say(rt, Outcome::Trouble),
-        Input::Whole(length) => tell(rt, sheet_plain::ask(book, &question[..length])),
+    let mut room = [0u8; QUESTION_READ_MOST];
+    if let Some(question) = program_outcome::input(rt, QUESTION_WORD, &mut room) {
+        tell(rt, sheet_plain::ask(book, question));
     }
 }
 
 fn main(rt: HostRuntime) {
-    let mut book = [0u8; BOOK_READ_MOST];
-    match read_named(&rt, BOOK_WORD, &mut book) {
-        Input::Failed(_) => program_outcome::say(&rt, Outcome::Trouble),
-        Input::Whole(length) => ask_question(&rt, &book[..length]),
+    let mut room = [0u8; BOOK_READ_MOST];
+    if let Some(book) = program_outcome::input(&rt, BOOK_WORD, &mut room) {
+        ask_question(&rt, book);
     }
 }

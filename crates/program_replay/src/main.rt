@@ -10,10 +10,9 @@ ghost use Rattle.program_replay.specs.Outcomes.{replay_outcome};
 
 use book_block::BLOCK;
 use ground::SETTINGS_MOST;
-use program_files::{Input, read_named, word_in, word_room};
+use program_files::{word_in, word_room};
 use program_outcome::Outcome;
-use refusal::Refusal;
-use station_print::{REPLAY_MOST, ReplayTold};
+use station_print::{REPLAY_MOST, ReplayFault, ReplayTold};
 use station_text::SHIFT_MOST;
 
 const BOOK_WORD: usize = 1;
@@ -29,42 +28,16 @@ const BOOK_ROOM: usize = BLOCK * (1 + SETTINGS_MOST) + 1;
 const SHIFT_ROOM: usize = SHIFT_MOST + 1;
 
 // What came of a shift, by what is said of it.
-fn outcome_of(told: ReplayTold) -> Outcome
+fn outcome_of(told: Result<ReplayTold, ReplayFault>) -> Outcome
     ensures { result ≡ replay_outcome told }
 {
     match told {
-        ReplayTold::Done(_) => Outcome::Done,
-        ReplayTold::Stopped(_, _) => Outcome::No,
-        ReplayTold::BookRefused(_) => Outcome::Refused,
-        ReplayTold::NoStart => Outcome::Trouble,
-        ReplayTold::ShiftRefused(_) => Outcome::Refused,
+        Ok(ReplayTold::Done(_)) => Outcome::Done,
+        Ok(ReplayTold::Stopped(_, _)) => Outcome::No,
+        Err(ReplayFault::Book(_)) => Outcome::Refused,
+        Err(ReplayFault::Start) => Outcome::Trouble,
+        Err(ReplayFault::Shift(_)) => Outcome::Refused,
     }
-}
-
-// Writes out a refusal, and says whose it is.
-fn refuse(rt: &HostRuntime, why: Refusal, whose: &[u8], outcome: Outcome) {
-    let numbers = why.numbers();
-    program_outcome::refuse(
-        rt,
-        numbers.number,
-        numbers.place,
-        numbers.place,
-        whose,
-        outcome,
-    );
-}
-
-// Writes out what is printed of a shift with a fault, and says which fault.
-fn stop(rt: &HostRuntime, why: Refusal, answer: &[u8], outcome: Outcome) {
-    let numbers = why.numbers();
-    program_outcome::deliver_fault(
-        rt,
-        answer,
-        outcome,
-        numbers.number,
-        numbers.place,
-        b"shift\n",
-    );
 }
 
 // Says what START must be.
@@ -75,17 +48,19 @@ fn no_start(rt: &HostRuntime, outcome: Outcome) {
     program_outcome::say_whose(rt, outcome, b"start\n");
 }
 
-// Runs the shift, and writes out what comes of it.
+// Runs the shift, and writes out what comes of it, of a fault with which it is.
 fn replay(rt: &HostRuntime, book: &[u8], start: &[u8], shift: &[u8]) {
     let mut out = [0u8; REPLAY_MOST];
     let told = station_print::print(book, start, shift, &mut out);
     let outcome = outcome_of(told);
     match told {
-        ReplayTold::Done(length) => program_outcome::deliver(rt, &out[..length], outcome),
-        ReplayTold::Stopped(why, length) => stop(rt, why, &out[..length], outcome),
-        ReplayTold::BookRefused(why) => refuse(rt, why, b"book\n", outcome),
-        ReplayTold::NoStart => no_start(rt, outcome),
-        ReplayTold::ShiftRefused(why) => refuse(rt, why, b"shift\n", outcome),
+        Ok(ReplayTold::Done(length)) => program_outcome::deliver(rt, &out[..length], outcome),
+        Ok(ReplayTold::Stopped(why, length)) => {
+            program_outcome::deliver_fault(rt, &out[..length], outcome, why, b"shift\n")
+        }
+        Err(ReplayFault::Book(why)) => program_outcome::refuse(rt, why, b"book\n", outcome),
+        Err(ReplayFault::Start) => no_start(rt, outcome),
+        Err(ReplayFault::Shift(why)) => program_outcome::refuse(rt, why, b"shift\n", outcome),
     }
 }
 
@@ -98,9 +73,8 @@ fn replay_from_start(rt: &HostRuntime, book: &[u8], shift: &[u8]) {
 
 // Reads the shift into this room, and runs it.
 fn replay_named(rt: &HostRuntime, book: &[u8], room: &mut [u8]) {
-    match read_named(rt, SHIFT_WORD, room) {
-        Input::Failed(_) => program_outcome::say(rt, Outcome::Trouble),
-        Input::Whole(length) => replay_from_start(rt, book, &room[..length]),
+    if let Some(shift) = program_outcome::input(rt, SHIFT_WORD, room) {
+        replay_from_start(rt, book, shift);
     }
 }
 
@@ -111,9 +85,8 @@ fn replay_over(rt: &HostRuntime, book: &[u8]) {
 }
 
 fn main(rt: HostRuntime) {
-    let mut book = [0u8; BOOK_ROOM];
-    match read_named(&rt, BOOK_WORD, &mut book) {
-        Input::Failed(_) => program_outcome::say(&rt, Outcome::Trouble),
-        Input::Whole(length) => replay_over(&rt, &book[..length]),
+    let mut room = [0u8; BOOK_ROOM];
+    if let Some(book) = program_outcome::input(&rt, BOOK_WORD, &mut room) {
+        replay_over(&rt, book);
     }
 }

@@ -1,5 +1,5 @@
 -- The names of the settings that were closed: how long they are, and one more of them written; and a salvaged book fits its room.
-use mathlib.Core.Path.{◌≡◌, refl, subst}
+use mathlib.Core.Path.{◌≡◌, refl}
 use mathlib.Core.Bool.{Bool, true, false}
 use mathlib.Core.List.{List, ◌++◌}
 use Prim.Native.Nat.{ℕ, zero, suc, ◌+◌, ◌*◌, ◌≤◌}
@@ -10,9 +10,6 @@ use Rattle.ground.specs.Digits.{bit}
 use Rattle.ground.specs.Text.{bytes}
 use Rattle.print_room.specs.Wrote.{Wrote}
 use Rattle.print_room.proofs.Writing.{wrote_then, wrote_none}
-use Rattle.book_salvage.specs.Promise.{Salvages}
-use Rattle.book_salvage.specs.declared.SalvageAnswer.{SalvageAnswer}
-use Rattle.book_salvage.specs.declared.SalvageAnswer.TheVariants.{Salvaged}
 use Rattle.program_salvage.specs.Closed.{closed_name, closed_names, closed_text}
 
 pub names-none : {old : List ℕ} (marks : ℕ) {to : ℕ} → Wrote old to (closed_names 0 marks) old to
@@ -44,7 +41,3 @@ pub text-some : (marks : ℕ) → (marks ≡ 0 → ⊥) → closed_text marks �
 unfolding closed_text
 text-some zero e = absurd (e refl)
 text-some (suc marks) e = refl
-
-pub salvaged_fits : (book room : List ℕ) (a : SalvageAnswer) (marks count : ℕ) (after : List ℕ) → a ≡ Salvaged marks count → Salvages book room a after
-    → length book ≤ length room
-salvaged_fits book room a marks count after e s = (subst (λ (x : SalvageAnswer). Salvages book room x after) e s).fits

@@ -8,9 +8,7 @@ ghost use Rattle.print_room.specs.Wrote.{Wrote};
 ghost use Rattle.program_salvage.specs.Closed.{closed_name, closed_names, closed_text};
 
 use book_block::BLOCK;
-use book_salvage::SalvageAnswer;
 use ground::{SETTINGS_MOST, bit_of};
-use program_files::Input;
 use program_outcome::Outcome;
 
 const DAMAGED_WORD: usize = 1;
@@ -45,11 +43,9 @@ fn names(marks: u8, out: &mut [u8], to: usize) -> usize
     requires { to ≤ 6 }
     ensures { Wrote out.old to (closed_names 7 marks) out.new result }
 {
-    let mut i: u8 = 0;
     let mut at = to;
-    while i < SETTINGS {
+    for i in 0..SETTINGS {
         at = name(bit_of(marks, i), i, out, at);
-        i += 1;
     }
     at
 }
@@ -83,28 +79,14 @@ fn make(rt: &HostRuntime, marks: u8, book: &[u8]) {
 fn salvage(rt: &HostRuntime, damaged: &[u8]) {
     let mut book = [0u8; BOOK_MOST];
     match book_salvage::salvage(damaged, &mut book) {
-        SalvageAnswer::Salvaged { marks, count: _ } => {
-            let length = damaged.len();
-            make(rt, marks, &book[..length]);
-        }
-        SalvageAnswer::Refused(why) => {
-            let numbers = why.numbers();
-            program_outcome::refuse(
-                rt,
-                numbers.number,
-                numbers.place,
-                numbers.place,
-                b"book\n",
-                Outcome::Refused,
-            );
-        }
+        Ok(salvaged) => make(rt, salvaged.marks, &book[..damaged.len()]),
+        Err(why) => program_outcome::refuse(rt, why, b"book\n", Outcome::Refused),
     }
 }
 
 fn main(rt: HostRuntime) {
-    let mut damaged = [0u8; READ_MOST];
-    match program_files::read_named(&rt, DAMAGED_WORD, &mut damaged) {
-        Input::Failed(_) => program_outcome::say(&rt, Outcome::Trouble),
-        Input::Whole(length) => salvage(&rt, &damaged[..length]),
+    let mut room = [0u8; READ_MOST];
+    if let Some(damaged) = program_outcome::input(&rt, DAMAGED_WORD, &mut room) {
+        salvage(&rt, damaged);
     }
 }

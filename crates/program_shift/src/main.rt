@@ -5,9 +5,8 @@
 
 ghost use Rattle.std.specs.Prelude.{◌≡◌, length};
 
-use program_files::Input;
 use program_outcome::Outcome;
-use station_text::{READ_MOST, SHIFT_MOST, ShiftTold};
+use station_text::{READ_MOST, SHIFT_MOST};
 
 const TEXT_WORD: usize = 1;
 
@@ -21,18 +20,8 @@ fn make(rt: &HostRuntime, text: &[u8], room: &mut [u8])
     requires { 419430 ≡ length room.old }
 {
     match station_text::read(text, room) {
-        ShiftTold::Read(length) => program_outcome::store(rt, SHIFT_WORD, &room[..length]),
-        ShiftTold::Refused(why) => {
-            let numbers = why.numbers();
-            program_outcome::refuse(
-                rt,
-                numbers.number,
-                numbers.place,
-                numbers.place,
-                b"shift\n",
-                Outcome::Refused,
-            );
-        }
+        Ok(length) => program_outcome::store(rt, SHIFT_WORD, &room[..length]),
+        Err(why) => program_outcome::refuse(rt, why, b"shift\n", Outcome::Refused),
     }
 }
 
@@ -45,9 +34,8 @@ fn make_bytes(rt: &HostRuntime, text: &[u8]) {
 
 // Reads the text into this room, and makes its bytes.
 fn make_named(rt: &HostRuntime, room: &mut [u8]) {
-    match program_files::read_named(rt, TEXT_WORD, room) {
-        Input::Failed(_) => program_outcome::say(rt, Outcome::Trouble),
-        Input::Whole(length) => make_bytes(rt, &room[..length]),
+    if let Some(text) = program_outcome::input(rt, TEXT_WORD, room) {
+        make_bytes(rt, text);
     }
 }
 

@@ -5,10 +5,9 @@
 
 ghost use Rattle.std.specs.Prelude.{◌≡◌, ◌<◌, ◌≤◌, length};
 
-use program_files::Input;
 use program_outcome::Outcome;
 use refusal::Refusal;
-use station_text::{READ_MOST, SHIFT_MOST, ShiftTold};
+use station_text::{READ_MOST, SHIFT_MOST};
 
 const SHIFT_WORD: usize = 1;
 
@@ -20,22 +19,16 @@ fn shift_outcome(number: u64) -> Outcome
     ensures { (number < 27 → result ≡ Outcome.Refused) × (27 ≤ number → result ≡ Outcome.No) }
 {
     if number < 27 {
-        return Outcome::Refused;
+        Outcome::Refused
+    } else {
+        Outcome::No
     }
-    Outcome::No
 }
 
 // Writes out a refusal.
 fn refuse(rt: &HostRuntime, why: Refusal) {
     let numbers = why.numbers();
-    program_outcome::refuse(
-        rt,
-        numbers.number,
-        numbers.place,
-        numbers.place,
-        b"shift\n",
-        shift_outcome(numbers.number),
-    );
+    program_outcome::refuse(rt, why, b"shift\n", shift_outcome(numbers.number));
 }
 
 // Writes out the text of a shift's bytes, by way of a room that fits it.
@@ -43,8 +36,8 @@ fn print_by(rt: &HostRuntime, shift: &[u8], room: &mut [u8])
     requires { 2097152 ≡ length room.old }
 {
     match station_text::print(shift, room) {
-        ShiftTold::Read(length) => program_outcome::deliver(rt, &room[..length], Outcome::Done),
-        ShiftTold::Refused(why) => refuse(rt, why),
+        Ok(length) => program_outcome::deliver(rt, &room[..length], Outcome::Done),
+        Err(why) => refuse(rt, why),
     }
 }
 
@@ -60,8 +53,8 @@ fn print_text_by(rt: &HostRuntime, shift: &[u8], room: &mut [u8])
     requires { 419430 ≡ length room.old }
 {
     match station_text::read(shift, room) {
-        ShiftTold::Read(length) => print_bytes(rt, &room[..length]),
-        ShiftTold::Refused(why) => refuse(rt, why),
+        Ok(length) => print_bytes(rt, &room[..length]),
+        Err(why) => refuse(rt, why),
     }
 }
 
@@ -82,9 +75,8 @@ fn print(rt: &HostRuntime, shift: &[u8]) {
 
 // Reads the shift into this room, and prints it.
 fn print_named(rt: &HostRuntime, room: &mut [u8]) {
-    match program_files::read_named(rt, SHIFT_WORD, room) {
-        Input::Failed(_) => program_outcome::say(rt, Outcome::Trouble),
-        Input::Whole(length) => print(rt, &room[..length]),
+    if let Some(shift) = program_outcome::input(rt, SHIFT_WORD, room) {
+        print(rt, shift);
     }
 }
 

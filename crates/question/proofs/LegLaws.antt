@@ -18,8 +18,8 @@ use Rattle.question.specs.Rows.{TeamFits, GoalFits, question_rows}
 use Rattle.question.specs.Asks.{ValidQuestion}
 use Rattle.question.specs.Legs.{second_question, second_system, first_system, ValidLegs, second_rows, leg_rows, AsksTwo}
 use Rattle.question.specs.declared.Question.{Question}
-use Rattle.question.specs.declared.Asked.{Asked}
-use Rattle.question.specs.declared.Asked.TheVariants.{Valid, Not}
+use Rattle.std.proofs.Common.{Result, Ok, Err}
+use Rattle.book_sound.specs.declared.Size.{Size}
 use Rattle.question.proofs.RowLaws.{question_clear}
 use Rattle.question.proofs.SystemLaws.{lawful}
 
@@ -66,15 +66,9 @@ module _ (book : List ℕ) (q : Question) (goal : Goal) (team2 : ℕ) (goal2 : G
   first_leg_lawful {n} v = first_lawful (second_system n book q team2 goal2) (lawful v.first)
 
   -- any two results that the contract of `ask_two` allows are equal
-  pub ask_two_unique : (a b : Asked) → AsksTwo book q goal team2 goal2 a → AsksTwo book q goal team2 goal2 b → a ≡ b
-  ask_two_unique (Valid n m) (Valid k l) x y = let e = sound-one x.first.sound y.first.sound in ap₂ Valid e.0 e.1
-  ask_two_unique (Valid n m) (Not r) x y = first-clear y (legs_clear x)
-  ask_two_unique (Not r) (Valid n m) x y = first-clear x (legs_clear y)
-  ask_two_unique (Not r) (Not s) x y = ap Not (first_unique x y)
-
-  -- what `ask_two` ensures of its answer, once the answer is known
-  pub as_legs : {r : Asked} {n m : ℕ} → r ≡ Valid n m → AsksTwo book q goal team2 goal2 r → ValidLegs book q goal team2 goal2 n m
-  as_legs e h = subst (AsksTwo book q goal team2 goal2) e h
-
-  pub as_no_legs : {r : Asked} {why : Refusal} → r ≡ Not why → AsksTwo book q goal team2 goal2 r → First (leg_rows book q goal team2 goal2) why
-  as_no_legs e h = subst (AsksTwo book q goal team2 goal2) e h
+  pub ask_two_unique : (a b : Result Size Refusal) → AsksTwo book q goal team2 goal2 a → AsksTwo book q goal team2 goal2 b → a ≡ b
+  ask_two_unique (Ok a) (Ok b) x y =
+      let e = sound-one x.first.sound y.first.sound in ap Ok (ap₂ (λ (n m : ℕ). record { settings = n; posts = m }) e.0 e.1)
+  ask_two_unique (Ok size) (Err r) x y = first-clear y (legs_clear x)
+  ask_two_unique (Err r) (Ok size) x y = first-clear x (legs_clear y)
+  ask_two_unique (Err r) (Err s) x y = ap Err (first_unique x y)

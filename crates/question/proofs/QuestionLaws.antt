@@ -4,12 +4,15 @@ use mathlib.Core.Logic.{inl, inr}
 use mathlib.Core.List.{List}
 use mathlib.Core.Bool.{Bool, true, false, ◌||◌}
 use Prim.Native.Nat.{ℕ, ◌+◌, ◌-◌, ◌*◌, ◌/◌, ◌^◌, ◌≤◌, ◌<◌}
-use native.Mathlib.Nat.{div-eq_of_lt}
+use native.Mathlib.Nat.{zero-add, div-eq_of_lt}
 use native.Mathlib.Omega.{arith}
 use lib.Bits.{bit_or, or_lt}
 use lib.Dec.{T, eqb, eqb→eq}
 use lib.ListN.{length, take, drop}
 use lib.Pow.{pow_mono}
+use Rattle.std.specs.Bool.{MatchBool}
+use Rattle.std.specs.List.{range_with_len, AllWithin, HoldsAt}
+use Rattle.std.proofs.lemmas.List.FromFn.{length-range_with_len, get_or-range_with_len}
 use Rattle.ground.specs.Digits.{bit}
 use Rattle.ground.specs.Table.{Within}
 use Rattle.ground.specs.Tells.{Tells}
@@ -83,20 +86,16 @@ pub within-drop : (n : ℕ) (t : List ℕ) → Within n (take 16 t) → Within n
 unfolding Within
 within-drop n t w v l h = sym (truth-take t v h) ∙ w v l h
 
--- the learn tables up to j
-abbrev pub LearnTo : ℕ → List ℕ → ℕ → Type 0
-LearnTo n learn j = (i : ℕ) → i < j → Within n (learn_table learn i)
-
-pub learn-more : (n : ℕ) (learn : List ℕ) (j : ℕ) → LearnTo n learn j → Within n (drop (16 * j) learn) → LearnTo n learn (j + 1)
+-- the test of all the learn tables, from first to last
+pub learn_told : (n : ℕ) (learn : List ℕ) (r : Bool)
+    → MatchBool r (AllWithin (λ j. Within n (drop (16 * j) learn)) (range_with_len 0 (length learn / 16)) 0 (length (range_with_len 0 (length learn / 16))))
+    ((k : ℕ) × (k < length (range_with_len 0 (length learn / 16))) × HoldsAt (λ j. Within n (drop (16 * j) learn) → ⊥) (range_with_len 0 (length learn / 16)) k)
+    → Tells r (LearnWithin n learn)
 unfolding learn_table
-learn-more n learn j f w i l = elim (lt_or_ge i j) [
-  | inl m ↦ f i m
-  | inr m ↦ (let same : i ≡ j = omega arith in rw same (within-take n (drop (16 * j) learn) w))
-]
-
-pub learn_bad : (n : ℕ) (learn : List ℕ) (j : ℕ) → j < length learn / 16 → (Within n (drop (16 * j) learn) → ⊥) → LearnWithin n learn → ⊥
-unfolding learn_table
-learn_bad n learn j l ne f = ne (within-drop n (drop (16 * j) learn) (f j l))
-
-pub learn-all : (n : ℕ) (learn : List ℕ) (j : ℕ) → length learn / 16 ≤ j → LearnTo n learn j → LearnWithin n learn
-learn-all n learn j l f i h = f i (omega arith)
+learn_told n learn true all = λ j l.
+    let here = get_or-range_with_len 0 (length learn / 16) j 0 l ∙ zero-add j in
+    within-take n (drop (16 * j) learn)
+    (rw here at (all j 0 (omega arith) (omega (arith, l, length-range_with_len 0 (length learn / 16)))))
+learn_told n learn false (k, l, none) = λ f.
+    let h : k < length learn / 16 = omega (arith, l, length-range_with_len 0 (length learn / 16)) in
+    (rw (get_or-range_with_len 0 (length learn / 16) k 0 h ∙ zero-add k) at (none 0)) (within-drop n (drop (16 * k) learn) (f k h))

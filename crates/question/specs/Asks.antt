@@ -1,12 +1,12 @@
 -- What `ask` gives: a valid question, or the first of refusals 6 to 12, with 31 between 11 and 12.
-use Rattle.std.specs.Prelude.{List, ℕ}
+use Rattle.std.specs.Prelude.{List, ℕ, Result, Ok, Err}
+use Rattle.refusal.specs.declared.Refusal.{Refusal}
 use Rattle.refusal.specs.Order.{First}
+use Rattle.book_sound.specs.declared.Size.{Size}
 use Rattle.book_sound.specs.Sound.{Sound}
 use Rattle.knowledge.specs.Goal.{Goal}
 use Rattle.question.specs.Rows.{TeamFits, KnownFits, HeldFits, GoalFits, question_rows}
 use Rattle.question.specs.declared.Question.{Question}
-use Rattle.question.specs.declared.Asked.{Asked}
-use Rattle.question.specs.declared.Asked.TheVariants.{Valid, Not}
 
 -- a question that refusals 6 to 12 and 31 let through, over a book of n settings and m posts
 pub record ValidQuestion (book : List ℕ) (q : Question) (wanted : Goal) (n m : ℕ) : Type 0 where
@@ -17,6 +17,6 @@ pub record ValidQuestion (book : List ℕ) (q : Question) (wanted : Goal) (n m :
   pub goal : GoalFits n wanted
 
 -- the first of refusals 6 to 12 and 31, or the book's numbers
-abbrev pub Asks : List ℕ → Question → Goal → Asked → Type 0
-Asks book q goal (Valid n m) = ValidQuestion book q goal n m
-Asks book q goal (Not r) = First (question_rows book q goal) r
+abbrev pub Asks : List ℕ → Question → Goal → Result Size Refusal → Type 0
+Asks book q goal (Ok size) = ValidQuestion book q goal size.settings size.posts
+Asks book q goal (Err r) = First (question_rows book q goal) r

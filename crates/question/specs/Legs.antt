@@ -1,8 +1,10 @@
 -- "A question may have a second leg with its own team and goal." What is known at the start and "Held settings are the same for both legs", so the
 -- second leg is a question like any other; and the refusals of both in their order: "10 and 12 for the second leg after the first's".
-use Rattle.std.specs.Prelude.{List, [], ◌∷◌, ◌++◌, ℕ}
+use Rattle.std.specs.Prelude.{List, [], ◌∷◌, ◌++◌, ℕ, Result, Ok, Err}
+use Rattle.refusal.specs.declared.Refusal.{Refusal}
 use Rattle.refusal.specs.declared.Refusal.TheVariants.{Team, Goal as WrongGoal}
 use Rattle.refusal.specs.Order.{Row, when, First}
+use Rattle.book_sound.specs.declared.Size.{Size}
 use Rattle.book_sound.specs.Rows.{settings_of, posts_of}
 use Rattle.knowledge.specs.Goal.{Goal}
 use Rattle.plan.specs.Plans.{System, Plan}
@@ -11,8 +13,6 @@ use Rattle.question.specs.Question.{system_of, start_of}
 use Rattle.question.specs.Rows.{TeamFits, GoalFits, question_rows}
 use Rattle.question.specs.Asks.{ValidQuestion}
 use Rattle.question.specs.declared.Question.{Question}
-use Rattle.question.specs.declared.Asked.{Asked}
-use Rattle.question.specs.declared.Asked.TheVariants.{Valid, Not}
 
 -- the question of the second leg, whose team is `team2`
 abbrev pub second_question : Question → ℕ → Question
@@ -49,6 +49,6 @@ unfoldable pub leg_rows : List ℕ → Question → Goal → ℕ → Goal → Li
 leg_rows book q goal team2 goal2 = question_rows book q goal ++ second_rows book team2 goal2
 
 -- what `ask_two` gives: the first of them, or the book's numbers
-abbrev pub AsksTwo : List ℕ → Question → Goal → ℕ → Goal → Asked → Type 0
-AsksTwo book q goal team2 goal2 (Valid n m) = ValidLegs book q goal team2 goal2 n m
-AsksTwo book q goal team2 goal2 (Not r) = First (leg_rows book q goal team2 goal2) r
+abbrev pub AsksTwo : List ℕ → Question → Goal → ℕ → Goal → Result Size Refusal → Type 0
+AsksTwo book q goal team2 goal2 (Ok size) = ValidLegs book q goal team2 goal2 size.settings size.posts
+AsksTwo book q goal team2 goal2 (Err r) = First (leg_rows book q goal team2 goal2) r

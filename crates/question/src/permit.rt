@@ -50,14 +50,10 @@ fn tells(digit: u8, value: bool) -> bool
 fn unless_told(said: Permit, digit: u8, value: bool) -> Permit
     ensures { result ≡ unless_nothing (eqb (now_told digit) (told value)) said }
 {
-    if !tells(digit, value) {
-        return said;
+    if matches!(said, Permit::Given) && tells(digit, value) {
+        return Permit::ChangesNothing;
     }
-    match said {
-        Permit::Given => Permit::ChangesNothing,
-        Permit::Denied(why) => Permit::Denied(why),
-        Permit::ChangesNothing => Permit::ChangesNothing,
-    }
+    said
 }
 
 // Whether the act is permitted where this is known: the book's rules permit it, no held setting is set, and

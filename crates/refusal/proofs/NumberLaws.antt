@@ -11,7 +11,7 @@ use Rattle.refusal.specs.declared.Refusal.TheVariants.{NotSettled, TooSoon, Left
 use Rattle.refusal.specs.declared.Refusal.TheVariants.{Shift, NoRecord, NotAllowed, Disagrees, SalvageHead, Held, ChangesNothing}
 use Rattle.refusal.specs.declared.Why.TheVariants.{KnownSetting, SurelyFalse, NotKnown, HeldSetting}
 use Rattle.refusal.specs.declared.Numbers.{Numbers}
-use Rattle.refusal.specs.Refusals.{numbers, number, second}
+use Rattle.refusal.specs.Refusals.{numbers, number, and_one, second}
 
 -- every refusal with the place i
 unfoldable pub every : ℕ → List Refusal
@@ -60,7 +60,7 @@ numbered_so x y (r ∷ rs) = cond (eqb (number r) x && eqb (second r) y) r (numb
 
 -- the refusal with these numbers
 unfoldable pub named : Numbers → Refusal
-named x = numbered_so x.number x.second (every x.place)
+named x = numbered_so x.number (and_one x.second) (every x.place)
 
 -- of each refusal: its numbers name it, its number is not 0, and neither its number nor its second number is past a byte
 each : (r : Refusal) → (named (numbers r) ≡ r) × T (ltb 0 (number r)) × T (ltb (number r) 256) × T (ltb (second r) 256)

@@ -1,6 +1,6 @@
 -- The table of numbered refusals, a line a refusal. "A refusal gives a number and a place [..] Place is 0 unless named." "Refusal 18 carries a second
 -- number." When each is given is said by those who give it, as rows (Order).
-use Rattle.std.specs.Prelude.{ℕ, suc}
+use Rattle.std.specs.Prelude.{ℕ, suc, Option, Some, None}
 use Rattle.refusal.specs.declared.Refusal.{Refusal}
 use Rattle.refusal.specs.declared.Refusal.TheVariants.{FormulaLength, StrayByte, LetterPast, NotSentence, Settings, BookLength, Check, Head}
 use Rattle.refusal.specs.declared.Refusal.TheVariants.{StrayBit, Team, Known, Goal, RankRoom, PlanRoom, Room, PlanLength, NoAct, NotPermitted}
@@ -19,11 +19,11 @@ second_of HeldSetting = 3
 
 -- "a number and a place", and no second number
 abbrev pub numbered : ℕ → ℕ → Numbers
-numbered number place = record { number = number; place = place; second = 0 }
+numbered number place = record { number = number; place = place; second = None }
 
--- with a second number: it stands here as one more than it is
+-- with a second number
 abbrev pub seconded : ℕ → ℕ → ℕ → Numbers
-seconded number place second = record { number = number; place = place; second = suc second }
+seconded number place second = record { number = number; place = place; second = Some second }
 
 -- the columns "no." and "place", and the second number of 18
 abbrev pub numbers : Refusal → Numbers
@@ -68,6 +68,11 @@ number r = (numbers r).number
 abbrev pub place : Refusal → ℕ
 place r = (numbers r).place
 
+-- a second number and one, or 0 where there is none
+abbrev pub and_one : Option ℕ → ℕ
+and_one None = 0
+and_one (Some second) = suc second
+
 -- its second number and one, or 0 where it has none
 abbrev pub second : Refusal → ℕ
-second r = (numbers r).second
+second r = and_one (numbers r).second

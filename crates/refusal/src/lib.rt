@@ -3,12 +3,12 @@
 // numbers stand here alone. The crate refuses nothing itself and writes nothing.
 #![tactic(auto)]
 
-ghost use Rattle.std.specs.Prelude.{◌≡◌, suc};
+ghost use Rattle.std.specs.Prelude.{◌≡◌};
 ghost use Rattle.refusal.specs.Refusals.{second_of, numbered, seconded, numbers};
 
 // Why an act is not permitted: the second number of 18. A set of a held setting, 3, is judged first, and
 // the others in the order of their numbers.
-#[derive(Clone, Copy)]
+#[derive(Clone, Copy, Debug, PartialEq, Eq)]
 pub enum Why {
     // 0: a look at a known setting.
     KnownSetting,
@@ -21,21 +21,21 @@ pub enum Why {
 }
 
 impl Why {
-    // One more than its number.
-    fn above(self) -> u8
-        ensures { result ≡ suc (second_of self) }
+    // Its number.
+    fn number(self) -> u8
+        ensures { result ≡ second_of self }
     {
         match self {
-            Why::KnownSetting => 1,
-            Why::SurelyFalse => 2,
-            Why::NotKnown => 3,
-            Why::HeldSetting => 4,
+            Why::KnownSetting => 0,
+            Why::SurelyFalse => 1,
+            Why::NotKnown => 2,
+            Why::HeldSetting => 3,
         }
     }
 }
 
 // In the order of their numbers. Where a case holds a number, that number is the place.
-#[derive(Clone, Copy)]
+#[derive(Clone, Copy, Debug, PartialEq, Eq)]
 pub enum Refusal {
     // 1: formula empty or over 255 bytes.
     FormulaLength,
@@ -104,13 +104,13 @@ pub enum Refusal {
 }
 
 // The numbers that a refusal gives: "a refusal gives a number and a place", and 18 "carries a second number".
-#[derive(Clone, Copy)]
+#[derive(Clone, Copy, Debug, PartialEq, Eq)]
 pub struct Numbers {
     pub number: u64,
     // 0 unless the refusal names one
     pub place: usize,
-    // 0 where the refusal has no second number, else one more than it: 18 alone has one
-    pub second: u8,
+    // 18 alone has one
+    pub second: Option<u8>,
 }
 
 // A refusal's numbers, where it has no second one.
@@ -118,9 +118,9 @@ fn numbered(number: u64, place: usize) -> Numbers
     ensures { result ≡ numbered number place }
 {
     Numbers {
-        number: number,
-        place: place,
-        second: 0,
+        number,
+        place,
+        second: None,
     }
 }
 
@@ -131,7 +131,7 @@ fn not_permitted(at: usize, why: Why) -> Numbers
     Numbers {
         number: 18,
         place: at,
-        second: why.above(),
+        second: Some(why.number()),
     }
 }
 

@@ -9,12 +9,11 @@ use native.Mathlib.Omega.{arith}
 use lib.Dec.{lit<}
 use lib.ListN.{length, take, drop, length-append}
 use lib.Seq.{take_at}
+use Rattle.std.proofs.Common.{Result, Ok, Err, IsOk}
 use Rattle.refusal.specs.declared.Refusal.{Refusal}
 use Rattle.refusal.proofs.OrderLaws.{first-clear}
 use Rattle.book.specs.Written.{book_of, Writable}
 use Rattle.book.specs.Promise.{WritesBook}
-use Rattle.book.specs.declared.writing.WriteAnswer.{WriteAnswer}
-use Rattle.book.specs.declared.writing.WriteAnswer.TheVariants.{Written as BookWritten}
 use Rattle.book.proofs.WriteLaws.{length_book}
 use Rattle.book_sound.proofs.Theorems.{sound-one}
 use Rattle.book.proofs.Theorems.{writes_one}
@@ -32,7 +31,7 @@ use Rattle.question.proofs.SystemLaws.{lawful}
 use Rattle.finder.specs.Finds.{Finds}
 use Rattle.finder.specs.Answers.{AnswersFrom}
 use Rattle.finder.specs.declared.answer.Answer.{Answer}
-use Rattle.finder.specs.declared.answer.Answer.TheVariants.{Reach, Cannot, Refused}
+use Rattle.finder.specs.declared.answer.Answer.TheVariants.{Reach, Cannot}
 use Rattle.finder.proofs.FindLaws.{find_clear}
 use Rattle.sheet_reading.specs.declared.Desk.{Desk}
 use Rattle.sheet.specs.Answer.{SheetAsks, PrintsFound}
@@ -79,18 +78,22 @@ module _ {d : Desk} (x : Whole d) where
   book_length = length_book d.rules.settings d.rules.posts (rights_in d) (rights_length x.holds)
 
   -- the book is written, whatever the room held
-  pub desk_written : (room after : List ℕ) (a : WriteAnswer) → length room ≡ 3072 → WritesBook d.rules.settings d.rules.posts (rights_in d) room a after
-      → take (512 * (1 + d.rules.settings)) after ≡ book_in d
-  unfolding book_in
-  desk_written room after a size wrote =
-      let book = book_of d.rules.settings d.rules.posts (rights_in d) in
-      let same = writes_one d.rules.settings d.rules.posts (rights_in d) room a BookWritten after
-      (book ++ drop (512 * (1 + d.rules.settings)) room) wrote (desk_writable, omega (arith, x.holds.few), refl) in
-      ap (take (512 * (1 + d.rules.settings))) same.1
-      ∙ take_at book (drop (512 * (1 + d.rules.settings)) room) (512 * (1 + d.rules.settings)) book_length
+  module _ (room after : List ℕ) (a : Result (Unit {0}) Refusal) (size : length room ≡ 3072) (wrote : WritesBook d.rules.settings d.rules.posts (rights_in d) room a after) where
+    same : (a ≡ Ok tt) × (after ≡ book_of d.rules.settings d.rules.posts (rights_in d) ++ drop (512 * (1 + d.rules.settings)) room)
+    same = writes_one d.rules.settings d.rules.posts (rights_in d) room a (Ok tt) after
+        (book_of d.rules.settings d.rules.posts (rights_in d) ++ drop (512 * (1 + d.rules.settings)) room) wrote (desk_writable, omega (arith, x.holds.few, size), refl)
+
+    pub desk_written : a ≡ Ok tt
+    desk_written = same.0
+
+    pub book_written : take (512 * (1 + d.rules.settings)) after ≡ book_in d
+    unfolding book_in
+    book_written =
+        ap (take (512 * (1 + d.rules.settings))) same.1
+        ∙ take_at (book_of d.rules.settings d.rules.posts (rights_in d)) (drop (512 * (1 + d.rules.settings)) room) (512 * (1 + d.rules.settings)) book_length
 
   -- the finder answers
-  pub desk_found : {book : List ℕ} (ranks plan : List ℕ) (a : Answer) (ranks' plan' : List ℕ) → book ≡ book_in d → length ranks ≡ 16807
+  pub desk_found : {book : List ℕ} (ranks plan : List ℕ) (a : Result Answer Refusal) (ranks' plan' : List ℕ) → book ≡ book_in d → length ranks ≡ 16807
       → Finds book (question_in d) (goal_in d) ranks plan a ranks' plan' → AnswersFrom (system d) (start d) plan a plan'
   desk_found {book} ranks plan a ranks' plan' e size f = by_case (subst (λ (b : List ℕ). Finds b (question_in d) (goal_in d) ranks plan a ranks' plan') e f)
     where
@@ -104,19 +107,14 @@ module _ {d : Desk} (x : Whole d) where
           subst (λ (k : ℕ). AnswersFrom (system_of k (book_in d) (question_in d) (goal_in d)) (start_of (question_in d)) plan a plan')
           (sound-one v.sound desk_valid.sound).0 s
 
-  -- what the finder answered, once its case is known
-  module _ (plan plan' : List ℕ) (r : Answer) (answered : AnswersFrom (system d) (start d) plan r plan') where
-    refused_none : (why : Refusal) → length plan ≡ 2016 → AnswersFrom (system d) (start d) plan (Refused why) plan' → ⊥
-    refused_none why size a = omega (arith, a.1.2, plan-most a.1.0 a.1.1)
+  -- the finder refuses nothing
+  pub never-refused : (plan : List ℕ) (r : Result Answer Refusal) (plan' : List ℕ) → AnswersFrom (system d) (start d) plan r plan' → length plan ≡ 2016 → IsOk r
+  never-refused plan (Ok answer) plan' a size = refl
+  never-refused plan (Err why) plan' a size = absurd (omega (arith, a.1.2, plan-most a.1.0 a.1.1))
 
-    -- nothing is refused
-    pub never-refused : (why : Refusal) → r ≡ Refused why → length plan ≡ 2016 → ⊥
-    never-refused why e size = refused_none why size (subst (λ (x : Answer). AnswersFrom (system d) (start d) plan x plan') e answered)
-
-    module _ {height size : ℕ} (e : r ≡ Reach height size) where
-      reached : AnswersFrom (system d) (start d) plan (Reach height size) plan'
-      reached = subst (λ (x : Answer). AnswersFrom (system d) (start d) plan x plan') e answered
-
+  -- what it answered, once its case is known
+  module _ (plan plan' : List ℕ) where
+    module _ {height size : ℕ} (reached : AnswersFrom (system d) (start d) plan (Ok (Reach height size)) plan') where
       tree : Plan
       tree = reached.1.0
 
@@ -142,5 +140,6 @@ module _ {d : Desk} (x : Whole d) where
       unfolding tree
       plan-told old x new f = inl (height, tree, reached.0, reached.1.1, f tree plan-bytes lettered)
 
-    pub cannot_told : (old : List ℕ) (x : ℕ) (new : List ℕ) → r ≡ Cannot → Prints old cannot_text x new → PrintsFound (system d) (start d) old x new
-    cannot_told old x new e f = inr ((subst (λ (y : Answer). AnswersFrom (system d) (start d) plan y plan') e answered).0, f)
+    pub cannot_told : (old : List ℕ) (x : ℕ) (new : List ℕ) → AnswersFrom (system d) (start d) plan (Ok Cannot) plan' → Prints old cannot_text x new
+        → PrintsFound (system d) (start d) old x new
+    cannot_told old x new a f = inr (a.0, f)

@@ -2,18 +2,17 @@
 -- and table by table. So its plans are short.
 use mathlib.Core.Path.{◌≡◌, sym, ap, ◌∙◌, subst}
 use mathlib.Core.Logic.{inl, inr}
-use mathlib.Core.Bool.{Bool, true, false, cond}
-use mathlib.Core.List.{List, [], ◌∷◌, ◌++◌}
-use Prim.Native.Nat.{ℕ, zero, suc, ◌+◌, ◌*◌, ◌^◌, ◌≤◌, ◌<◌}
+use mathlib.Core.Bool.{false}
+use mathlib.Core.List.{List, [], ◌∷◌}
+use Prim.Native.Nat.{ℕ, suc, ◌*◌, ◌^◌, ◌≤◌, ◌<◌}
 use native.Mathlib.Nat.{le_trans, mul-le-mul}
 use native.Mathlib.Omega.{arith}
 use lib.Dec.{T, eqb, eqb→eq, eqb_refl}
-use lib.ListN.{length, get_or, take, drop, length-append}
+use lib.ListN.{length, get_or}
 use lib.Pow.{pow_mono}
-use lib.Seq.{take_at, drop-append-add}
 use Rattle.ground.specs.Digits.{bit}
 use Rattle.ground.specs.Table.{truth, Within}
-use Rattle.ground.proofs.Bools.{or_left, or_right, or_out, both, false→T, lt_or_ge}
+use Rattle.ground.proofs.Bools.{or_left, or_out, both, false→T, lt_or_ge}
 use Rattle.ground.proofs.Bits.{bit_of_zero}
 use Rattle.book_block.specs.Kinds.{Zeros}
 use Rattle.book_block.specs.Rule.{table}
@@ -29,15 +28,15 @@ use Rattle.plan.proofs.Unknowns.{unknowns_le}
 use Rattle.plan.proofs.Ranks.{has-rank, rank_reach, rank_most}
 use Rattle.plan.proofs.Written.{written_works, written-height}
 use Rattle.plan.proofs.Accepted.{written-size}
-use Rattle.knowledge.specs.Goal.{Goal, learn_table}
+use Rattle.knowledge.specs.Goal.{Goal}
 use Rattle.question.specs.Question.{system_of}
 use Rattle.question.specs.Rows.{TeamFits, KnownFits, HeldFits, GoalFits}
 use Rattle.question.specs.Asks.{ValidQuestion}
 use Rattle.question.specs.declared.Question.{Question}
 use Rattle.question.proofs.SystemLaws.{lawful}
 use Rattle.sheet_words.specs.Words.{member}
-use Rattle.sheet_question.specs.Asked.{Known, HeldLine, left_out, holding, known_settings, known_true, held_settings}
-use Rattle.sheet_question.specs.Desk.{TablesOf}
+use Rattle.sheet_question.specs.Asked.{Known, HeldLine, left_out, holding, known_settings, held_settings}
+use Rattle.sheet_question.proofs.Stated.{true_known, tables-length, tables-within}
 use Rattle.sheet_reading.specs.Sheet.{Sheet}
 use Rattle.ground.proofs.Table.{zero_at, zero_truth}
 use Rattle.sheet_reading.specs.Grammar.{NamesFit, KnownFit, HeldFit, WellFormed}
@@ -70,37 +69,6 @@ someone-named : (ps : List ℕ) → 1 ≤ length ps → (q : ℕ) × T (member q
 unfolding member
 someone-named [] l = absurd (omega arith)
 someone-named (p ∷ ps) l = (p, or_left (eqb p p) (member p ps) (eqb_refl p))
-
--- a setting that is known to be true is known
-true_step : (b : Bool) (s i : ℕ) (xs ys : List ℕ) → (T (member i xs) → T (member i ys)) → T (member i (cond b (s ∷ xs) xs)) → T (member i (s ∷ ys))
-unfolding member
-true_step true s i xs ys f t = elim (or_out (eqb s i) (member i xs) t) [
-  | inl e ↦ or_left (eqb s i) (member i ys) e
-  | inr u ↦ or_right (eqb s i) (member i ys) (f u)
-]
-true_step false s i xs ys f t = or_right (eqb s i) (member i ys) (f t)
-
-true_known : (ks : List Known) (i : ℕ) → T (member i (known_true ks)) → T (member i (known_settings ks))
-unfolding known_true known_settings
-true_known [] i t = t
-true_known (k ∷ ks) i t = true_step k.value k.setting i (known_true ks) (known_settings ks) (true_known ks i) t
-
--- ---- the learn tables
-
-pub tables-length : (n : ℕ) (Fs : List (List ℕ)) (t : List ℕ) → TablesOf n Fs t → length t ≡ 16 * length Fs
-tables-length n [] t e = omega (arith, ap length e)
-tables-length n (F ∷ Fs) t (a, b, x, y, e) = omega (arith, ap length e, length-append a b, x.table.sixteen, tables-length n Fs b y)
-
-tables-within : (n : ℕ) (Fs : List (List ℕ)) (t : List ℕ) (j : ℕ) → TablesOf n Fs t → j < length Fs → Within n (learn_table t j)
-unfolding learn_table
-tables-within n [] t j e l = absurd (omega arith)
-tables-within n (F ∷ Fs) t zero (a, b, x, y, e) l =
-    subst (Within n) (sym (ap (take 16) e ∙ take_at a b 16 x.table.sixteen)) x.table.within
-tables-within n (F ∷ Fs) t (suc j) (a, b, x, y, e) l =
-    let past : 16 * suc j ≡ length a + 16 * j = omega (arith, x.table.sixteen) in
-    subst (λ (s : List ℕ). Within n (take 16 s))
-    (sym (ap (drop (16 * suc j)) e ∙ ap (λ (k : ℕ). drop k (a ++ b)) past ∙ drop-append-add a b (16 * j)))
-    (tables-within n Fs b j y (omega arith))
 
 -- ---- the question
 

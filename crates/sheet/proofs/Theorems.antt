@@ -34,7 +34,8 @@ use Rattle.sheet_reading.specs.Grammar.{WellFormed}
 use Rattle.sheet_reading.proofs.Taken.{stated-written}
 use Rattle.sheet_reading.proofs.Bounds.{Small, small-meaning}
 use Rattle.sheet.specs.Answer.{SheetAsks, sheet_book, PrintsFound, PrintsMeaning, AnswersSheet}
-use Rattle.sheet.proofs.SheetQuestion.{tables-length, asked_lawful, asked-most}
+use Rattle.sheet.proofs.SheetQuestion.{asked_lawful, asked-most}
+use Rattle.sheet_question.proofs.Stated.{tables-length}
 use Rattle.sheet.proofs.OneQuestion.{same-system, same_start, tells-one}
 
 -- ---- any two answers that the contract allows are the same, what is left in the room included

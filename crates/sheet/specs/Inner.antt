@@ -26,7 +26,7 @@ unfoldable pub book_in : Desk → List ℕ
 book_in d = book_of d.rules.settings d.rules.posts (rights_in d)
 
 abbrev pub question_in : Desk → Question
-question_in d = record { team = d.asked.team; known = d.asked.known; values = d.asked.values; held = d.asked.held }
+question_in d = d.asked.question
 
 abbrev pub goal_in : Desk → Goal
 goal_in d = goal_of d.asked.make (learn_in d)

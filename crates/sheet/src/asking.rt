@@ -8,8 +8,7 @@ ghost use Rattle.sheet.specs.Inner.{Whole, book_in, question_in, goal_in};
 
 use book_block::{BLOCK, TABLES};
 use finder::Answer;
-use ground::TABLE;
-use question::Question;
+use refusal::Refusal;
 use sheet_reading::{Desk, SHEET_SETTINGS_MOST};
 
 // The most bytes that a book of 5 settings has.
@@ -26,37 +25,29 @@ fn write_book(desk: Desk, book: &mut [u8])
     requires { Whole desk × (length book.old ≡ 3072) }
     ensures { take (512 * (1 + desk.rules.settings)) book.new ≡ book_in desk }
 {
-    let rules = desk.rules;
-    let n = rules.settings as usize;
-    let rights = rules.rights;
-    let tables = TABLES * n;
-    book::write(n, rules.posts as usize, &rights[..tables], book);
+    let n = desk.rules.settings as usize;
+    book::write(
+        n,
+        desk.rules.posts as usize,
+        &desk.rules.rights[..TABLES * n],
+        book,
+    )
+    .unwrap()
 }
 
 // The finder's answer to what is on the desk, with the plan at the start of the room.
-fn find(desk: Desk, plan: &mut [u8]) -> Answer
+fn find(desk: Desk, plan: &mut [u8]) -> Result<Answer, Refusal>
     requires { Whole desk }
     ensures { AnswersFrom (system_of desk.rules.settings (book_in desk) (question_in desk) (goal_in desk)) (start_of (question_in desk)) plan.old result plan.new }
 {
     let mut book = [0u8; SHEET_BOOK_MOST];
     write_book(desk, &mut book);
     let blocks = BLOCK * (1 + (desk.rules.settings as usize));
-    let asked = desk.asked;
-    let question = Question {
-        team: asked.team,
-        known: asked.known,
-        values: asked.values,
-        held: asked.held,
-    };
-    let make = asked.make;
-    let learn = asked.learn;
-    let learnt = TABLE * (asked.asks as usize);
     let mut ranks = [0u8; SHEET_RANKS_MOST];
     finder::find(
         &book[..blocks],
-        question,
-        &make,
-        &learn[..learnt],
+        desk.asked.question,
+        desk.asked.goal(),
         &mut ranks,
         plan,
     )
@@ -69,9 +60,8 @@ pub(crate) fn ask(desk: Desk, out: &mut [u8]) -> usize
     ensures { PrintsFound (system_of desk.rules.settings (book_in desk) (question_in desk) (goal_in desk)) (start_of (question_in desk)) out.old result out.new }
 {
     let mut plan = [0u8; SHEET_PLAN_MOST];
-    match find(desk, &mut plan) {
+    match find(desk, &mut plan).unwrap() {
         Answer::Reach { height, length } => print_answer::reach(height, &plan[..length], out),
         Answer::Cannot => print_answer::cannot(out),
-        Answer::Refused(_) => 0,
     }
 }

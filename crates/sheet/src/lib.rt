@@ -8,7 +8,7 @@ mod asking;
 ghost use Rattle.sheet.specs.Answer.{AnswersSheet};
 
 use asking::{SHEET_PLAN_MOST, ask};
-use sheet_reading::{SheetTold, read};
+use sheet_reading::read;
 
 // The most bytes that an answer has: 10 for `reach` and a height of up to three digits, and 14 for each of
 // 2,016 plan bytes, as `999 set g 8 1` and the line's end have. A refusal is shorter.
@@ -18,14 +18,8 @@ pub const ANSWER_MOST: usize = 10 + 14 * SHEET_PLAN_MOST;
 pub fn answer(sheet: &[u8], out: &mut [u8]) -> usize
     ensures { AnswersSheet sheet.now out.old result out.new }
 {
-    let reading = read(sheet);
-    let told = reading.told;
-    let desk = reading.desk;
-    match told {
-        SheetTold::Refused(why, line) => {
-            let numbers = why.numbers();
-            print_answer::refused(numbers.number, line, out)
-        }
-        SheetTold::Stated => ask(desk, out),
+    match read(sheet) {
+        Ok(desk) => ask(desk, out),
+        Err(fault) => print_answer::refused(fault.why.numbers().number, fault.line, out),
     }
 }

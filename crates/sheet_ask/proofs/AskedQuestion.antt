@@ -1,65 +1,31 @@
 -- What is asked of a sound book is one question, and it is valid: refusals 10 to 12 deny nothing of it. Name by name, and table by table.
 use mathlib.Core.Path.{◌≡◌, sym, ap, ◌∙◌, subst}
-use mathlib.Core.Logic.{inl, inr}
-use mathlib.Core.Bool.{Bool, true, false, cond}
-use mathlib.Core.List.{List, [], ◌∷◌, ◌++◌}
-use Prim.Native.Nat.{ℕ, zero, suc, ◌+◌, ◌*◌, ◌<◌}
+use mathlib.Core.Bool.{false}
+use mathlib.Core.List.{List}
+use Prim.Native.Nat.{ℕ, ◌*◌}
 use native.Mathlib.Omega.{arith}
-use lib.Dec.{T, eqb}
-use lib.ListN.{length, take, drop, length-append}
-use lib.Seq.{take_at, drop-append-add}
+use lib.Dec.{T}
+use lib.ListN.{length}
 use Rattle.ground.specs.Digits.{bit}
-use Rattle.ground.specs.Table.{Within}
-use Rattle.ground.proofs.Bools.{or_left, or_right, or_out, both, false→T}
+use Rattle.ground.proofs.Bools.{both, false→T}
 use Rattle.ground.proofs.Bits.{bit_of_zero}
 use Rattle.formula.specs.Read.{Accepts}
 use Rattle.book_sound.specs.Sound.{Sound}
-use Rattle.knowledge.specs.Goal.{Goal, goal_of, learn_table}
+use Rattle.knowledge.specs.Goal.{Goal, goal_of}
 use Rattle.question.specs.Rows.{TeamFits, KnownFits, HeldFits, GoalFits}
 use Rattle.question.specs.Asks.{ValidQuestion}
 use Rattle.question.specs.Legs.{ValidLegs}
 use Rattle.question.specs.declared.Question.{Question}
 use Rattle.sheet_words.specs.Words.{member}
 use Rattle.sheet_words.proofs.Unique.{mask_one}
-use Rattle.sheet_question.specs.Asked.{Known, Asked, known_settings, known_true}
+use Rattle.sheet_question.specs.Asked.{Asked}
 use Rattle.sheet_question.specs.Desk.{TablesOf, AskedOnDesk}
 use Rattle.sheet_question.specs.declared.desk.AskedDesk.{AskedDesk}
 use Rattle.sheet_question.proofs.Fits.{AskedFits}
+use Rattle.sheet_question.proofs.Stated.{true_known, tables-length, tables-within}
 use Rattle.sheet_question.proofs.Unique.{table-one, tables-one}
 use Rattle.sheet_ask.specs.Asks.{QuestionAsks, SecondAsks}
 use Rattle.sheet_ask.specs.Inner.{learn_in, question_in, goal_in}
-
--- ---- a setting that is known to be true is known
-
-true_step : (b : Bool) (s i : ℕ) (xs ys : List ℕ) → (T (member i xs) → T (member i ys)) → T (member i (cond b (s ∷ xs) xs)) → T (member i (s ∷ ys))
-unfolding member
-true_step true s i xs ys f t = elim (or_out (eqb s i) (member i xs) t) [
-  | inl e ↦ or_left (eqb s i) (member i ys) e
-  | inr u ↦ or_right (eqb s i) (member i ys) (f u)
-]
-true_step false s i xs ys f t = or_right (eqb s i) (member i ys) (f t)
-
-true_known : (ks : List Known) (i : ℕ) → T (member i (known_true ks)) → T (member i (known_settings ks))
-unfolding known_true known_settings
-true_known [] i t = t
-true_known (k ∷ ks) i t = true_step k.value k.setting i (known_true ks) (known_settings ks) (true_known ks i) t
-
--- ---- the learn tables
-
-pub tables-length : (n : ℕ) (Fs : List (List ℕ)) (t : List ℕ) → TablesOf n Fs t → length t ≡ 16 * length Fs
-tables-length n [] t e = omega (arith, ap length e)
-tables-length n (F ∷ Fs) t (a, b, x, y, e) = omega (arith, ap length e, length-append a b, x.table.sixteen, tables-length n Fs b y)
-
-tables-within : (n : ℕ) (Fs : List (List ℕ)) (t : List ℕ) (j : ℕ) → TablesOf n Fs t → j < length Fs → Within n (learn_table t j)
-unfolding learn_table
-tables-within n [] t j e l = absurd (omega arith)
-tables-within n (F ∷ Fs) t zero (a, b, x, y, e) l =
-    subst (Within n) (sym (ap (take 16) e ∙ take_at a b 16 x.table.sixteen)) x.table.within
-tables-within n (F ∷ Fs) t (suc j) (a, b, x, y, e) l =
-    let past : 16 * suc j ≡ length a + 16 * j = omega (arith, x.table.sixteen) in
-    subst (λ (s : List ℕ). Within n (take 16 s))
-    (sym (ap (drop (16 * suc j)) e ∙ ap (λ (k : ℕ). drop k (a ++ b)) past ∙ drop-append-add a b (16 * j)))
-    (tables-within n Fs b j y (omega arith))
 
 -- ---- the question is valid
 
@@ -139,6 +105,6 @@ pub desk_asks : {n : ℕ} {a : Asked} {d : AskedDesk} → AskedOnDesk n a d → 
 unfolding learn_in
 desk_asks h = record { made = h.make; learnt = h.learn; posts = h.team; settings_known = h.known; settings_true = h.values; settings_held = h.held }
 
-pub desk_second : {n : ℕ} {b : Asked} {d : AskedDesk} → AskedOnDesk n b d → SecondAsks n b d.team (goal_in d)
+pub desk_second : {n : ℕ} {b : Asked} {d : AskedDesk} → AskedOnDesk n b d → SecondAsks n b d.question.team (goal_in d)
 unfolding learn_in
 desk_second h = record { made = h.make; learnt = h.learn; posts = h.team }

@@ -7,6 +7,7 @@ use Prim.Native.Nat.{ℕ, ◌^◌, ◌≤◌, ◌<◌}
 use native.Mathlib.Omega.{arith}
 use lib.ListN.{length, take, drop, length-append}
 use lib.Seq.{take_at, ext_get_or}
+use Rattle.std.proofs.Common.{Result, Ok, Err}
 use Rattle.ground.proofs.Bools.{lt_or_ge}
 use Rattle.ground.proofs.Search.{least_unique}
 use Rattle.refusal.specs.declared.Refusal.{Refusal}
@@ -23,7 +24,7 @@ use Rattle.plan.proofs.Size.{works_permitted}
 use Rattle.plan.proofs.Written.{written_works, written-height, written_unique}
 use Rattle.plan.proofs.Accepted.{written-most}
 use Rattle.print_answer.specs.Listed.{Lettered}
-use Rattle.print_answer.specs.Printed.{refused_text, cannot_text, reach_text, Prints}
+use Rattle.print_answer.specs.Printed.{refused_text, reach_text, Prints}
 use Rattle.print_answer.proofs.Theorems.{permitted-lettered, prints_unique}
 use Rattle.question.specs.Question.{start_of}
 use Rattle.question.specs.Asks.{ValidQuestion}
@@ -32,7 +33,7 @@ use Rattle.question.proofs.SystemLaws.{lawful, few}
 use Rattle.finder.specs.Finds.{RanksFilled, Finds}
 use Rattle.finder.specs.Answers.{AnswersFrom}
 use Rattle.finder.specs.declared.answer.Answer.{Answer}
-use Rattle.finder.specs.declared.answer.Answer.TheVariants.{Reach, Cannot, Refused}
+use Rattle.finder.specs.declared.answer.Answer.TheVariants.{Reach, Cannot}
 use Rattle.finder.proofs.FindLaws.{short-table, find_clear}
 use Rattle.sheet_ask.specs.Asks.{PrintsFound, PrintsAsked}
 use Rattle.sheet_ask.specs.Inner.{Readable, Tells}
@@ -65,22 +66,10 @@ pub numbers-printed : (why : Refusal) {k : Numbers} {old new : List ℕ} {r : �
     → Prints old (refused_text (number why) (place why)) r new
 numbers-printed why {k} {old} {new} {r} e p = subst (λ (x : Numbers). Prints old (refused_text x.number x.place) r new) e p
 
--- each way of printing an answer
-module _ (answer : Answer) (plan : List ℕ) (out : List ℕ) (r : ℕ) (out' : List ℕ) where
-  pub tells_reach : (h size : ℕ) → answer ≡ Reach h size → ((p : Plan) → take size plan ≡ encode p → Lettered p → Prints out (reach_text h p) r out')
-      → Tells answer plan out r out'
-  tells_reach h size e f = subst (λ (x : Answer). Tells x plan out r out') (sym e) f
-
-  pub tells_cannot : answer ≡ Cannot → Prints out cannot_text r out' → Tells answer plan out r out'
-  tells_cannot e f = subst (λ (x : Answer). Tells x plan out r out') (sym e) f
-
-  pub tells-refused : (why : Refusal) → answer ≡ Refused why → Prints out (refused_text (number why) (place why)) r out' → Tells answer plan out r out'
-  tells-refused why e f = subst (λ (x : Answer). Tells x plan out r out') (sym e) f
-
 -- ---- what is answered from the start of a lawful system can be printed, and it is reach or cannot, since every plan fits its room
 
 module _ {n : ℕ} {S : System} (law : Lawful n S) (small : n ≤ 7) (start : ℕ) (plan plan' : List ℕ) where
-  module _ {h size : ℕ} (a : AnswersFrom S start plan (Reach h size) plan') where
+  module _ {h size : ℕ} (a : AnswersFrom S start plan (Ok (Reach h size)) plan') where
     tree : Plan
     tree = a.1.0
 
@@ -95,29 +84,29 @@ module _ {n : ℕ} {S : System} (law : Lawful n S) (small : n ≤ 7) (start : �
     plan-fits : size ≤ length plan'
     plan-fits = omega (arith, ap length a.1.4, length-append (encode a.1.0) (drop size plan), a.1.2)
 
-  pub answers-readable : (x : Answer) → AnswersFrom S start plan x plan' → Readable x plan'
+  pub answers-readable : (x : Result Answer Refusal) → AnswersFrom S start plan x plan' → Readable x plan'
   unfolding tree
-  answers-readable (Reach h size) a =
+  answers-readable (Ok (Reach h size)) a =
       (plan-fits a, (tree a, plan-bytes a, lettered a), omega (arith, ap length (plan-bytes a), (plan-most law small start (tree a) a.1.1).1))
-  answers-readable Cannot a = tt
-  answers-readable (Refused why) a = tt
+  answers-readable (Ok Cannot) a = tt
+  answers-readable (Err why) a = tt
 
-  pub answers-told : (x : Answer) (old : List ℕ) (r : ℕ) (new : List ℕ) → length plan ≡ 32640 → AnswersFrom S start plan x plan' → Tells x plan' old r new
+  pub answers-told : (x : Result Answer Refusal) (old : List ℕ) (r : ℕ) (new : List ℕ) → length plan ≡ 32640 → AnswersFrom S start plan x plan' → Tells x plan' old r new
       → PrintsFound S start old r new
   unfolding tree
-  answers-told (Reach h size) old r new l a f = inl (h, tree a, a.0, a.1.1, f (tree a) (plan-bytes a) (lettered a))
-  answers-told Cannot old r new l a f = inr (a.0, f)
-  answers-told (Refused why) old r new l a f = absurd (omega (arith, l, a.1.2, (plan-most law small start a.1.0 a.1.1).1))
+  answers-told (Ok (Reach h size)) old r new l a f = inl (h, tree a, a.0, a.1.1, f (tree a) (plan-bytes a) (lettered a))
+  answers-told (Ok Cannot) old r new l a f = inr (a.0, f)
+  answers-told (Err why) old r new l a f = absurd (omega (arith, l, a.1.2, (plan-most law small start a.1.0 a.1.1).1))
 
 -- ---- the finder's answer: of a valid question it refuses 13 alone
 
 module _ {book : List ℕ} {q : Question} {goal : Goal} {n m : ℕ} (v : ValidQuestion book q goal n m)
-    (ranks plan : List ℕ) (answer : Answer) (ranks' plan' : List ℕ) (found : Finds book q goal ranks plan answer ranks' plan') where
+    (ranks plan : List ℕ) (answer : Result Answer Refusal) (ranks' plan' : List ℕ) (found : Finds book q goal ranks plan answer ranks' plan') where
   pub found-readable : Readable answer plan'
   found-readable = by_case found
     where
       by_case : Finds book q goal ranks plan answer ranks' plan' → Readable answer plan'
-      by_case (inl u) = subst (λ (x : Answer). Readable x plan') (sym u.answered) tt
+      by_case (inl u) = subst (λ (x : Result Answer Refusal). Readable x plan') (sym u.answered) tt
       by_case (inr (k, l, w, enough, filled, answered)) = answers-readable (lawful w) (few w) (start_of q) plan plan' answer answered
 
   pub found-told : (old : List ℕ) (r : ℕ) (new : List ℕ) → length plan ≡ 32640 → Tells answer plan' old r new → PrintsAsked n book q goal ranks old r ranks' new
@@ -125,7 +114,7 @@ module _ {book : List ℕ} {q : Question} {goal : Goal} {n m : ℕ} (v : ValidQu
     where
       by_case : Finds book q goal ranks plan answer ranks' plan' → PrintsAsked n book q goal ranks old r ranks' new
       by_case (inl u) =
-          let f = subst (λ (x : Answer). Tells x plan' old r new) u.answered told in
+          let f = subst (λ (x : Result Answer Refusal). Tells x plan' old r new) u.answered told in
           elim (lt_or_ge (length ranks) (7 ^ n)) [
             | inl l ↦ inl (
               l,

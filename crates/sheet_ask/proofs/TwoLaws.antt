@@ -9,6 +9,8 @@ use native.Mathlib.Omega.{arith}
 use lib.Dec.{lit<}
 use lib.ListN.{length, get_or, take, drop}
 use lib.Seq.{sets, length-sets, length-take-le, get_or-take, ext_get_or}
+use Rattle.std.proofs.Common.{Result}
+use Rattle.refusal.specs.declared.Refusal.{Refusal}
 use Rattle.ground.proofs.Bools.{lt_or_ge}
 use Rattle.ground.proofs.Lists.{get_d_sets}
 use Rattle.refusal.proofs.OrderLaws.{first-clear}
@@ -76,11 +78,11 @@ enough n room h e =
     omega (arith, e, most)
 
 module _ {n count : ℕ} {book : List ℕ} {first second : AskedDesk} (ranks ranks2 plan : List ℕ) (fit : BothFit n book first second count ranks)
-    (answer : Answer) (ranks' ranks2' plan' : List ℕ)
-    (found : FindsTwo book (question_in first) (goal_in first) second.team (goal_in second) (rooms_of ranks ranks2 plan) answer (rooms_of ranks' ranks2' plan'))
+    (answer : Result Answer Refusal) (ranks' ranks2' plan' : List ℕ)
+    (found : FindsTwo book (question_in first) (goal_in first) second.question.team (goal_in second) (rooms_of ranks ranks2 plan) answer (rooms_of ranks' ranks2' plan'))
     (zeros : 823543 ≡ length ranks2) where
   abbrev Met : ℕ → Type 0
-  Met k = AnsweredTwo k book (question_in first) (goal_in first) second.team (goal_in second) (rooms_of ranks ranks2 plan) answer (rooms_of ranks' ranks2' plan')
+  Met k = AnsweredTwo k book (question_in first) (goal_in first) second.question.team (goal_in second) (rooms_of ranks ranks2 plan) answer (rooms_of ranks' ranks2' plan')
 
   room2 : 7 ^ n ≤ length ranks2
   room2 = enough n ranks2 (few fit.valid.first) zeros
@@ -88,10 +90,10 @@ module _ {n count : ℕ} {book : List ℕ} {first second : AskedDesk} (ranks ran
   met : Met n
   met = by_case found
     where
-      by_case : FindsTwo book (question_in first) (goal_in first) second.team (goal_in second) (rooms_of ranks ranks2 plan) answer (rooms_of ranks' ranks2' plan')
+      by_case : FindsTwo book (question_in first) (goal_in first) second.question.team (goal_in second) (rooms_of ranks ranks2 plan) answer (rooms_of ranks' ranks2' plan')
           → Met n
       by_case (inl u) =
-          first-clear u.first (two-clear book (question_in first) (goal_in first) second.team (goal_in second) (rooms_of ranks ranks2 plan) fit.valid
+          first-clear u.first (two-clear book (question_in first) (goal_in first) second.question.team (goal_in second) (rooms_of ranks ranks2 plan) fit.valid
           (record { first_room = omega (arith, fit.room); second_room = room2 }))
       by_case (inr (k, l, w, room, a)) = subst Met (sound-one w.first.sound fit.valid.first.sound).0 a
 
@@ -104,15 +106,15 @@ module _ {n count : ℕ} {book : List ℕ} {first second : AskedDesk} (ranks ran
 
 -- and its answer printed
 module _ {n count : ℕ} {book : List ℕ} {first second : AskedDesk} {ranks : List ℕ} (fit : BothFit n book first second count ranks)
-    (plan : List ℕ) (answer : Answer) (ranks' plan' : List ℕ) (found : FoundBoth n book first second ranks plan answer ranks' plan') where
+    (plan : List ℕ) (answer : Result Answer Refusal) (ranks' plan' : List ℕ) (found : FoundBoth n book first second ranks plan answer ranks' plan') where
   pub two-readable : Readable answer plan'
   two-readable =
-      answers-readable (first_leg_lawful book (question_in first) (goal_in first) second.team (goal_in second) fit.valid) (few fit.valid.first)
+      answers-readable (first_leg_lawful book (question_in first) (goal_in first) second.question.team (goal_in second) fit.valid) (few fit.valid.first)
       (start_of (question_in first)) plan plan' answer found.answers
 
   pub two-told : (out : List ℕ) (r : ℕ) (out' : List ℕ) → length plan ≡ 32640 → Tells answer plan' out r out' → ToldBoth n book first second ranks out r ranks' out'
   two-told out r out' size told = record {
     filled = found.filled;
-    prints = answers-told (first_leg_lawful book (question_in first) (goal_in first) second.team (goal_in second) fit.valid) (few fit.valid.first)
+    prints = answers-told (first_leg_lawful book (question_in first) (goal_in first) second.question.team (goal_in second) fit.valid) (few fit.valid.first)
         (start_of (question_in first)) plan plan' answer out r out' size found.answers told;
   }

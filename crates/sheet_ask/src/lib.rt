@@ -11,41 +11,19 @@ mod two;
 ghost use Rattle.std.specs.Prelude.{ℕ};
 ghost use Rattle.book_sound.specs.Sound.{Sound};
 ghost use Rattle.question.specs.Asks.{ValidQuestion};
-ghost use Rattle.finder.specs.Finds.{Finds};
 ghost use Rattle.sheet_legs.specs.Legs.{legs_meaning};
 ghost use Rattle.sheet_ask.specs.Asks.{PrintsAsked, PrintsLegs, AsksBook};
 ghost use Rattle.sheet_ask.specs.Inner.{Learnt, question_in, goal_in};
 
-use crate::tell::tell;
+use crate::tell::{refuse, tell};
 use crate::two::answered_two;
-use book_sound::ReadAnswer;
-use finder::Answer;
-use ground::TABLE;
 use plancheck::PLAN_MOST;
-use question::Question;
-use sheet_legs::{LegsTold, read_legs};
+use sheet_legs::read_legs;
 use sheet_question::AskedDesk;
 
 // The most bytes that are printed: 10 for `reach` and a height of up to three digits, and 14 for each of
 // 32,640 plan bytes, as `999 set g 8 1` and the line's end have. A refusal is shorter.
 pub const ASK_MOST: usize = 10 + 14 * PLAN_MOST;
-
-// The finder's answer to what is on the desk, with the plan at the start of the room.
-fn find(book: &[u8], asked: AskedDesk, ranks: &mut [u8], plan: &mut [u8]) -> Answer
-    requires { Learnt asked }
-    ensures { Finds book.now (question_in asked) (goal_in asked) ranks.old plan.old result ranks.new plan.new }
-{
-    let question = Question {
-        team: asked.team,
-        known: asked.known,
-        values: asked.values,
-        held: asked.held,
-    };
-    let make = asked.make;
-    let learn = asked.learn;
-    let learnt = TABLE * (asked.asks as usize);
-    finder::find(book, question, &make, &learn[..learnt], ranks, plan)
-}
 
 // What is printed for a valid question on the desk: the finder refuses nothing but 13, since every plan
 // fits its room.
@@ -55,7 +33,7 @@ fn answered(book: &[u8], asked: AskedDesk, ranks: &mut [u8], out: &mut [u8]) -> 
         PrintsAsked n book.now (question_in asked) (goal_in asked) ranks.old out.old result ranks.new out.new }
 {
     let mut plan = [0u8; PLAN_MOST];
-    let answer = find(book, asked, ranks, &mut plan);
+    let answer = finder::find(book, asked.question, asked.goal(), ranks, &mut plan);
     tell(answer, &plan, out)
 }
 
@@ -72,17 +50,12 @@ fn ask_sound(
     ensures { PrintsLegs settings book.now (legs_meaning settings posts question.now)
         ranks.old out.old result ranks.new out.new }
 {
-    let reading = read_legs(question, settings, posts);
-    let told = reading.told;
-    let first = reading.first;
-    let second = reading.second;
-    match told {
-        LegsTold::Refused(why, line) => {
-            let numbers = why.numbers();
-            print_answer::refused(numbers.number, line, out)
-        }
-        LegsTold::One => answered(book, first, ranks, out),
-        LegsTold::Two => answered_two(book, settings, first, second, ranks, out),
+    match read_legs(question, settings, posts) {
+        Ok(legs) => match legs.second {
+            None => answered(book, legs.first, ranks, out),
+            Some(second) => answered_two(book, settings, legs.first, second, ranks, out),
+        },
+        Err(fault) => print_answer::refused(fault.why.numbers().number, fault.line, out),
     }
 }
 
@@ -92,12 +65,7 @@ pub fn ask(book: &[u8], question: &[u8], ranks: &mut [u8], out: &mut [u8]) -> us
     ensures { AsksBook book.now question.now ranks.old out.old result ranks.new out.new }
 {
     match book_sound::sound(book) {
-        ReadAnswer::Refused(why) => {
-            let numbers = why.numbers();
-            print_answer::refused(numbers.number, numbers.place, out)
-        }
-        ReadAnswer::Book { settings, posts } => {
-            ask_sound(book, settings, posts, question, ranks, out)
-        }
+        Ok(size) => ask_sound(book, size.settings, size.posts, question, ranks, out),
+        Err(why) => refuse(why, out),
     }
 }

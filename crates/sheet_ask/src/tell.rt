@@ -15,13 +15,13 @@ pub(crate) fn refuse(why: Refusal, out: &mut [u8]) -> usize
 }
 
 // What is printed for an answer, with the plan at the start of its room.
-pub(crate) fn tell(answer: Answer, plan: &[u8], out: &mut [u8]) -> usize
+pub(crate) fn tell(answer: Result<Answer, Refusal>, plan: &[u8], out: &mut [u8]) -> usize
     requires { Readable answer plan.now }
     ensures { Tells answer plan.now out.old result out.new }
 {
     match answer {
-        Answer::Reach { height, length } => print_answer::reach(height, &plan[..length], out),
-        Answer::Cannot => print_answer::cannot(out),
-        Answer::Refused(why) => refuse(why, out),
+        Ok(Answer::Reach { height, length }) => print_answer::reach(height, &plan[..length], out),
+        Ok(Answer::Cannot) => print_answer::cannot(out),
+        Err(why) => refuse(why, out),
     }
 }

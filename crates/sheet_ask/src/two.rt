@@ -9,9 +9,9 @@ ghost use Rattle.sheet_ask.specs.Inner.{Learnt, BothFit, FoundBoth, ToldBoth, qu
 use crate::tell::{refuse, tell};
 use finder::Answer;
 use finder_ranks::numbers;
-use ground::{TABLE, copy};
+use ground::copy;
 use plancheck::PLAN_MOST;
-use question::Question;
+use question::Leg;
 use refusal::Refusal;
 use sheet_question::AskedDesk;
 
@@ -35,31 +35,19 @@ fn find_legs(
     ranks: &mut [u8],
     ranks2: &mut [u8],
     plan: &mut [u8],
-) -> Answer
+) -> Result<Answer, Refusal>
     requires { Learnt first × Learnt second }
-    ensures { FindsTwo book.now (question_in first) (goal_in first) second.team (goal_in second)
+    ensures { FindsTwo book.now (question_in first) (goal_in first) second.question.team (goal_in second)
         (rooms_of ranks.old ranks2.old plan.old) result (rooms_of ranks.new ranks2.new plan.new) }
 {
-    let question = Question {
-        team: first.team,
-        known: first.known,
-        values: first.values,
-        held: first.held,
-    };
-    let make = first.make;
-    let learn = first.learn;
-    let learnt = TABLE * (first.asks as usize);
-    let make2 = second.make;
-    let learn2 = second.learn;
-    let learnt2 = TABLE * (second.asks as usize);
     finder::find_two(
         book,
-        question,
-        &make,
-        &learn[..learnt],
-        second.team,
-        &make2,
-        &learn2[..learnt2],
+        first.question,
+        first.goal(),
+        Leg {
+            team: second.question.team,
+            goal: second.goal(),
+        },
         ranks,
         ranks2,
         plan,
@@ -75,7 +63,7 @@ fn find_both(
     count: usize,
     ranks: &mut [u8],
     plan: &mut [u8],
-) -> Answer
+) -> Result<Answer, Refusal>
     requires { BothFit settings book.now first second count ranks.old }
     ensures { FoundBoth settings book.now first second ranks.old plan.old result ranks.new plan.new }
 {
@@ -112,8 +100,8 @@ pub(crate) fn answered_two(
     ranks: &mut [u8],
     out: &mut [u8],
 ) -> usize
-    requires { Learnt first × Learnt second × ((m : ℕ) × ValidLegs book.now (question_in first) (goal_in first) second.team (goal_in second) settings m) }
-    ensures { PrintsTwo settings book.now (question_in first) (goal_in first) second.team (goal_in second)
+    requires { Learnt first × Learnt second × ((m : ℕ) × ValidLegs book.now (question_in first) (goal_in first) second.question.team (goal_in second) settings m) }
+    ensures { PrintsTwo settings book.now (question_in first) (goal_in first) second.question.team (goal_in second)
         ranks.old out.old result ranks.new out.new }
 {
     let count = numbers(settings);

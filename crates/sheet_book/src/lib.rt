@@ -9,50 +9,31 @@ ghost use Rattle.sheet_rules.specs.Desk.{OnDesk};
 ghost use Rattle.sheet_rules.specs.Meaning.{rules_meaning};
 ghost use Rattle.sheet_book.specs.Book.{MakesOf, MakesBook};
 
-use book::WriteAnswer;
 use book_block::{BLOCK, TABLES};
 use ground::SETTINGS_MOST;
-use refusal::Refusal;
-use sheet_rules::{RulesDesk, WholeTold, read_rules};
+use sheet_rules::{RulesDesk, read_rules};
+use sheet_words::Fault;
 
 // The most bytes that a book has: a head and 7 settings.
 pub const BOOK_MOST: usize = BLOCK * (1 + SETTINGS_MOST);
 
-// What becomes of a text of rules.
-#[derive(Clone, Copy)]
-pub enum MakeAnswer {
-    // The book stands at the start of the room, and has this many bytes.
-    Made(usize),
-    // Nothing was written, for this reason, at this line of the text; the line is 0 where the reason is the
-    // text's length or the room's.
-    Refused(Refusal, usize),
-}
-
-// Writes the book of the rules on the desk.
-fn write_book(desk: RulesDesk, room: &mut [u8]) -> MakeAnswer
+// Writes the book of the rules on the desk, and gives its length.
+fn write_book(desk: RulesDesk, room: &mut [u8]) -> Result<usize, Fault>
     requires { (rules : Rules) × OnDesk rules desk }
     ensures { (rules : Rules) → OnDesk rules desk → MakesOf rules room.old result room.new }
 {
     let n = desk.settings as usize;
-    let rights = desk.rights;
-    let tables = TABLES * n;
-    let size = BLOCK * (1 + n);
-    let answer = book::write(n, desk.posts as usize, &rights[..tables], room);
-    match answer {
-        WriteAnswer::Refused(why) => MakeAnswer::Refused(why, 0),
-        WriteAnswer::Written => MakeAnswer::Made(size),
+    match book::write(n, desk.posts as usize, &desk.rights[..TABLES * n], room) {
+        Ok(()) => Ok(BLOCK * (1 + n)),
+        Err(why) => Err(Fault { why, line: 0 }),
     }
 }
 
-// The book of a text of rules, at the start of the room, or why there is none.
-pub fn make_book(rules: &[u8], room: &mut [u8]) -> MakeAnswer
+// The book of a text of rules is written at the start of the room: its length, or why there is none. The line is 0
+// where the reason is the text's length or the room's.
+pub fn make_book(rules: &[u8], room: &mut [u8]) -> Result<usize, Fault>
     ensures { MakesBook (rules_meaning rules.now) room.old result room.new }
 {
-    let reading = read_rules(rules);
-    let told = reading.told;
-    let desk = reading.desk;
-    match told {
-        WholeTold::Refused(why, line) => MakeAnswer::Refused(why, line),
-        WholeTold::Stated => write_book(desk, room),
-    }
+    let desk = read_rules(rules)?;
+    write_book(desk, room)
 }

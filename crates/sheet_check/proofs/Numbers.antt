@@ -8,6 +8,9 @@ use Prim.Native.Nat.{ℕ, suc, ◌≤◌}
 use native.Mathlib.Omega.{arith}
 use lib.Dec.{ltb}
 use lib.ListN.{length, drop}
+use Rattle.std.proofs.Common.{Result, Ok, Err}
+use Rattle.sheet_check.specs.declared.CheckFault.{CheckFault}
+use Rattle.sheet_check.specs.declared.CheckFault.TheVariants.{Book as BookRefused, Question as QuestionRefused, Text as TextRefused, Plan as PlanRefused}
 use Rattle.ground.specs.Text.{bytes}
 use Rattle.ground.proofs.Bools.{lt_or_ge}
 use Rattle.refusal.specs.declared.Refusal.{Refusal}
@@ -16,8 +19,6 @@ use Rattle.refusal.specs.Refusals.{number}
 use Rattle.refusal.specs.Order.{First}
 use Rattle.refusal.proofs.OrderLaws.{first-clear}
 use Rattle.formula.specs.Computed.{formula_answer}
-use Rattle.formula.specs.declared.Answer.{Answer}
-use Rattle.formula.specs.declared.Answer.TheVariants.{Accepted, Refused as Wrong}
 use Rattle.book_sound.specs.Rows.{book_rows}
 use Rattle.knowledge.specs.Goal.{Goal}
 use Rattle.plan.specs.Check.{Fault, no_act, not_permitted, changes_nothing_case, not_settled, too_soon, left_over}
@@ -26,7 +27,6 @@ use Rattle.question.specs.declared.Question.{Question}
 use Rattle.question.proofs.RowLaws.{question_clear}
 use Rattle.plancheck.specs.Checks.{Checks}
 use Rattle.plancheck.specs.Refusals.{refusal_of}
-use Rattle.plancheck.specs.declared.answer.CheckAnswer.TheVariants.{Yes as Works, Refused}
 use Rattle.plancheck.proofs.OneAnswer.{refused_by}
 use Rattle.plancheck_text.specs.Meaning as Text
 use Rattle.plancheck_text.specs.Meaning.{plan_text_meaning}
@@ -45,8 +45,6 @@ use Rattle.sheet_question.proofs.Fits.{asked-fits}
 use Rattle.sheet_question.proofs.ReadLaws.{after, asked-after, too_long, not-long}
 use Rattle.sheet_ask.proofs.AskedQuestion.{asked-valid}
 use Rattle.sheet_check.specs.Checks.{ChecksText, ChecksQuestion, ChecksTexts}
-use Rattle.sheet_check.specs.declared.CheckTold.{CheckTold}
-use Rattle.sheet_check.specs.declared.CheckTold.TheVariants.{Yes, BookRefused, QuestionRefused, TextRefused, PlanRefused}
 
 -- ---- the book's
 
@@ -77,9 +75,9 @@ own-refused : (n : ℕ) (F : List ℕ) (later : AskedStep) → OfStep later → 
 unfolding unless_refused
 own-refused n F later h = by_answer (formula_answer n F) refl
   where
-    by_answer : (a : Answer) → formula_answer n F ≡ a → OfStep (unless_answered a later)
-    by_answer Accepted e = h
-    by_answer (Wrong r) e = inl (formula_number n F r e)
+    by_answer : (a : Result (Unit {0}) Refusal) → formula_answer n F ≡ a → OfStep (unless_answered a later)
+    by_answer (Ok x) e = h
+    by_answer (Err r) e = inl (formula_number n F r e)
 
 own-names : (L : ℕ) (form : Bool) (names : List ℕ) (later : AskedStep) → OfStep later → OfStep (names_step L form names later)
 own-names L form names later h =
@@ -164,7 +162,7 @@ fault-number not_settled i = inl (omega arith, omega arith)
 fault-number too_soon i = inl (omega arith, omega arith)
 fault-number left_over i = inl (omega arith, omega arith)
 
-plan-numbers : {book : List ℕ} {q : Question} {goal : Goal} {n m : ℕ} → ValidQuestion book q goal n m → (plan : List ℕ) (why : Refusal) → Checks book q goal plan (Refused why) → OfPlan why
+plan-numbers : {book : List ℕ} {q : Question} {goal : Goal} {n m : ℕ} → ValidQuestion book q goal n m → (plan : List ℕ) (why : Refusal) → Checks book q goal plan (Err why) → OfPlan why
 plan-numbers {book} {q} {goal} valid plan why c = elim (refused_by book q goal plan why c) [
   | inl f ↦ first-clear f (question_clear valid)
   | inr (inl (l, long)) ↦ (let e : number why ≡ 16 = ap number l in inl (omega (arith, e), omega (arith, e)))
@@ -173,21 +171,21 @@ plan-numbers {book} {q} {goal} valid plan why c = elim (refused_by book q goal p
 
 -- ---- all of them
 
-abbrev pub NumbersOf : CheckTold → Type 0
-NumbersOf Yes = Unit
-NumbersOf (BookRefused why) = (6 ≤ number why) × (number why ≤ 9)
-NumbersOf (QuestionRefused why line) = OfQuestion why
-NumbersOf (TextRefused why) = (number why ≡ 22) ⊎ (number why ≡ 24)
-NumbersOf (PlanRefused why) = OfPlan why
+abbrev pub NumbersOf : Result (Unit {0}) CheckFault → Type 0
+NumbersOf (Ok done) = Unit
+NumbersOf (Err (BookRefused why)) = (6 ≤ number why) × (number why ≤ 9)
+NumbersOf (Err (QuestionRefused f)) = OfQuestion f.why
+NumbersOf (Err (TextRefused why)) = (number why ≡ 22) ⊎ (number why ≡ 24)
+NumbersOf (Err (PlanRefused why)) = OfPlan why
 
-pub told-numbers : (book question plan : List ℕ) (r : CheckTold) → ChecksTexts book question plan r → NumbersOf r
+pub told-numbers : (book question plan : List ℕ) (r : Result (Unit {0}) CheckFault) → ChecksTexts book question plan r → NumbersOf r
 told-numbers book question plan r (inl (why, f, e)) = subst NumbersOf (sym e) (book_numbers book why f)
 told-numbers book question plan r (inr (n, m, sound, c)) = by_question (question_meaning 0 true n m question) refl c
   where
     by_text : (q : Question) (goal : Goal) → ValidQuestion book q goal n m → (o : Text.Meaning) → plan_text_meaning plan ≡ o → ChecksText book q goal o r → NumbersOf r
     by_text q goal valid (Text.refused why) s e = subst NumbersOf (sym e) (text-numbers plan why s)
-    by_text q goal valid (Text.plan b) s (Works, d, e) = subst NumbersOf (sym e) tt
-    by_text q goal valid (Text.plan b) s (Refused why, d, e) = subst NumbersOf (sym e) (plan-numbers valid b why d)
+    by_text q goal valid (Text.plan b) s (Ok x, d, e) = subst NumbersOf (sym e) tt
+    by_text q goal valid (Text.plan b) s (Err why, d, e) = subst NumbersOf (sym e) (plan-numbers valid b why d)
 
     by_question : (o : QuestionMeaning) → question_meaning 0 true n m question ≡ o → ChecksQuestion n book o plan r → NumbersOf r
     by_question (refused why line) s e = subst NumbersOf (sym e) (subst (OfMeaning true n m) s (own_question true n m 0 question))

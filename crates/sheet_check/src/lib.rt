@@ -5,89 +5,70 @@
 
 ghost use Rattle.std.specs.Prelude.{true};
 ghost use Rattle.book_sound.specs.Sound.{Sound};
-ghost use Rattle.plancheck.specs.Checks.{Checks};
 ghost use Rattle.plancheck_text.specs.Meaning.{plan_text_meaning};
 ghost use Rattle.sheet_question.specs.Question.{question_meaning};
 ghost use Rattle.sheet_ask.specs.Inner.{Learnt, question_in, goal_in};
 ghost use Rattle.sheet_check.specs.Checks.{ChecksText, ChecksQuestion, ChecksTexts};
 
-use book_sound::ReadAnswer;
-use ground::TABLE;
-use plancheck::CheckAnswer;
-use plancheck_text::{PlanTold, TEXT_BYTES_MOST};
-use question::Question;
+use plancheck_text::TEXT_BYTES_MOST;
 use refusal::Refusal;
-use sheet_question::{AskedDesk, QuestionTold, read_question};
+use sheet_question::{AskedDesk, read_question};
+use sheet_words::Fault;
 
-// What is said of a plan's text.
-#[derive(Clone, Copy)]
-pub enum CheckTold {
-    // Its bytes are those of a plan that works for the question.
-    Yes,
+// Why a plan's text gets no yes.
+#[derive(Clone, Copy, Debug, PartialEq, Eq)]
+pub enum CheckFault {
     // The book is not sound: 6 to 9.
-    BookRefused(Refusal),
+    Book(Refusal),
     // The question text does not ask: 24, or a line's refusal. The line is what is printed as its place.
-    QuestionRefused(Refusal, usize),
+    Question(Fault),
     // It is not the text of a plan: 24, or 22 with the line as its place.
-    TextRefused(Refusal),
+    Text(Refusal),
     // The plan check refuses its bytes: 16 to 21, or 32. Byte i is in line i + 2 of the text.
-    PlanRefused(Refusal),
+    Plan(Refusal),
 }
 
-// The plan check's answer to a plan's bytes, for what is on the desk.
-fn judge(book: &[u8], asked: AskedDesk, plan: &[u8]) -> CheckAnswer
-    requires { Learnt asked }
-    ensures { Checks book.now (question_in asked) (goal_in asked) plan.now result }
-{
-    let question = Question {
-        team: asked.team,
-        known: asked.known,
-        values: asked.values,
-        held: asked.held,
-    };
-    let make = asked.make;
-    let learn = asked.learn;
-    let learnt = TABLE * (asked.asks as usize);
-    plancheck::check(book, question, &make, &learn[..learnt], plan)
-}
-
-// What is said of a plan's text, for what is on the desk. Every plan that is read fits the room.
-fn check_text(book: &[u8], asked: AskedDesk, plan: &[u8]) -> CheckTold
+// Whether the bytes of a plan's text are those of a plan that works for what is on the desk. Every plan that is read
+// fits the room.
+fn check_text(book: &[u8], asked: AskedDesk, plan: &[u8]) -> Result<(), CheckFault>
     requires { Learnt asked }
     ensures { ChecksText book.now (question_in asked) (goal_in asked) (plan_text_meaning plan.now) result }
 {
     let mut room = [0u8; TEXT_BYTES_MOST];
-    match plancheck_text::read(plan, &mut room) {
-        PlanTold::Refused(why) => CheckTold::TextRefused(why),
-        PlanTold::Read(count) => match judge(book, asked, &room[..count]) {
-            CheckAnswer::Refused(why) => CheckTold::PlanRefused(why),
-            CheckAnswer::Yes => CheckTold::Yes,
-        },
+    let count = match plancheck_text::read(plan, &mut room) {
+        Ok(count) => count,
+        Err(why) => return Err(CheckFault::Text(why)),
+    };
+    match plancheck::check(book, asked.question, asked.goal(), &room[..count]) {
+        Ok(()) => Ok(()),
+        Err(why) => Err(CheckFault::Plan(why)),
     }
 }
 
-// What is said of a plan's text, for a question text that is put to a sound book.
-fn check_sound(book: &[u8], settings: u8, posts: u8, question: &[u8], plan: &[u8]) -> CheckTold
+// The same, for a question text that is put to a sound book.
+fn check_sound(
+    book: &[u8],
+    settings: u8,
+    posts: u8,
+    question: &[u8],
+    plan: &[u8],
+) -> Result<(), CheckFault>
     requires { Sound book.now settings posts }
     ensures { ChecksQuestion settings book.now (question_meaning 0 true settings posts question.now) plan.now result }
 {
-    let reading = read_question(question, settings, posts);
-    let told = reading.told;
-    let desk = reading.desk;
-    match told {
-        QuestionTold::Refused(why, line) => CheckTold::QuestionRefused(why, line),
-        QuestionTold::Stated => check_text(book, desk, plan),
+    match read_question(question, settings, posts) {
+        Ok(asked) => check_text(book, asked, plan),
+        Err(fault) => Err(CheckFault::Question(fault)),
     }
 }
 
-// What is said of any bytes as a plan's text, for any bytes as a question text and any bytes as a book.
-pub fn check(book: &[u8], question: &[u8], plan: &[u8]) -> CheckTold
+// Whether any bytes are the text of a plan that works, for any bytes as a question text and any bytes as a book; or the
+// first refusal, and whose it is.
+pub fn check(book: &[u8], question: &[u8], plan: &[u8]) -> Result<(), CheckFault>
     ensures { ChecksTexts book.now question.now plan.now result }
 {
     match book_sound::sound(book) {
-        ReadAnswer::Refused(why) => CheckTold::BookRefused(why),
-        ReadAnswer::Book { settings, posts } => {
-            check_sound(book, settings, posts, question, plan)
-        }
+        Ok(size) => check_sound(book, size.settings, size.posts, question, plan),
+        Err(why) => Err(CheckFault::Book(why)),
     }
 }

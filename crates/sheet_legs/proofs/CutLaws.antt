@@ -1,14 +1,14 @@
--- Where a text is cut, line by line: the lines before a place on, none of them `then`, and the text from there on. And that what a text of one leg asks,
+-- Where a text is cut, line by line: the lines in front of what is left, none of them `then`. And that what a text of one leg asks,
 -- it asks as ever: in each state the line `then` is a fault, so a text that asks has none.
 use mathlib.Core.Path.{◌≡◌, refl, sym, ap, ap₂, ◌∙◌, subst}
 use mathlib.Core.Logic.{inl, inr}
 use mathlib.Core.Bool.{Bool, true, false, cond}
-use mathlib.Core.List.{List, [], ◌∷◌, ◌++◌, append_assoc}
+use mathlib.Core.List.{List, [], ◌∷◌, ◌++◌, append_assoc, append-nil}
 use Prim.Native.Nat.{ℕ, suc, ◌+◌, ◌-◌, ◌≤◌, ◌<◌}
 use native.Mathlib.Omega.{arith}
 use lib.Dec.{T, eqb, eqb→eq}
-use lib.ListN.{length, take, drop, length-append, length-drop}
-use lib.Seq.{take-append-add, length-take-le}
+use lib.ListN.{length, take, drop, length-append}
+use lib.Seq.{take_at, drop-append-add}
 use borrow.Author.Tests.{le-ltb, lt-ltb}
 use Rattle.ground.specs.Text.{bytes}
 use Rattle.ground.proofs.Bools.{lt_or_ge, and_left, and_right, true→T}
@@ -17,7 +17,7 @@ use Rattle.refusal.specs.declared.Refusal.TheVariants.{Malformed, SheetLength}
 use Rattle.sheet_words.specs.Words.{split, newline, begins, passed_over}
 use Rattle.sheet_words.specs.Steps.{fault, next}
 use Rattle.sheet_words.proofs.Split.{some_piece, Clear, AllClear, joined, marked-some, joined_split, split-clear, split-marked}
-use Rattle.sheet_words.proofs.Pieces.{part, PieceEnd}
+use Rattle.sheet_words.specs.Lines.{LineCut}
 use Rattle.sheet_question.specs.Asked.{Asked, nothing_asked}
 use Rattle.sheet_question.specs.Forms.{is_names, is_team, is_known, is_held}
 use Rattle.sheet_question.specs.LineSteps.{AskedStep, team_step, known_step, held_step, make_step, ask_step, held_or_make, due_step, line_step}
@@ -61,67 +61,7 @@ ahead-parted : (lines first second : List (List ℕ)) → ahead_all lines (parte
 ahead-parted [] first second = refl
 ahead-parted (l ∷ lines) first second = ap (ahead l) (ahead-parted lines first second)
 
--- ---- from a place on
-
--- the lines before the place `at`, none of which is `then`: what is in front of the text from there on, however far the text goes
-pub record Before (s : List ℕ) (at : ℕ) (lines : List (List ℕ)) : Type 0 where
-  pub cut : ahead_all lines (cut_lines (split newline (drop at s))) ≡ cut_lines (split newline s)
-  pub pieces : (j : ℕ) → at ≤ j → split newline (take j s) ≡ lines ++ split newline (part s at j)
-
-pub before-none : (s : List ℕ) → Before s 0 []
-before-none s = record { cut = refl; pieces = λ j h. ap (λ (k : ℕ). split newline (take k s)) {x = j} {y = j - 0} (omega arith) }
-
--- the text before the place is those lines, each with its byte 10
-before_it : {s : List ℕ} {at : ℕ} {lines : List (List ℕ)} → Before s at lines → split newline (take at s) ≡ lines ++ ([] ∷ [])
-unfolding split
-before_it {s} {at} {lines} b = b.pieces at (omega arith) ∙ ap (λ (k : ℕ). lines ++ split newline (take k (drop at s))) {x = at - at} {y = 0} (omega arith)
-
-pub before-count : {s : List ℕ} {at : ℕ} {lines : List (List ℕ)} → Before s at lines → length (split newline (take at s)) ≡ length lines + 1
-before-count {s} {at} {lines} b = ap length (before_it b) ∙ length-append lines ([] ∷ [])
-
-module _ (s : List ℕ) (at r : ℕ) (inside : at ≤ length s) (p : PieceEnd s at newline r) where
-  -- a line, its byte 10, and the text behind it
-  line_off : r < length s → drop at s ≡ part s at r ++ newline ∷ drop (suc r) s
-  line_off h =
-      sym (joined_split newline (drop at s)) ∙ ap (joined newline) (p.more h)
-      ∙ ap (λ (t : List ℕ). part s at r ++ t) (marked-some newline (drop (suc r) s) ∙ ap (◌∷◌ newline) (joined_split newline (drop (suc r) s)))
-
-  line_clear : r < length s → Clear newline (part s at r)
-  line_clear h = (subst (AllClear newline) (p.more h) (split-clear newline (drop at s))).0
-
-  line-size : length (part s at r) ≡ r - at
-  line-size = length-take-le (r - at) (drop at s) (omega (arith, p.within, p.from, length-drop at s))
-
-  part_off : r < length s → (j : ℕ) → suc r ≤ j → part s at j ≡ part s at r ++ newline ∷ part s (suc r) j
-  part_off h j far =
-      ap (take (j - at)) (line_off h)
-      ∙ ap (λ (k : ℕ). take k (part s at r ++ newline ∷ drop (suc r) s)) {x = j - at} {y = length (part s at r) + suc (j - suc r)} (omega (arith, line-size, p.from, far))
-      ∙ take-append-add (part s at r) (newline ∷ drop (suc r) s) (suc (j - suc r))
-
-  module _ {lines : List (List ℕ)} (b : Before s at lines) where
-    -- the text ends, and no line is `then`
-    pub cut_ends : length s ≤ r → cut_lines (split newline s) ≡ whole
-    unfolding cut_lines
-    cut_ends h = sym b.cut ∙ ap (λ (q : List (List ℕ)). ahead_all lines (cut_lines q)) (p.last h) ∙ ahead-whole lines
-
-    module _ (h : r < length s) where
-      -- one line more that is not `then`
-      pub before_more : is_then (part s at r) ≡ false → Before s (suc r) (lines ++ (part s at r ∷ []))
-      before_more e = record {
-        cut = ahead_snoc lines (part s at r) (cut_lines (split newline (drop (suc r) s)))
-            ∙ ap (ahead_all lines) (sym (ap cut_lines (p.more h) ∙ cut_on (part s at r) (drop (suc r) s) ∙ ap (then_or (part s at r) (split newline (drop (suc r) s))) e)) ∙ b.cut;
-        pieces = λ j far. b.pieces j (omega (arith, p.from, far))
-            ∙ ap (λ (q : List (List ℕ)). lines ++ q) (ap (split newline) (part_off h j far) ∙ split-marked newline (part s at r) (part s (suc r) j) (line_clear h))
-            ∙ sym (append_assoc lines (part s at r ∷ []) (split newline (part s (suc r) j)));
-      }
-
-      -- the line is `then`
-      pub cut_here : is_then (part s at r) ≡ true
-          → cut_lines (split newline s) ≡ parted (split newline (take at s)) (split newline (drop (suc r) s))
-      cut_here e =
-          sym b.cut ∙ ap (ahead_all lines) (ap cut_lines (p.more h) ∙ cut_on (part s at r) (drop (suc r) s) ∙ ap (then_or (part s at r) (split newline (drop (suc r) s))) e)
-          ∙ ahead-parted lines ([] ∷ []) (split newline (drop (suc r) s))
-          ∙ ap (λ (q : List (List ℕ)). parted q (split newline (drop (suc r) s))) (sym (before_it b))
+-- ---- a line that is `then`
 
 begun : (w s : List ℕ) → T (begins w s) → length s ≡ length w → s ≡ w
 unfolding begins
@@ -141,6 +81,76 @@ module _ (line : List ℕ) (e : is_then line ≡ true) where
   pub then_is : line ≡ bytes "then"
   unfolding is_then
   then_is = begun (bytes "then") line (and_right (eqb (length line) 4) (begins (bytes "then") line) (true→T e)) then_size
+
+-- ---- by the first line of what is left
+
+-- the lines in front of what is left of s, none of which is `then`; and the text before it is these, each with its byte 10
+pub record Before (s rest : List ℕ) (lines : List (List ℕ)) : Type 0 where
+  pub front : List ℕ
+  pub joint : s ≡ front ++ rest
+  pub cut : ahead_all lines (cut_lines (split newline rest)) ≡ cut_lines (split newline s)
+  pub pieces : (t : List ℕ) → split newline (front ++ t) ≡ lines ++ split newline t
+
+pub before-none : (s : List ℕ) → Before s s []
+before-none s = record { front = []; joint = refl; cut = refl; pieces = λ t. refl }
+
+module _ {s rest : List ℕ} {lines : List (List ℕ)} (b : Before s rest lines) where
+  front-length : length b.front ≡ length s - length rest
+  front-length = let sum = ap length b.joint ∙ length-append b.front rest in omega (arith, sum)
+
+  front_is : take (length s - length rest) s ≡ b.front
+  front_is = ap (take (length s - length rest)) b.joint ∙ take_at b.front rest (length s - length rest) front-length
+
+  before_it : split newline (take (length s - length rest) s) ≡ lines ++ ([] ∷ [])
+  unfolding split
+  before_it = ap (split newline) (front_is ∙ sym (append-nil b.front)) ∙ b.pieces []
+
+  pub before-count : length (split newline (take (length s - length rest) s)) ≡ length lines + 1
+  before-count = ap length before_it ∙ length-append lines ([] ∷ [])
+
+  -- the text ends, and no line is `then`
+  pub cut_ends : split newline rest ≡ rest ∷ [] → cut_lines (split newline s) ≡ whole
+  unfolding cut_lines
+  cut_ends e = sym b.cut ∙ ap (λ (q : List (List ℕ)). ahead_all lines (cut_lines q)) e ∙ ahead-whole lines
+
+  module _ {line after : List ℕ} (c : LineCut rest line after) where
+    -- a line, its byte 10, and the text behind it
+    line_off : rest ≡ line ++ newline ∷ after
+    line_off =
+        sym (joined_split newline rest) ∙ ap (joined newline) c.pieces
+        ∙ ap (λ (t : List ℕ). line ++ t) (marked-some newline after ∙ ap (◌∷◌ newline) (joined_split newline after))
+
+    line_clear : Clear newline line
+    line_clear = (subst (AllClear newline) c.pieces (split-clear newline rest)).0
+
+    -- one line more that is not `then`
+    pub before_more : is_then line ≡ false → Before s after (lines ++ (line ∷ []))
+    before_more e = record {
+      front = b.front ++ (line ++ (newline ∷ []));
+      joint = b.joint ∙ ap (λ (t : List ℕ). b.front ++ t) (line_off ∙ sym (append_assoc line (newline ∷ []) after))
+          ∙ sym (append_assoc b.front (line ++ (newline ∷ [])) after);
+      cut = ahead_snoc lines line (cut_lines (split newline after))
+          ∙ ap (ahead_all lines) (sym (ap cut_lines c.pieces ∙ cut_on line after ∙ ap (then_or line (split newline after)) e)) ∙ b.cut;
+      pieces = λ t. ap (split newline) (append_assoc b.front (line ++ (newline ∷ [])) t ∙ ap (λ (u : List ℕ). b.front ++ u) (append_assoc line (newline ∷ []) t))
+          ∙ b.pieces (line ++ newline ∷ t)
+          ∙ ap (λ (q : List (List ℕ)). lines ++ q) (split-marked newline line t line_clear)
+          ∙ sym (append_assoc lines (line ∷ []) (split newline t));
+    }
+
+    -- the line is `then`: five bytes, with its byte 10
+    module _ (e : is_then line ≡ true) where
+      behind : after ≡ drop (length s - length rest + 5) s
+      behind =
+          c.rest_is ∙ ap (λ (k : ℕ). drop k rest) {x = length line + 1} {y = 5} (omega (arith, then_size line e))
+          ∙ sym (drop-append-add b.front rest 5)
+          ∙ ap (λ (k : ℕ). drop k (b.front ++ rest)) {x = length b.front + 5} {y = length s - length rest + 5} (omega (arith, front-length))
+          ∙ ap (drop (length s - length rest + 5)) (sym b.joint)
+
+      pub cut_here : cut_lines (split newline s) ≡ parted (split newline (take (length s - length rest) s)) (split newline (drop (length s - length rest + 5) s))
+      cut_here =
+          sym b.cut ∙ ap (ahead_all lines) (ap cut_lines c.pieces ∙ cut_on line after ∙ ap (then_or line (split newline after)) e)
+          ∙ ahead-parted lines ([] ∷ []) (split newline after)
+          ∙ ap₂ (λ (q : List (List ℕ)) (t : List ℕ). parted q (split newline t)) (sym before_it) behind
 
 -- ---- a text that asks has no line `then`
 

@@ -1,6 +1,6 @@
 -- What is promised of a question text with one leg or two: what each leg names is there, lines go no further than the text, and `read_legs` gives one
 -- thing alone.
-use mathlib.Core.Path.{◌≡◌, refl, sym, ap₂, ◌∙◌, subst}
+use mathlib.Core.Path.{◌≡◌, sym, ◌∙◌, subst}
 use mathlib.Core.Logic.{inl, inr}
 use mathlib.Core.Bool.{Bool, true, false}
 use mathlib.Core.List.{List, [], ◌∷◌}
@@ -10,10 +10,10 @@ use lib.ListN.{length}
 use Rattle.ground.proofs.Bools.{lt_or_ge}
 use Rattle.sheet_words.specs.Words.{split, newline}
 use Rattle.sheet_words.proofs.Split.{split-length}
+use Rattle.sheet_words.proofs.Unique.{fault_one}
 use Rattle.sheet_question.specs.Asked.{nothing_asked}
 use Rattle.sheet_question.specs.Question.{QuestionMeaning, refused, asked, asked_from}
 use Rattle.sheet_question.specs.Second.{second_from}
-use Rattle.sheet_question.specs.declared.desk.AskedDesk.{AskedDesk}
 use Rattle.sheet_question.specs.declared.desk.Due.TheVariants.{Team}
 use Rattle.sheet_question.proofs.Fits.{AskedFits, MeaningFits, begun_first, fits_from}
 use Rattle.sheet_question.proofs.SecondFits.{second_fits, second-most}
@@ -21,8 +21,9 @@ use Rattle.sheet_question.proofs.Counted.{LineMost, lines-most}
 use Rattle.sheet_question.proofs.Unique.{asked-one}
 use Rattle.sheet_legs.specs.Legs.{is_then, Cut, whole, parted, ahead, cut_lines, LegsMeaning, refused_at, one, two, one_leg, first_then, legs_of, legs_meaning}
 use Rattle.sheet_legs.specs.Reads.{ReadsLegs}
-use Rattle.sheet_legs.specs.declared.LegsTold.{LegsTold}
-use Rattle.sheet_legs.specs.declared.LegsTold.TheVariants.{One, Two, Refused}
+use Rattle.sheet_legs.specs.declared.Legs.{Legs}
+use Rattle.std.proofs.Common.{Result, Ok, Err, Some, ap}
+use Rattle.sheet_words.specs.declared.Fault.{Fault}
 use Rattle.sheet_legs.proofs.CutLaws.{then_or, cut_after, legs_too_long, legs_not-long}
 
 -- ---- what each leg names is there
@@ -116,20 +117,17 @@ module _ (n m : ℕ) where
 
 -- ---- one result alone
 
-pub legs_unique : (n : ℕ) (o : LegsMeaning) (x y : LegsTold) (a b c d : AskedDesk) → ReadsLegs n o x a b → ReadsLegs n o y c d → (x ≡ y) × (a ≡ c) × (b ≡ d)
-legs_unique n (refused_at r line) (Refused why at) (Refused else to) a b c d (e, f, h, k) (g, i, l, p) =
-    (ap₂ Refused (e ∙ sym g) (f ∙ sym i), asked-one n nothing_asked a c h l, asked-one n nothing_asked b d k p)
-legs_unique n (one v) One One a b c d (h, k) (l, p) = (refl, asked-one n v a c h l, asked-one n nothing_asked b d k p)
-legs_unique n (two v w) Two Two a b c d (h, k) (l, p) = (refl, asked-one n v a c h l, asked-one n w b d k p)
-legs_unique n (refused_at r line) One y a b c d x6 _ = elim x6 [ ]
-legs_unique n (refused_at r line) Two y a b c d x7 _ = elim x7 [ ]
-legs_unique n (refused_at r line) (Refused why at) One a b c d _ x11 = elim x11 [ ]
-legs_unique n (refused_at r line) (Refused why at) Two a b c d _ x12 = elim x12 [ ]
-legs_unique n (one v) One Two a b c d _ x10 = elim x10 [ ]
-legs_unique n (one v) One (Refused else to) a b c d _ x11 = elim x11 [ ]
-legs_unique n (one v) Two y a b c d x8 _ = elim x8 [ ]
-legs_unique n (one v) (Refused why at) y a b c d x9 _ = elim x9 [ ]
-legs_unique n (two v w) One y a b c d x8 _ = elim x8 [ ]
-legs_unique n (two v w) Two One a b c d _ x12 = elim x12 [ ]
-legs_unique n (two v w) Two (Refused else to) a b c d _ x13 = elim x13 [ ]
-legs_unique n (two v w) (Refused why at) y a b c d x10 _ = elim x10 [ ]
+legs-record : {a b : Legs} → a.first ≡ b.first → a.second ≡ b.second → a ≡ b
+legs-record {a} {b} e f = let z : ◌≡◌ {A = Legs} (record { first = a.first; second = a.second }) (record { first = b.first; second = b.second }) = cc in z
+
+pub legs_unique : (n : ℕ) (o : LegsMeaning) (x y : Result Legs Fault) → ReadsLegs n o x → ReadsLegs n o y → x ≡ y
+legs_unique n (refused_at r line) (Err f) (Err g) h k = ap Err (fault_one h k)
+legs_unique n (one v) (Ok a) (Ok b) (h, e) (k, f) = ap Ok (legs-record (asked-one n v a.first b.first h k) (e ∙ sym f))
+legs_unique n (two v w) (Ok a) (Ok b) (h, (d, e, i)) (k, (c, f, j)) =
+    ap Ok (legs-record (asked-one n v a.first b.first h k) (e ∙ ap Some (asked-one n w d c i j) ∙ sym f))
+legs_unique n (refused_at r line) (Ok a) y h k = elim h [ ]
+legs_unique n (refused_at r line) (Err f) (Ok b) h k = elim k [ ]
+legs_unique n (one v) (Err f) y h k = elim h [ ]
+legs_unique n (one v) (Ok a) (Err g) h k = elim k [ ]
+legs_unique n (two v w) (Err f) y h k = elim h [ ]
+legs_unique n (two v w) (Ok a) (Err g) h k = elim k [ ]

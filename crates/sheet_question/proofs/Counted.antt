@@ -15,8 +15,7 @@ use Rattle.refusal.specs.declared.Refusal.{Refusal}
 use Rattle.refusal.specs.declared.Refusal.TheVariants.{Malformed, Twice}
 use Rattle.refusal.specs.Refusals.{number}
 use Rattle.formula.specs.Computed.{formula_answer}
-use Rattle.formula.specs.declared.Answer.{Answer}
-use Rattle.formula.specs.declared.Answer.TheVariants.{Accepted, Refused}
+use Rattle.std.proofs.Common.{Result, Ok, Err}
 use Rattle.sheet_words.specs.Words.{split, newline, begins, passed_over, twice}
 use Rattle.sheet_words.specs.Steps.{fault, next, unless, unless_answered, unless_refused, names_step}
 use Rattle.sheet_words.proofs.Split.{split-length}
@@ -53,9 +52,9 @@ on-refused : (n : ℕ) (F : List ℕ) (x y : AskedStep) → StepOn x y → StepO
 unfolding unless_refused
 on-refused n F x y h = by_answer (formula_answer n F)
   where
-    by_answer : (a : Answer) → StepOn (unless_answered a x) (unless_answered a y)
-    by_answer Accepted = h
-    by_answer (Refused r) = refl
+    by_answer : (a : Result (Unit {0}) Refusal) → StepOn (unless_answered a x) (unless_answered a y)
+    by_answer (Ok y) = h
+    by_answer (Err r) = refl
 
 on-names : (before L : ℕ) (form : Bool) (names : List ℕ) (x y : AskedStep) → StepOn x y → StepOn (names_step L form names x) (names_step (before + L) form names y)
 on-names before L form names x y h =

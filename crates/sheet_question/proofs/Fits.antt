@@ -13,8 +13,7 @@ use Rattle.ground.proofs.Bools.{lt_or_ge, or_left, or_out, and_left, and_right, 
 use Rattle.refusal.specs.declared.Refusal.{Refusal}
 use Rattle.refusal.specs.declared.Refusal.TheVariants.{Malformed, Twice}
 use Rattle.formula.specs.Computed.{formula_answer}
-use Rattle.formula.specs.declared.Answer.{Answer}
-use Rattle.formula.specs.declared.Answer.TheVariants.{Accepted, Refused}
+use Rattle.std.proofs.Common.{Result, Ok, Err}
 use Rattle.sheet_words.specs.Words.{split, newline, space, begins, passed_over, member, is_name, all_names, index_of, indexes, twice}
 use Rattle.sheet_words.specs.Steps.{fault, next, unless, unless_answered, unless_refused, names_step}
 use Rattle.sheet_words.proofs.Split.{some_piece}
@@ -143,9 +142,9 @@ module _ (n m : ℕ) where
   unfolding unless_refused
   fits_refused k F later h = by_answer (formula_answer k F)
     where
-      by_answer : (a : Answer) → StepFits n m (unless_answered a later)
-      by_answer Accepted = h
-      by_answer (Refused r) = tt
+      by_answer : (a : Result (Unit {0}) Refusal) → StepFits n m (unless_answered a later)
+      by_answer (Ok x) = h
+      by_answer (Err r) = tt
 
   fits-names : (L : ℕ) (form : Bool) (names : List ℕ) (later : AskedStep) → (T form → StepFits n m later) → StepFits n m (names_step L form names later)
   fits-names L form names later h = fits-unless form (Malformed L) _ (λ f. fits-unless (not (twice (λ i. false) names)) (Twice L) later (λ t. h f))

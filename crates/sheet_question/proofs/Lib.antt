@@ -8,6 +8,7 @@ pub mod Turns
 pub mod NameTurns
 pub mod LineTurns
 pub mod ReadLaws
+pub mod Stated
 pub mod SecondLaws
 pub mod Unique
 pub mod Fits

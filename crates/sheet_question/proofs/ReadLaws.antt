@@ -7,7 +7,10 @@ use Prim.Native.Nat.{ℕ, suc, ◌+◌, ◌≤◌, ◌<◌}
 use native.Mathlib.Numerals.{add-one}
 use native.Mathlib.Omega.{arith}
 use lib.Dec.{ltb}
-use lib.ListN.{length, drop}
+use Prim.Native.Nat.{min, max}
+use Rattle.std.proofs.Common.{Result, Err}
+use Rattle.sheet_words.specs.declared.Fault.{Fault}
+use lib.ListN.{length}
 use borrow.Author.Tests.{lt-ltb, le-ltb}
 use Rattle.ground.proofs.Bools.{lt_or_ge}
 use Rattle.refusal.specs.declared.Refusal.{Refusal}
@@ -15,43 +18,17 @@ use Rattle.refusal.specs.declared.Refusal.TheVariants.{Malformed, SheetLength}
 use Rattle.sheet_words.specs.Words.{newline, split}
 use Rattle.sheet_words.specs.Steps.{fault, next}
 use Rattle.sheet_words.proofs.Split.{some_piece}
-use Rattle.sheet_words.proofs.Pieces.{part, PieceEnd}
 use Rattle.sheet_question.specs.Asked.{Asked, nothing_asked}
 use Rattle.sheet_question.specs.LineSteps.{AskedStep, line_step}
-use Rattle.sheet_question.specs.Desk.{AskedOnDesk, Steps}
 use Rattle.sheet_question.specs.declared.desk.Due.{Due}
 use Rattle.sheet_question.specs.declared.desk.Due.TheVariants.{Team, Known, Held, Make, Asks}
 use Rattle.sheet_question.specs.declared.desk.AskedDesk.{AskedDesk}
-use Rattle.sheet_question.specs.declared.desk.Taken.{Taken}
-use Rattle.sheet_question.specs.declared.desk.Taken.TheVariants.{Next, No}
 use Rattle.sheet_question.specs.Question.{QuestionMeaning, refused, asked, ending, asked_from, question_meaning}
 use Rattle.sheet_question.specs.Reads.{within, ReadsQuestion}
-use Rattle.sheet_question.specs.declared.QuestionTold.{QuestionTold}
-use Rattle.sheet_question.specs.declared.QuestionTold.TheVariants.{Refused}
 
--- ---- a turn tells the step
-
-module _ (n : ℕ) where
-  faulted : (st : AskedStep) (why : Refusal) (d : AskedDesk) → Steps n st (No why) d → st ≡ fault why
-  faulted (fault x) why d e = ap fault (sym e)
-  faulted (next (due, a)) why d e = absurd e
-
-  went_on : (st : AskedStep) (due : Due) (d : AskedDesk) → Steps n st (Next due) d → (a : Asked) × (st ≡ next (due, a)) × AskedOnDesk n a d
-  went_on (fault x) due d e = absurd e
-  went_on (next (now, a)) due d (e, h) = (a, ap (λ (x : Due). next (x, a)) (sym e), h)
-
-  -- the same, where the turn's answer is known by an equation
-  pub faulted_by : (st : AskedStep) {t : Taken} (d : AskedDesk) {why : Refusal} → t ≡ No why → Steps n st t d → st ≡ fault why
-  faulted_by st {t} d {why} e s = faulted st why d (subst (λ (x : Taken). Steps n st x d) e s)
-
-  pub went_on_by : (st : AskedStep) {t : Taken} (d : AskedDesk) {due : Due} → t ≡ Next due → Steps n st t d → (a : Asked) × (st ≡ next (due, a)) × AskedOnDesk n a d
-  went_on_by st {t} d {due} e s = went_on st due d (subst (λ (x : Taken). Steps n st x d) e s)
-
-  -- a text that is refused
-  pub refused-is : {o : QuestionMeaning} {t : QuestionTold} (d : AskedDesk) (why : Refusal) (line : ℕ) → 1 ≤ n → n ≤ 7 → o ≡ refused why line
-      → (t ≡ Refused why line) × ((n : ℕ) → 1 ≤ n → n ≤ 7 → AskedOnDesk n nothing_asked d) → ReadsQuestion n o t d
-  refused-is {o} {t} d why line l m e (f, h) =
-      subst (λ (x : QuestionMeaning). ReadsQuestion n x t d) (sym e) (subst (λ (x : QuestionTold). ReadsQuestion n (refused why line) x d) (sym f) (refl, refl, h n l m))
+-- a text that is refused
+pub refused-is : (n : ℕ) {o : QuestionMeaning} {why : Refusal} {line : ℕ} → o ≡ refused why line → ReadsQuestion n o (Err (record { why = why; line = line }))
+refused-is n e = rw e (refl, refl)
 
 -- ---- one line and then the others
 
@@ -77,23 +54,23 @@ module _ (passes : Bool) (n m : ℕ) where
   asked-on L due a line rest =
       some_piece newline (λ q. asked_from passes n m L due a (line ∷ q) ≡ after L q (line_step passes n m L due a line)) (asked-after L due a line) rest
 
-  -- ---- from a place on
+  -- ---- by the first line of what is left
 
-  module _ (s : List ℕ) (at r L : ℕ) (due : Due) (a : Asked) (p : PieceEnd s at newline r) where
-    pub rest-ends : length s ≤ r → asked_from passes n m L due a (split newline (drop at s)) ≡ ending due a (part s at r) L
+  module _ (L : ℕ) (due : Due) (a : Asked) (s : List ℕ) where
+    pub rest-ends : split newline s ≡ s ∷ [] → asked_from passes n m L due a (split newline s) ≡ ending due a s L
     unfolding asked_from
-    rest-ends h = ap (asked_from passes n m L due a) (p.last h)
+    rest-ends p = ap (asked_from passes n m L due a) p
 
-    rest_by : r < length s → {st : AskedStep} → line_step passes n m L due a (part s at r) ≡ st
-        → asked_from passes n m L due a (split newline (drop at s)) ≡ after L (split newline (drop (suc r) s)) st
-    rest_by h e = ap (asked_from passes n m L due a) (p.more h) ∙ asked-on L due a (part s at r) (drop (suc r) s) ∙ ap (after L (split newline (drop (suc r) s))) e
+    module _ (line rest : List ℕ) (p : split newline s ≡ line ∷ split newline rest) where
+      rest_by : {st : AskedStep} → line_step passes n m L due a line ≡ st → asked_from passes n m L due a (split newline s) ≡ after L (split newline rest) st
+      rest_by e = ap (asked_from passes n m L due a) p ∙ asked-on L due a line rest ∙ ap (after L (split newline rest)) e
 
-    pub rest-faults : {x : Refusal} → r < length s → line_step passes n m L due a (part s at r) ≡ fault x → asked_from passes n m L due a (split newline (drop at s)) ≡ refused x L
-    rest-faults h e = rest_by h e
+      pub rest-faults : {x : Refusal} → line_step passes n m L due a line ≡ fault x → asked_from passes n m L due a (split newline s) ≡ refused x L
+      rest-faults e = rest_by e
 
-    pub rest_goes_on : {d : Due} {b : Asked} → r < length s → line_step passes n m L due a (part s at r) ≡ next (d, b)
-        → asked_from passes n m L due a (split newline (drop at s)) ≡ asked_from passes n m (suc L) d b (split newline (drop (suc r) s))
-    rest_goes_on h e = rest_by h e
+      pub rest_goes_on : {d : Due} {b : Asked} → line_step passes n m L due a line ≡ next (d, b)
+          → asked_from passes n m (L + 1) d b (split newline rest) ≡ asked_from passes n m L due a (split newline s)
+      rest_goes_on {d} {b} e = ap (λ (k : ℕ). asked_from passes n m k d b (split newline rest)) (add-one L) ∙ sym (rest_by e)
 
 -- ---- the whole
 
@@ -140,21 +117,18 @@ module _ (most x : ℕ) where
     pub within_same : 1 ≤ x → within most x ≡ x
     within_same l = within_by false (le-ltb x 1 l)
 
-  pub within-fits : 1 ≤ most → (1 ≤ within most x) × (within most x ≤ most)
-  within-fits l = elim (lt_or_ge most x) [
-    | inl h ↦ (let e = within_over h in (omega (arith, e), omega (arith, e)))
-    | inr h ↦ elim (lt_or_ge x 1) [
-      | inl k ↦ (let e = within_under h k in (omega (arith, e), omega (arith, e)))
-      | inr k ↦ (let e = within_same h k in (omega (arith, e), omega (arith, e)))
-    ]
+  pub clamped : 1 ≤ most → max 1 (min x most) ≡ within most x
+  clamped l = elim (lt_or_ge most x) [
+    | inl h ↦ omega (arith, within_over h)
+    | inr h ↦ elim (lt_or_ge x 1) [ inl k ↦ omega (arith, within_under h k) | inr k ↦ omega (arith, within_same h k) ]
   ]
 
 -- a text that is not too long is read line by line, over the nearest numbers
-pub whole-read : (before : ℕ) (passes : Bool) (settings posts : ℕ) (s : List ℕ) {n m : ℕ} (t : QuestionTold) (d : AskedDesk)
+pub whole-read : (before : ℕ) (passes : Bool) (settings posts : ℕ) (s : List ℕ) {n m : ℕ} (x : Result AskedDesk Fault)
     → n ≡ within 7 settings → m ≡ within 8 posts → length s ≤ 65536
-    → ReadsQuestion n (asked_from passes n m (before + 1) Team nothing_asked (split newline s)) t d
-    → ReadsQuestion (within 7 settings) (question_meaning before passes (within 7 settings) (within 8 posts) s) t d
-whole-read before passes settings posts s {n} {m} t d e f h r =
-    subst₂ (λ (x y : ℕ). ReadsQuestion x (question_meaning before passes x y s) t d) e f
-    (subst (λ (o : QuestionMeaning). ReadsQuestion n o t d)
+    → ReadsQuestion n (asked_from passes n m (before + 1) Team nothing_asked (split newline s)) x
+    → ReadsQuestion (within 7 settings) (question_meaning before passes (within 7 settings) (within 8 posts) s) x
+whole-read before passes settings posts s {n} {m} x e f h r =
+    subst₂ (λ (i j : ℕ). ReadsQuestion i (question_meaning before passes i j s) x) e f
+    (subst (λ (o : QuestionMeaning). ReadsQuestion n o x)
     (ap (λ (L : ℕ). asked_from passes n m L Team nothing_asked (split newline s)) (add-one before) ∙ sym (not-long before passes n m s h)) r)

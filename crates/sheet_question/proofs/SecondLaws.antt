@@ -4,14 +4,15 @@ use mathlib.Core.Bool.{Bool, true, false, cond}
 use mathlib.Core.List.{List, [], ◌∷◌}
 use Prim.Native.Nat.{ℕ, suc, ◌+◌, ◌≤◌, ◌<◌}
 use native.Mathlib.Numerals.{add-one}
-use lib.ListN.{length, drop}
+use lib.ListN.{length}
 use borrow.Author.Tests.{lt-ltb, le-ltb}
 use Rattle.refusal.specs.declared.Refusal.{Refusal}
 use Rattle.refusal.specs.declared.Refusal.TheVariants.{Malformed, SheetLength}
+use Rattle.std.proofs.Common.{Result}
+use Rattle.sheet_words.specs.declared.Fault.{Fault}
 use Rattle.sheet_words.specs.Words.{newline, split, passed_over}
 use Rattle.sheet_words.specs.Steps.{fault, next}
 use Rattle.sheet_words.proofs.Split.{some_piece}
-use Rattle.sheet_words.proofs.Pieces.{part, PieceEnd}
 use Rattle.sheet_question.specs.Asked.{Asked, nothing_asked}
 use Rattle.sheet_question.specs.LineSteps.{AskedStep, team_step}
 use Rattle.sheet_question.specs.Second.{from_team, second_from, second_meaning}
@@ -20,7 +21,6 @@ use Rattle.sheet_question.specs.declared.desk.Due.TheVariants.{Make}
 use Rattle.sheet_question.specs.declared.desk.AskedDesk.{AskedDesk}
 use Rattle.sheet_question.specs.Question.{QuestionMeaning, refused, asked_from}
 use Rattle.sheet_question.specs.Reads.{within, ReadsQuestion}
-use Rattle.sheet_question.specs.declared.QuestionTold.{QuestionTold}
 
 -- ---- the team's line and then the others
 
@@ -53,24 +53,22 @@ module _ (n m : ℕ) where
   second-on : (L : ℕ) (line rest : List ℕ) → second_from n m L (line ∷ split newline rest) ≡ over_or L line (split newline rest) (passed_over line)
   second-on L line rest = some_piece newline (λ q. second_from n m L (line ∷ q) ≡ over_or L line q (passed_over line)) (second-after L line) rest
 
-  -- ---- from a place on
+  -- ---- by the first line of what is left
 
-  module _ (s : List ℕ) (at r L : ℕ) (p : PieceEnd s at newline r) where
-    pub second-ends : length s ≤ r → second_from n m L (split newline (drop at s)) ≡ refused (Malformed L) L
+  module _ (L : ℕ) (s : List ℕ) where
+    pub second-ends : split newline s ≡ s ∷ [] → second_from n m L (split newline s) ≡ refused (Malformed L) L
     unfolding second_from
-    second-ends h = ap (second_from n m L) (p.last h)
+    second-ends p = ap (second_from n m L) p
 
-    second_by : r < length s → {b : Bool} → passed_over (part s at r) ≡ b
-        → second_from n m L (split newline (drop at s)) ≡ over_or L (part s at r) (split newline (drop (suc r) s)) b
-    second_by h e = ap (second_from n m L) (p.more h) ∙ second-on L (part s at r) (drop (suc r) s) ∙ ap (over_or L (part s at r) (split newline (drop (suc r) s))) e
+    module _ (line rest : List ℕ) (p : split newline s ≡ line ∷ split newline rest) where
+      second_by : {b : Bool} → passed_over line ≡ b → second_from n m L (split newline s) ≡ over_or L line (split newline rest) b
+      second_by e = ap (second_from n m L) p ∙ second-on L line rest ∙ ap (over_or L line (split newline rest)) e
 
-    pub second_passes : r < length s → passed_over (part s at r) ≡ true
-        → second_from n m L (split newline (drop at s)) ≡ second_from n m (suc L) (split newline (drop (suc r) s))
-    second_passes h e = second_by h e
+      pub second_passes : passed_over line ≡ true → second_from n m (L + 1) (split newline rest) ≡ second_from n m L (split newline s)
+      second_passes e = ap (λ (k : ℕ). second_from n m k (split newline rest)) (add-one L) ∙ sym (second_by e)
 
-    pub second-begins : r < length s → passed_over (part s at r) ≡ false
-        → second_from n m L (split newline (drop at s)) ≡ from_team n m L (split newline (drop (suc r) s)) (team_step m L nothing_asked (part s at r))
-    second-begins h e = second_by h e
+      pub second-begins : passed_over line ≡ false → second_from n m L (split newline s) ≡ from_team n m L (split newline rest) (team_step m L nothing_asked line)
+      second-begins e = second_by e
 
 -- ---- the whole
 
@@ -83,11 +81,11 @@ module _ (before n m : ℕ) (s : List ℕ) where
   unfolding second_meaning
   second-not-long h = ap (λ (b : Bool). cond b (refused SheetLength 0) (second_from n m (suc before) (split newline s))) (le-ltb 65536 (length s) h)
 
-pub second-read : (before settings posts : ℕ) (s : List ℕ) {n m : ℕ} (t : QuestionTold) (d : AskedDesk)
+pub second-read : (before settings posts : ℕ) (s : List ℕ) {n m : ℕ} (x : Result AskedDesk Fault)
     → n ≡ within 7 settings → m ≡ within 8 posts → length s ≤ 65536
-    → ReadsQuestion n (second_from n m (before + 1) (split newline s)) t d
-    → ReadsQuestion (within 7 settings) (second_meaning before (within 7 settings) (within 8 posts) s) t d
-second-read before settings posts s {n} {m} t d e f h r =
-    subst₂ (λ (x y : ℕ). ReadsQuestion x (second_meaning before x y s) t d) e f
-    (subst (λ (o : QuestionMeaning). ReadsQuestion n o t d)
+    → ReadsQuestion n (second_from n m (before + 1) (split newline s)) x
+    → ReadsQuestion (within 7 settings) (second_meaning before (within 7 settings) (within 8 posts) s) x
+second-read before settings posts s {n} {m} x e f h r =
+    subst₂ (λ (i j : ℕ). ReadsQuestion i (second_meaning before i j s) x) e f
+    (subst (λ (o : QuestionMeaning). ReadsQuestion n o x)
     (ap (λ (L : ℕ). second_from n m L (split newline s)) (add-one before) ∙ sym (second-not-long before n m s h)) r)

@@ -1,5 +1,5 @@
 -- What a line with a formula does, from its tests: one equation for each way through a step.
-use mathlib.Core.Path.{◌≡◌, refl, sym, ap, ap₂, ◌∙◌}
+use mathlib.Core.Path.{◌≡◌, refl, ap, ap₂}
 use mathlib.Core.Bool.{Bool, true, false, ◌&&◌}
 use mathlib.Core.List.{List}
 use Prim.Native.Nat.{ℕ}
@@ -8,9 +8,9 @@ use lib.ListN.{length, drop}
 use Rattle.ground.specs.Text.{bytes}
 use Rattle.refusal.specs.declared.Refusal.{Refusal}
 use Rattle.refusal.specs.declared.Refusal.TheVariants.{Malformed}
-use Rattle.formula.specs.Read.{ReadsFormula}
-use Rattle.formula.specs.declared.Answer.{Answer}
-use Rattle.formula.specs.declared.Answer.TheVariants.{Accepted, Refused}
+use Rattle.formula.specs.Read.{ReadsFormula, Accepts}
+use Rattle.formula.specs.Computed.{without_table}
+use Rattle.std.proofs.Common.{Result, Ok, Err}
 use Rattle.formula.proofs.Computed.{read_computed}
 use Rattle.sheet_words.specs.Words.{begins, passed_over}
 use Rattle.sheet_words.specs.Steps.{fault, next, unless, unless_answered, unless_refused}
@@ -21,14 +21,16 @@ use Rattle.sheet_question.specs.declared.desk.Due.TheVariants.{Asks}
 
 -- ---- a formula
 
-module _ (n : ℕ) (F t : List ℕ) (later : AskedStep) where
-  pub refused-step : (why : Refusal) → ReadsFormula n F (Refused why) t → unless_refused n F later ≡ fault why
+module _ (n : ℕ) (F : List ℕ) (later : AskedStep) where
+  answered : (a : Result (List ℕ) Refusal) → ReadsFormula n F a → unless_refused n F later ≡ unless_answered (without_table a) later
   unfolding unless_refused
-  refused-step why r = ap (λ (a : Answer). unless_answered a later) (read_computed n F (Refused why) t r)
+  answered a r = ap (λ (x : Result (Unit {0}) Refusal). unless_answered x later) (read_computed n F a r)
 
-  pub accepted-step : ReadsFormula n F Accepted t → unless_refused n F later ≡ later
-  unfolding unless_refused
-  accepted-step r = ap (λ (a : Answer). unless_answered a later) (read_computed n F Accepted t r)
+  pub refused-step : {why : Refusal} → ReadsFormula n F (Err why) → unless_refused n F later ≡ fault why
+  refused-step {why} r = answered (Err why) r
+
+  pub accepted-step : {t : List ℕ} → Accepts n F t → unless_refused n F later ≡ later
+  accepted-step {t} r = answered (Ok t) r
 
 -- ---- `make` and `ask`
 
@@ -59,10 +61,3 @@ module _ (n m L : ℕ) (due : Due) (a : Asked) (line : List ℕ) where
   pub not_passed : (passes : Bool) → passed_over line ≡ false → line_step passes n m L due a line ≡ due_step n m L due a line
   not_passed true e = line_by true false e
   not_passed false e = line_by false false refl
-
--- a text without such lines, and one with them
-pub none_passed : (passes over : Bool) → passes ≡ false → false ≡ (passes && over)
-none_passed passes over e = ap (λ (b : Bool). b && over) (sym e)
-
-pub some_passed : (passes : Bool) {over r : Bool} → passes ≡ true → r ≡ over → r ≡ (passes && over)
-some_passed passes {over} e f = f ∙ ap (λ (b : Bool). b && over) (sym e)

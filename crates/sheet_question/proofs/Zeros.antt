@@ -14,7 +14,7 @@ use Rattle.formula.specs.Read.{Accepts}
 use Rattle.sheet_words.specs.Words.{member}
 use Rattle.sheet_question.specs.Asked.{nothing_asked, known_settings, known_true}
 use Rattle.sheet_question.specs.Desk.{AskedOnDesk}
-use Rattle.sheet_question.specs.Places.{asked_laid}
+use Rattle.sheet_question.specs.Places.{asked_laid, naming}
 
 nought-clean : (n j : ℕ) → Foreign n (bytes "0") j → ⊥
 unfolding is_stray is_past is_letter is_sign
@@ -37,7 +37,7 @@ nought_accepts n h k = record {
   };
 }
 
-pub nothing_on_desk : (n : ℕ) → 1 ≤ n → n ≤ 7 → AskedOnDesk n nothing_asked (asked_laid 0 0 0 0 (replicate 16 0) 0 (replicate 64 0))
+pub nothing_on_desk : (n : ℕ) → 1 ≤ n → n ≤ 7 → AskedOnDesk n nothing_asked (asked_laid (naming 0 0 0 0) (replicate 16 0) 0 (replicate 64 0))
 unfolding member known_settings known_true
 nothing_on_desk n h k = record {
   team = bit_of_zero;

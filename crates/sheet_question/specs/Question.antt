@@ -1,9 +1,9 @@
 -- The meaning of a question text over n settings and m posts: what it asks, or its first refusal. "First 24; then line by line 22, 23, the formula's
 -- number." The text may have lines that are passed over (`passes`), or may not; "line numbers count them".
-use Rattle.std.specs.Prelude.{Bool, true, not, ◌&&◌, cond, List, [], ◌∷◌, ℕ, suc, ltb, length}
+use Rattle.std.specs.Prelude.{Bool, cond, List, [], ◌∷◌, ℕ, suc, ltb, length}
 use Rattle.refusal.specs.declared.Refusal.{Refusal}
 use Rattle.refusal.specs.declared.Refusal.TheVariants.{Malformed, SheetLength}
-use Rattle.sheet_words.specs.Words.{split, newline, passed_over}
+use Rattle.sheet_words.specs.Words.{split, newline}
 use Rattle.sheet_words.specs.Steps.{fault, next}
 use Rattle.sheet_question.specs.Asked.{Asked, nothing_asked}
 use Rattle.sheet_question.specs.LineSteps.{line_step}

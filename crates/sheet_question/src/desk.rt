@@ -1,11 +1,13 @@
 // The desk: what is asked so far, by value, with the formulas as their tables.
-ghost use Rattle.std.specs.Prelude.{◌≡◌, ℕ, ◌≤◌};
+ghost use Rattle.std.specs.Prelude.{◌≡◌, ℕ, ◌*◌, ◌≤◌, take};
+ghost use Rattle.knowledge.specs.Goal.{goal_of, wanted};
 ghost use Rattle.sheet_question.specs.Asked.{nothing_asked};
 ghost use Rattle.sheet_question.specs.Desk.{AskedOnDesk};
 
 use crate::ASKS_MOST;
 use ground::TABLE;
-use refusal::Refusal;
+use knowledge::Goal;
+use question::Question;
 
 // The bytes of all formulas to learn.
 pub(crate) const LEARN: usize = ASKS_MOST * TABLE;
@@ -29,31 +31,30 @@ pub enum Due {
 // (`AskedOnDesk`).
 #[derive(Clone, Copy)]
 pub struct AskedDesk {
-    // A bit for each post of the team, for each known setting, for each of those that is true, and for
-    // each held setting.
-    pub team: u8,
-    pub known: u8,
-    pub values: u8,
-    pub held: u8,
+    pub question: Question,
     pub make: [u8; TABLE],
     // How many formulas to learn there are, and their tables one after the other.
     pub asks: u8,
     pub learn: [u8; LEARN],
 }
 
-// What becomes of a line.
-#[derive(Clone, Copy)]
-pub enum Taken {
-    // It is taken, and this is due next.
-    Next(Due),
-    // It is at fault.
-    No(Refusal),
+impl AskedDesk {
+    // What is asked for, as the finders take it.
+    pub fn goal(&self) -> Goal
+        requires { self.now.asks ≤ 4 }
+        ensures { wanted result ≡ goal_of self.now.make (take (16 * self.now.asks) self.now.learn) }
+    {
+        Goal {
+            make: &self.make,
+            learn: &self.learn[..TABLE * (self.asks as usize)],
+        }
+    }
 }
 
-// The desk after a line; what it holds says nothing where the line is at fault.
+// The desk after a line that is taken, and what is due next.
 #[derive(Clone, Copy)]
 pub struct Turn {
-    pub taken: Taken,
+    pub due: Due,
     pub desk: AskedDesk,
 }
 
@@ -62,22 +63,14 @@ pub fn nothing_asked() -> AskedDesk
     ensures { (n : ℕ) → 1 ≤ n → n ≤ 7 → AskedOnDesk n nothing_asked result }
 {
     AskedDesk {
-        team: 0,
-        known: 0,
-        values: 0,
-        held: 0,
+        question: Question {
+            team: 0,
+            known: 0,
+            values: 0,
+            held: 0,
+        },
         make: [0u8; TABLE],
         asks: 0,
         learn: [0u8; LEARN],
-    }
-}
-
-// A line at fault, with nothing on the desk that counts.
-pub(crate) fn at_fault(why: Refusal) -> Turn
-    ensures { result.taken ≡ Taken.No why }
-{
-    Turn {
-        taken: Taken::No(why),
-        desk: nothing_asked(),
     }
 }

@@ -4,87 +4,39 @@
 #![tactic(auto)]
 
 mod desk;
-mod formulas;
 mod line;
 mod names;
 mod second;
 
-ghost use Rattle.std.specs.Prelude.{◌≡◌, true, ℕ, ◌+◌, ◌≤◌, length};
+ghost use Rattle.std.specs.Prelude.{true, ℕ, ◌+◌, ◌≤◌, length};
 ghost use Rattle.sheet_words.specs.Words.{split, newline};
-ghost use Rattle.sheet_question.specs.Asked.{Asked, nothing_asked};
+ghost use Rattle.sheet_question.specs.Asked.{Asked};
 ghost use Rattle.sheet_question.specs.Desk.{AskedOnDesk};
 ghost use Rattle.sheet_question.specs.Question.{ending, asked_from, question_meaning};
 ghost use Rattle.sheet_question.specs.Reads.{within, ReadsQuestion};
 
-use crate::desk::{Due, Taken};
+use crate::desk::Due;
 use crate::line::any_line;
 pub use desk::{AskedDesk, nothing_asked};
 use ground::{POSTS_MOST, SETTINGS_MOST};
 use refusal::Refusal;
 pub use second::second_leg;
-use sheet_words::{TEXT_MOST, piece_end};
+use sheet_words::{Fault, TEXT_MOST, first_line};
 
 // The most formulas to learn: "up to four `ask F`".
 pub const ASKS_MOST: usize = 4;
 
-// What is said of a question text.
-#[derive(Clone, Copy)]
-pub enum QuestionTold {
-    // All that it asks is on the desk.
-    Stated,
-    // It is refused, at this line: what is printed as the refusal's place.
-    Refused(Refusal, usize),
-}
-
-// What is said, and the desk; where the text is refused, nothing is asked on it.
-#[derive(Clone, Copy)]
-pub struct QuestionReading {
-    pub told: QuestionTold,
-    pub desk: AskedDesk,
-}
-
-// x, or the nearest number of 1 to `most`.
-fn within(most: u8, x: u8) -> u8
-    ensures { result ≡ within most x }
-{
-    if most < x {
-        return most;
-    }
-    if x < 1 {
-        return 1;
-    }
-    x
-}
-
-// A text that is refused at this line.
-fn refused(why: Refusal, line: usize) -> QuestionReading
-    ensures { (result.told ≡ QuestionTold.Refused why line) × ((n : ℕ) → 1 ≤ n → n ≤ 7 → AskedOnDesk n nothing_asked result.desk) }
-{
-    QuestionReading {
-        told: QuestionTold::Refused(why, line),
-        desk: nothing_asked(),
-    }
-}
-
 // What follows the last byte 10, at this line: nothing may, and the make formula must have come.
-fn ending(due: Due, desk: AskedDesk, rest: &[u8], number: usize) -> QuestionReading
-    ensures { (n : ℕ) (a : Asked) → 1 ≤ n → n ≤ 7 → AskedOnDesk n a desk → ReadsQuestion n (ending due a rest.now number) result.told result.desk }
+fn ending(due: Due, desk: AskedDesk, rest: &[u8], number: usize) -> Result<AskedDesk, Fault>
+    ensures { (n : ℕ) (a : Asked) → AskedOnDesk n a desk → ReadsQuestion n (ending due a rest.now number) result }
 {
-    match due {
-        Due::Team => refused(Refusal::Malformed(number), number),
-        Due::Known => refused(Refusal::Malformed(number), number),
-        Due::Held => refused(Refusal::Malformed(number), number),
-        Due::Make => refused(Refusal::Malformed(number), number),
-        Due::Asks => {
-            if rest.len() != 0 {
-                return refused(Refusal::Malformed(number), number);
-            }
-            QuestionReading {
-                told: QuestionTold::Stated,
-                desk,
-            }
-        }
+    if matches!(due, Due::Asks) && rest.is_empty() {
+        return Ok(desk);
     }
+    Err(Fault {
+        why: Refusal::Malformed(number),
+        line: number,
+    })
 }
 
 // All lines of a text that is not too long, the first of which has this number; the line `from` is due, and this is
@@ -97,33 +49,26 @@ fn lines(
     posts: u8,
     from: Due,
     begun: AskedDesk,
-) -> QuestionReading
-    requires { (1 ≤ settings) × (settings ≤ 7) × (posts ≤ 8) × (length text.now ≤ 65536) × (first ≤ 5000000000) × ((a : Asked) × AskedOnDesk settings a begun) }
-    ensures { (a : Asked) → AskedOnDesk settings a begun → ReadsQuestion settings (asked_from passes settings posts first from a (split newline text.now)) result.told result.desk }
+) -> Result<AskedDesk, Fault>
+    requires { (settings ≤ 7) × (posts ≤ 8) × (length text.now ≤ 65536) × (first ≤ 5000000000) }
+    ensures { (a : Asked) → AskedOnDesk settings a begun → ReadsQuestion settings (asked_from passes settings posts first from a (split newline text.now)) result }
 {
     let mut due = from;
     let mut desk = begun;
-    let mut at = 0;
+    let mut rest = text;
     let mut number = first;
-    loop {
-        let end = piece_end(text, at, b'\n');
-        if text.len() <= end {
-            return ending(due, desk, &text[at..end], number);
-        }
-        let turn = any_line(passes, settings, posts, due, desk, &text[at..end], number);
-        let taken = turn.taken;
-        match taken {
-            Taken::No(why) => {
-                return refused(why, number);
+    while let Some((line, after)) = first_line(rest) {
+        match any_line(passes, settings, posts, due, desk, line, number) {
+            Ok(turn) => {
+                due = turn.due;
+                desk = turn.desk;
             }
-            Taken::Next(next) => {
-                due = next;
-            }
+            Err(why) => return Err(Fault { why, line: number }),
         }
-        desk = turn.desk;
-        at = end + 1;
+        rest = after;
         number += 1;
     }
+    ending(due, desk, rest, number)
 }
 
 // What a question's lines ask, over `settings` settings and `posts` posts, or the first refusal; lines are
@@ -135,28 +80,29 @@ pub fn question_of(
     passes: bool,
     settings: u8,
     posts: u8,
-) -> QuestionReading
-    ensures { ReadsQuestion (within 7 settings) (question_meaning before passes (within 7 settings) (within 8 posts) text.now) result.told result.desk }
+) -> Result<AskedDesk, Fault>
+    ensures { ReadsQuestion (within 7 settings) (question_meaning before passes (within 7 settings) (within 8 posts) text.now) result }
 {
     if TEXT_MOST < text.len() {
-        return refused(Refusal::SheetLength, 0);
+        return Err(Fault {
+            why: Refusal::SheetLength,
+            line: 0,
+        });
     }
-    let n = within(SETTINGS_MOST as u8, settings);
-    let m = within(POSTS_MOST as u8, posts);
     lines(
         text,
         before as usize + 1,
         passes,
-        n,
-        m,
+        settings.clamp(1, SETTINGS_MOST as u8),
+        posts.clamp(1, POSTS_MOST as u8),
         Due::Team,
         nothing_asked(),
     )
 }
 
 // A question text of its own: lines are numbered from 1 on, and some may be passed over.
-pub fn read_question(text: &[u8], settings: u8, posts: u8) -> QuestionReading
-    ensures { ReadsQuestion (within 7 settings) (question_meaning 0 true (within 7 settings) (within 8 posts) text.now) result.told result.desk }
+pub fn read_question(text: &[u8], settings: u8, posts: u8) -> Result<AskedDesk, Fault>
+    ensures { ReadsQuestion (within 7 settings) (question_meaning 0 true (within 7 settings) (within 8 posts) text.now) result }
 {
     question_of(text, 0, true, settings, posts)
 }

@@ -6,8 +6,7 @@ use Prim.Native.Nat.{ℕ}
 use Rattle.refusal.specs.declared.Refusal.{Refusal}
 use Rattle.refusal.specs.declared.Refusal.TheVariants.{Malformed, Twice}
 use Rattle.formula.specs.Computed.{formula_answer}
-use Rattle.formula.specs.declared.Answer.{Answer}
-use Rattle.formula.specs.declared.Answer.TheVariants.{Accepted, Refused}
+use Rattle.std.proofs.Common.{Result, Ok, Err}
 use Rattle.sheet_words.specs.Words.{twice}
 use Rattle.sheet_words.specs.Steps.{Step, fault, next, unless, unless_answered, unless_refused, names_step}
 use Rattle.sheet_question.specs.LineSteps.{held_or}
@@ -25,9 +24,9 @@ module _ {A B : Type 0} (f : A → B) where
   unfolding unless_refused
   carried_refused n F later = by_answer (formula_answer n F)
     where
-      by_answer : (a : Answer) → carried f (unless_answered a later) ≡ unless_answered a (carried f later)
-      by_answer Accepted = refl
-      by_answer (Refused r) = refl
+      by_answer : (a : Result (Unit {0}) Refusal) → carried f (unless_answered a later) ≡ unless_answered a (carried f later)
+      by_answer (Ok x) = refl
+      by_answer (Err r) = refl
 
   pub carried_names : (L : ℕ) (form : Bool) (names : List ℕ) (later : Step A) → carried f (names_step L form names later) ≡ names_step L form names (carried f later)
   carried_names L form names later =

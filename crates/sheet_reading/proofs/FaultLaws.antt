@@ -5,7 +5,7 @@ use mathlib.Core.Logic.{◌⊎◌, inl, inr}
 use mathlib.Core.List.{List, [], ◌∷◌, ◌++◌, append_assoc}
 use Prim.Native.Nat.{ℕ, suc, ◌≤◌, ◌<◌}
 use native.Mathlib.Omega.{arith}
-use lib.ListN.{length, length-append, replicate}
+use lib.ListN.{length, length-append}
 use Rattle.ground.proofs.Bools.{lt_or_ge}
 use Rattle.refusal.specs.declared.Refusal.{Refusal}
 use Rattle.refusal.specs.Refusals.{number}
@@ -13,7 +13,7 @@ use Rattle.refusal.specs.Order.{First}
 use Rattle.refusal.proofs.OrderLaws.{first_unique}
 use Rattle.formula.specs.Read.{formula_rows}
 use Rattle.formula.specs.Computed.{formula_answer}
-use Rattle.formula.specs.declared.Answer.TheVariants.{Accepted, Refused}
+use Rattle.std.proofs.Common.{Ok, Err}
 use Rattle.formula.proofs.Computed.{Told, formula_told, read_computed}
 use Rattle.sheet_rules.proofs.FormulaLaws.{formula_number}
 use Rattle.sheet_reading.specs.Sheet.{Sheet}
@@ -22,13 +22,13 @@ use Rattle.sheet_reading.specs.Faults.{NamesTwice, FormulaRefused, SizeAbove, Fa
 
 -- ---- a formula's refusal is the computed one
 
-pub refused-first : (n : ℕ) (F : List ℕ) (r : Refusal) → formula_answer n F ≡ Refused r → First (formula_rows n F) r
+pub refused-first : (n : ℕ) (F : List ℕ) (r : Refusal) → formula_answer n F ≡ Err r → First (formula_rows n F) r
 refused-first n F r e = subst (Told n F) e (formula_told n F)
 
-first-refused : (n : ℕ) (F : List ℕ) (r : Refusal) → First (formula_rows n F) r → formula_answer n F ≡ Refused r
-first-refused n F r f = read_computed n F (Refused r) (replicate 16 0) (f, refl)
+first-refused : (n : ℕ) (F : List ℕ) (r : Refusal) → First (formula_rows n F) r → formula_answer n F ≡ Err r
+first-refused n F r f = read_computed n F (Err r) f
 
-pub accepted-none : (n : ℕ) (F : List ℕ) → formula_answer n F ≡ Accepted → (r : Refusal) → First (formula_rows n F) r → ⊥
+pub accepted-none : (n : ℕ) (F : List ℕ) → formula_answer n F ≡ Ok tt → (r : Refusal) → First (formula_rows n F) r → ⊥
 accepted-none n F e r f = let d = first-refused n F r f in let z : ◌≡◌ {A = ℕ} 0 1 = cc in omega arith
 
 -- ---- a line has one fault: 25, 23 or one of 1 to 5

@@ -14,8 +14,7 @@ use Rattle.refusal.specs.declared.Refusal.{Refusal}
 use Rattle.refusal.specs.declared.Refusal.TheVariants.{Twice, SheetSettings}
 use Rattle.refusal.specs.Order.{First}
 use Rattle.formula.specs.Read.{formula_rows}
-use Rattle.formula.specs.declared.Answer.{Answer}
-use Rattle.formula.specs.declared.Answer.TheVariants.{Accepted, Refused}
+use Rattle.std.proofs.Common.{Result, Ok, Err}
 use Rattle.formula.specs.Computed.{formula_answer}
 use Rattle.book_block.specs.declared.rule.Right.{Right}
 use Rattle.book_block.specs.declared.rule.Right.TheVariants.{Look, Set}
@@ -70,9 +69,9 @@ module _ {w : Sheet} {L : ℕ} {before : List Line} {line : Line} {behind : List
   unfolding unless_refused
   judged_formula F later f once h = by_answer (formula_answer w.size.settings F) refl
     where
-      by_answer : (a : Answer) → formula_answer w.size.settings F ≡ a → Judged w (after L pieces (unless_answered a later))
-      by_answer Accepted e = h (accepted-none w.size.settings F e)
-      by_answer (Refused r) e = faulty t (in-formula once (f r (refused-first w.size.settings F r e)))
+      by_answer : (a : Result (Unit {0}) Refusal) → formula_answer w.size.settings F ≡ a → Judged w (after L pieces (unless_answered a later))
+      by_answer (Ok x) e = h (accepted-none w.size.settings F e)
+      by_answer (Err r) e = faulty t (in-formula once (f r (refused-first w.size.settings F r e)))
 
 -- ---- the sheet as it is stated so far
 

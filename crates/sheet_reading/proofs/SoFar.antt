@@ -12,8 +12,7 @@ use Rattle.ground.specs.Text.{bytes}
 use Rattle.refusal.specs.declared.Refusal.{Refusal}
 use Rattle.refusal.specs.declared.Refusal.TheVariants.{Malformed}
 use Rattle.refusal.specs.Refusals.{number}
-use Rattle.formula.specs.declared.Answer.{Answer}
-use Rattle.formula.specs.declared.Answer.TheVariants.{Accepted, Refused}
+use Rattle.std.proofs.Common.{Result, Ok, Err}
 use Rattle.formula.specs.Computed.{formula_answer}
 use Rattle.sheet_words.specs.Steps.{fault, next, unless, unless_answered, unless_refused}
 use Rattle.sheet_rules.proofs.FormulaLaws.{formula_number}
@@ -167,6 +166,6 @@ module _ (L : ℕ) (s : List ℕ) where
   unfolding unless_refused
   good_refused n F d v g = by_answer (formula_answer n F) (λ r e z. omega (arith, formula_number n F r e, z))
     where
-      by_answer : (a : Answer) → ((r : Refusal) → a ≡ Refused r → number r ≡ 22 → ⊥) → Good L s (unless_answered a (next (d, v)))
-      by_answer Accepted o = g
-      by_answer (Refused r) o = inr (o r refl, good_begins d v g)
+      by_answer : (a : Result (Unit {0}) Refusal) → ((r : Refusal) → a ≡ Err r → number r ≡ 22 → ⊥) → Good L s (unless_answered a (next (d, v)))
+      by_answer (Ok x) o = g
+      by_answer (Err r) o = inr (o r refl, good_begins d v g)

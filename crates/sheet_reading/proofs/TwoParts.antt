@@ -13,8 +13,7 @@ use Rattle.ground.proofs.Bools.{decide, T→true, T→false}
 use Rattle.refusal.specs.declared.Refusal.{Refusal}
 use Rattle.refusal.specs.declared.Refusal.TheVariants.{Malformed, Twice, SheetLength, SheetSettings}
 use Rattle.formula.specs.Computed.{formula_answer}
-use Rattle.formula.specs.declared.Answer.{Answer}
-use Rattle.formula.specs.declared.Answer.TheVariants.{Accepted, Refused}
+use Rattle.std.proofs.Common.{Result, Ok, Err}
 use Rattle.book_block.specs.declared.rule.Right.TheVariants.{Look, Set}
 use Rattle.sheet_words.specs.Words.{split, newline, begins, twice}
 use Rattle.sheet_words.specs.Steps.{Step, fault, next, unless, unless_answered, unless_refused}
@@ -104,9 +103,9 @@ module _ (rules : Rules) where
   unfolding unless_refused
   later-refused F st h = by_answer (formula_answer n F)
     where
-      by_answer : (a : Answer) → LaterStep (unless_answered a st)
-      by_answer Accepted = h
-      by_answer (Refused r) = tt
+      by_answer : (a : Result (Unit {0}) Refusal) → LaterStep (unless_answered a st)
+      by_answer (Ok x) = h
+      by_answer (Err r) = tt
 
   later-held : (b : Bool) (x y : AskedStep) → LaterStep x → LaterStep y → LaterStep (held_or b x y)
   later-held true x y h k = h

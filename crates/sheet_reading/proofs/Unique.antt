@@ -1,16 +1,17 @@
 -- The contract of `read` settles all that it gives: one desk alone holds what a sheet states, since one holds its rules and one what it asks.
-use mathlib.Core.Path.{◌≡◌, refl, sym, ap₂, ◌∙◌, subst}
+use mathlib.Core.Path.{◌≡◌, sym, ◌∙◌, subst}
 use Prim.Native.Nat.{ℕ}
+use Rattle.std.proofs.Common.{Result, Ok, Err, ap}
+use Rattle.sheet_words.specs.declared.Fault.{Fault}
+use Rattle.sheet_words.proofs.Unique.{fault_one}
 use Rattle.sheet_rules.proofs.Unique.{rules-one}
 use Rattle.sheet_question.specs.Desk.{AskedOnDesk}
 use Rattle.sheet_question.proofs.Unique.{asked-one}
-use Rattle.sheet_reading.specs.Sheet.{Sheet, sized}
+use Rattle.sheet_reading.specs.Sheet.{Sheet}
 use Rattle.sheet_reading.specs.Desk.{OnDesk}
 use Rattle.sheet_reading.specs.Reading.{Meaning, refused, stated}
 use Rattle.sheet_reading.specs.Reads.{ReadsSheet}
 use Rattle.sheet_reading.specs.declared.Desk.{Desk}
-use Rattle.sheet_reading.specs.declared.SheetTold.{SheetTold}
-use Rattle.sheet_reading.specs.declared.SheetTold.TheVariants.{Stated, Refused}
 
 pub desk_one : (sheet : Sheet) (a b : Desk) → OnDesk sheet a → OnDesk sheet b → a ≡ b
 desk_one sheet a b h k =
@@ -20,10 +21,10 @@ desk_one sheet a b h k =
     let e : ◌≡◌ {A = Desk} (record { rules = a.rules; asked = a.asked }) (record { rules = b.rules; asked = b.asked }) = cc in
     e
 
-pub read_one : (o : Meaning) (x y : SheetTold) (a b : Desk) → ReadsSheet o x a → ReadsSheet o y b → (x ≡ y) × (a ≡ b)
-read_one (refused r line) (Refused why at) (Refused else to) a b (e, f, h) (i, j, k) = (ap₂ Refused (e ∙ sym i) (f ∙ sym j), desk_one (sized 1 1) a b h k)
-read_one (stated v) Stated Stated a b h k = (refl, desk_one v a b h k)
-read_one (refused r line) Stated y a b h k = elim h [ ]
-read_one (refused r line) (Refused why at) Stated a b h k = elim k [ ]
-read_one (stated v) Stated (Refused else to) a b h k = elim k [ ]
-read_one (stated v) (Refused why at) y a b h k = elim h [ ]
+pub read_one : (o : Meaning) (x y : Result Desk Fault) → ReadsSheet o x → ReadsSheet o y → x ≡ y
+read_one (refused r line) (Err f) (Err g) h k = ap Err (fault_one h k)
+read_one (stated v) (Ok a) (Ok b) h k = ap Ok (desk_one v a b h k)
+read_one (refused r line) (Ok a) y h k = elim h [ ]
+read_one (refused r line) (Err f) (Ok b) h k = elim k [ ]
+read_one (stated v) (Ok a) (Err g) h k = elim k [ ]
+read_one (stated v) (Err f) y h k = elim h [ ]

@@ -1,15 +1,13 @@
--- What is read of a sheet, with the desk beside it.
-use Rattle.std.specs.Prelude.{◌≡◌}
-use Rattle.sheet_reading.specs.Sheet.{sized}
+-- What is read of a sheet.
+use Rattle.std.specs.Prelude.{◌≡◌, Result, Ok, Err}
+use Rattle.sheet_words.specs.declared.Fault.{Fault}
 use Rattle.sheet_reading.specs.Desk.{OnDesk}
 use Rattle.sheet_reading.specs.declared.Desk.{Desk}
 use Rattle.sheet_reading.specs.Reading.{Meaning, refused, stated}
-use Rattle.sheet_reading.specs.declared.SheetTold.{SheetTold}
-use Rattle.sheet_reading.specs.declared.SheetTold.TheVariants.{Stated, Refused}
 
--- what is read of a sheet: its first refusal, with the desk of the smallest size beside it; or all that it states, on the desk
-abbrev pub ReadsSheet : Meaning → SheetTold → Desk → Type 0
-ReadsSheet (refused r line) (Refused why at) d = (why ≡ r) × (at ≡ line) × OnDesk (sized 1 1) d
-ReadsSheet (refused r line) Stated d = ⊥
-ReadsSheet (stated sheet) (Refused why at) d = ⊥
-ReadsSheet (stated sheet) Stated d = OnDesk sheet d
+-- what is read of a sheet: its first refusal; or all that it states, on the desk
+abbrev pub ReadsSheet : Meaning → Result Desk Fault → Type 0
+ReadsSheet (refused r line) (Err f) = (f.why ≡ r) × (f.line ≡ line)
+ReadsSheet (refused r line) (Ok d) = ⊥
+ReadsSheet (stated sheet) (Err f) = ⊥
+ReadsSheet (stated sheet) (Ok d) = OnDesk sheet d

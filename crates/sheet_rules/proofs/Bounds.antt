@@ -14,8 +14,7 @@ use Rattle.ground.proofs.Bools.{decide, T→true, T→false, true→T, lt_or_ge}
 use Rattle.refusal.specs.declared.Refusal.{Refusal}
 use Rattle.refusal.specs.declared.Refusal.TheVariants.{Malformed, Twice, SheetSettings}
 use Rattle.refusal.specs.Refusals.{number}
-use Rattle.formula.specs.declared.Answer.{Answer}
-use Rattle.formula.specs.declared.Answer.TheVariants.{Accepted, Refused}
+use Rattle.std.proofs.Common.{Result, Ok, Err}
 use Rattle.formula.specs.Computed.{formula_answer}
 use Rattle.book_block.specs.declared.rule.Right.TheVariants.{Look, Set}
 use Rattle.sheet_words.specs.Words.{split, newline, passed_over}
@@ -56,9 +55,9 @@ goes_refused : (most n : ℕ) (F : List ℕ) (st : Step Rules) → Step_goes mos
 unfolding unless_refused
 goes_refused most n F st h = by (formula_answer n F) (λ r e. formula_number n F r e)
   where
-    by : (a : Answer) → ((r : Refusal) → a ≡ Refused r → number r ≤ 5) → Step_goes most (unless_answered a st)
-    by Accepted f = h
-    by (Refused r) f = λ few e. omega (arith, f r refl, e)
+    by : (a : Result (Unit {0}) Refusal) → ((r : Refusal) → a ≡ Err r → number r ≤ 5) → Step_goes most (unless_answered a st)
+    by (Ok x) f = h
+    by (Err r) f = λ few e. omega (arith, f r refl, e)
 
 goes_cond : (most : ℕ) (b : Bool) (x y : Step Rules) → Step_goes most x → Step_goes most y → Step_goes most (cond b x y)
 goes_cond most true x y h k = h

@@ -10,13 +10,13 @@ use lib.Seq.{sets, length-sets}
 use borrow.Author.Tests.{eq-eqb, ne_eqb, lt-ltb, le-ltb}
 use Rattle.ground.proofs.Table.{zero_at}
 use Rattle.ground.proofs.Search.{below_suc}
+use Rattle.refusal.specs.declared.Refusal.{Refusal}
 use Rattle.refusal.specs.Order.{Clear}
 use Rattle.refusal.proofs.OrderLaws.{clear_none, clear-past, clear-lowest, first-clear}
 use Rattle.formula_grammar.specs.Grammar.{nought, one, one_unit, one_product, text, IsSentence}
 use Rattle.formula_grammar.specs.Signs.{Foreign, is_stray, is_past, is_letter, is_sign}
 use Rattle.formula.specs.Read.{formula_rows, Accepts, ReadsFormula}
-use Rattle.formula.specs.declared.Answer.{Answer}
-use Rattle.formula.specs.declared.Answer.TheVariants.{Accepted, Refused}
+use Rattle.std.proofs.Common.{Result, Ok, Err, IsOk}
 use Rattle.book_block.specs.declared.rule.Right.{Right}
 use Rattle.book_block.specs.declared.rule.Right.TheVariants.{Look, Set}
 use Rattle.sheet_rules.specs.Rules.{size_of, is_stated, unstated, rule_text}
@@ -50,10 +50,10 @@ module _ (n : ℕ) (h : 1 ≤ n) (k : n ≤ 7) (right : Right) where
       (clear-past (unstated-short right)
       (clear-lowest (unstated-clean n right) (clear-lowest (λ i x. x.0 (unstated-sentence right)) clear_none)))
 
-  -- so it is taken, and what is read is its table
-  pub unstated-read : (answer : Answer) (t : List ℕ) → ReadsFormula n (unstated right) answer t → Accepts n (unstated right) t
-  unstated-read Accepted t a = a
-  unstated-read (Refused r) t a = first-clear a.0 unstated-clear
+  -- so it is taken
+  pub unstated-read : (answer : Result (List ℕ) Refusal) → ReadsFormula n (unstated right) answer → IsOk answer
+  unstated-read (Ok t) a = refl
+  unstated-read (Err r) a = first-clear a unstated-clear
 
 -- ---- one place after the other
 

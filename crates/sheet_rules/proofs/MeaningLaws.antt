@@ -1,54 +1,45 @@
 -- A whole text of rules, from where its rules end: nothing may follow. What follows is cut into one empty piece only where it is empty.
-use mathlib.Core.Path.{◌≡◌, refl, sym, ap, ◌∙◌, subst}
+use mathlib.Core.Path.{◌≡◌, refl, ap, ◌∙◌, subst}
 use mathlib.Core.List.{List, [], ◌∷◌}
 use mathlib.Core.Bool.{true}
 use Prim.Native.Nat.{ℕ, suc, ◌≤◌}
 use native.Mathlib.Omega.{arith}
 use lib.Dec.{lit≤}
+use Rattle.std.proofs.Common.{Ok, Err}
 use lib.ListN.{length, drop, length-drop}
 use lib.Seq.{drop-length}
 use Rattle.refusal.specs.declared.Refusal.{Refusal}
 use Rattle.refusal.specs.declared.Refusal.TheVariants.{Malformed}
 use Rattle.refusal.specs.Refusals.{number}
+use Rattle.sheet_words.specs.declared.Fault.{Fault}
 use Rattle.sheet_words.specs.Words.{onto, split, newline}
 use Rattle.sheet_words.proofs.Split.{by_byte, some_piece, split-length}
-use Rattle.sheet_rules.specs.Rules.{Rules, size_of}
-use Rattle.sheet_rules.specs.Desk.{RulesOnDesk, OnDesk}
+use Rattle.sheet_rules.specs.Rules.{Rules}
+use Rattle.sheet_rules.specs.Desk.{OnDesk}
 use Rattle.sheet_rules.specs.Reading.{Reading, up_to, rules_of}
 use Rattle.sheet_rules.specs.Reading.{refused as reading-refused}
 use Rattle.sheet_rules.specs.Meaning.{Meaning, refused, stated, whole, whole_reading, rules_meaning}
 use Rattle.sheet_rules.specs.Reads.{ReadsUpto, ReadsRules}
-use Rattle.sheet_rules.specs.declared.desk.RulesDesk.{RulesDesk}
-use Rattle.sheet_rules.specs.declared.RulesTold.{RulesTold}
-use Rattle.sheet_rules.specs.declared.RulesTold.TheVariants.{Upto, Refused}
-use Rattle.sheet_rules.specs.declared.WholeTold.{WholeTold}
-use Rattle.sheet_rules.specs.declared.WholeTold.TheVariants.{Refused as WholeRefused}
+use Rattle.sheet_rules.specs.declared.RulesRead.{RulesRead}
 use Rattle.sheet_rules.proofs.Bounds.{Fits, TextGoes, rules_of_goes}
 
--- ---- what is told tells the reading
+-- ---- what is read tells the reading
 
-reads-refused : (s : List ℕ) (o : Reading) (why : Refusal) (line : ℕ) (d : RulesDesk) → ReadsUpto s o (Refused why line) d → o ≡ reading-refused why line
-reads-refused s (reading-refused r L) why line d (e, f, h) = let z : reading-refused r L ≡ reading-refused why line = cc in z
-reads-refused s (up_to rules L pieces) why line d h = absurd h
+pub reads-refused : (s : List ℕ) (o : Reading) {f : Fault} → ReadsUpto s o (Err f) → o ≡ reading-refused f.why f.line
+reads-refused s (reading-refused r L) {f} (e, g) = let z : reading-refused r L ≡ reading-refused f.why f.line = cc in z
+reads-refused s (up_to rules L pieces) h = absurd h
 
 -- the reading of rules that end at byte `at`
-pub record EndsAt (s : List ℕ) (o : Reading) (at lines : ℕ) (d : RulesDesk) : Type 0 where
+pub record EndsAt (s : List ℕ) (o : Reading) (read : RulesRead) : Type 0 where
   pub rules : Rules
-  pub reading : o ≡ up_to rules (suc lines) (split newline (drop at s))
-  pub fits : at ≤ length s
-  pub holds : OnDesk rules d
+  pub reading : o ≡ up_to rules (suc read.lines) (split newline (drop read.at s))
+  pub fits : read.at ≤ length s
+  pub holds : OnDesk rules read.desk
 
-reads_upto : (s : List ℕ) (o : Reading) {at lines : ℕ} {d : RulesDesk} → ReadsUpto s o (Upto at lines) d → EndsAt s o at lines d
+pub reads_upto : (s : List ℕ) (o : Reading) {read : RulesRead} → ReadsUpto s o (Ok read) → EndsAt s o read
 reads_upto s (reading-refused r L) h = absurd h
-reads_upto s (up_to rules L pieces) {at} {lines} (fits, e, f, h) =
-    record { rules = rules; reading = (let z : up_to rules L pieces ≡ up_to rules (suc lines) (split newline (drop at s)) = cc in z); fits = fits; holds = h }
-
--- the same where what is told is known by an equation
-pub refused_by : (s : List ℕ) (o : Reading) {t : RulesTold} (d : RulesDesk) {why : Refusal} {line : ℕ} → t ≡ Refused why line → ReadsUpto s o t d → o ≡ reading-refused why line
-refused_by s o d {why} {line} e h = reads-refused s o why line d (subst (λ (x : RulesTold). ReadsUpto s o x d) e h)
-
-pub upto_by : (s : List ℕ) (o : Reading) {t : RulesTold} (d : RulesDesk) {at lines : ℕ} → t ≡ Upto at lines → ReadsUpto s o t d → EndsAt s o at lines d
-upto_by s o d e h = reads_upto s o (subst (λ (x : RulesTold). ReadsUpto s o x d) e h)
+reads_upto s (up_to rules L pieces) {read} (fits, e, f, h) =
+    record { rules = rules; reading = (let z : up_to rules L pieces ≡ up_to rules (suc read.lines) (split newline (drop read.at s)) = cc in z); fits = fits; holds = h }
 
 -- ---- what follows
 
@@ -67,22 +58,20 @@ module _ (s : List ℕ) where
   unfolding rules_meaning
   meaning-refused e = ap whole_reading e
 
-  module _ {at lines : ℕ} {d : RulesDesk} (e : EndsAt s (rules_of true 7 s) at lines d) where
-    pub meaning-whole : at ≡ length s → rules_meaning s ≡ stated e.rules
+  module _ {read : RulesRead} (e : EndsAt s (rules_of true 7 s) read) where
+    pub meaning-whole : read.at ≡ length s → rules_meaning s ≡ stated e.rules
     unfolding rules_meaning split
     meaning-whole f =
-        ap whole_reading e.reading ∙ ap (λ (t : List ℕ). whole e.rules (suc lines) (split newline t)) (ap (λ (i : ℕ). drop i s) f ∙ drop-length s)
+        ap whole_reading e.reading ∙ ap (λ (t : List ℕ). whole e.rules (suc read.lines) (split newline t)) (ap (λ (i : ℕ). drop i s) f ∙ drop-length s)
 
-    pub meaning-more : (at ≡ length s → ⊥) → rules_meaning s ≡ refused (Malformed (suc lines)) (suc lines)
+    pub meaning-more : (read.at ≡ length s → ⊥) → rules_meaning s ≡ refused (Malformed (suc read.lines)) (suc read.lines)
     unfolding rules_meaning
-    meaning-more ne = ap whole_reading e.reading ∙ followed e.rules (suc lines) (drop at s) (omega (arith, length-drop at s, e.fits))
+    meaning-more ne = ap whole_reading e.reading ∙ followed e.rules (suc read.lines) (drop read.at s) (omega (arith, length-drop read.at s, e.fits))
 
--- ---- what is told of the whole
+-- ---- what is read of the whole
 
-pub whole-refused-is : {o : Meaning} {t : WholeTold} (d : RulesDesk) (why : Refusal) (line : ℕ) → o ≡ refused why line
-    → (t ≡ WholeRefused why line) × RulesOnDesk (size_of 1 1) [] d → ReadsRules o t d
-whole-refused-is {o} {t} d why line e (f, h) =
-    subst (λ (x : Meaning). ReadsRules x t d) (sym e) (subst (λ (x : WholeTold). ReadsRules (refused why line) x d) (sym f) (refl, refl, h))
+pub whole-refused-is : {o : Meaning} {why : Refusal} {line : ℕ} → o ≡ refused why line → ReadsRules o (Err (record { why = why; line = line }))
+whole-refused-is e = rw e (refl, refl)
 
 -- ---- how far a meaning goes
 

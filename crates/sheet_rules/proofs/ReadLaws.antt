@@ -1,25 +1,27 @@
 -- Rules line by line: what is left to be read from a place on is read from the next line on, with what the line leaves stated.
-use mathlib.Core.Path.{◌≡◌, refl, sym, ap, ap₂, ◌∙◌, subst}
+use mathlib.Core.Path.{◌≡◌, refl, sym, ap, ◌∙◌, subst}
 use mathlib.Core.Bool.{Bool, true, false, ◌&&◌, cond}
 use mathlib.Core.List.{List, [], ◌∷◌}
-use Prim.Native.Nat.{ℕ, suc, ◌≤◌, ◌<◌}
+use Prim.Native.Nat.{ℕ, suc, ◌+◌, ◌-◌, ◌≤◌, ◌<◌}
 use lib.ListN.{length, drop}
 use borrow.Author.Tests.{lt-ltb, le-ltb}
+use Rattle.std.proofs.Common.{Ok, Err, drop-drop}
 use Rattle.refusal.specs.declared.Refusal.{Refusal}
 use Rattle.refusal.specs.declared.Refusal.TheVariants.{Malformed, SheetLength}
 use Rattle.sheet_words.specs.Words.{split, newline, passed_over}
 use Rattle.sheet_words.specs.Steps.{Step, fault, next}
 use Rattle.sheet_words.proofs.Split.{some_piece}
-use Rattle.sheet_words.proofs.Pieces.{part, PieceEnd}
-use Rattle.sheet_rules.specs.Rules.{Rules, size_of}
+use Rattle.sheet_words.specs.Lines.{LineCut}
+use Rattle.sheet_rules.specs.Turns.{Rest}
+use native.Mathlib.Numerals.{add-one}
+use native.Mathlib.Omega.{arith}
+use Rattle.sheet_rules.specs.Rules.{Rules}
 use Rattle.sheet_rules.specs.Forms.{is_of_rules}
 use Rattle.sheet_rules.specs.Steps.{size_step, line_step}
-use Rattle.sheet_rules.specs.Desk.{RulesOnDesk, OnDesk}
+use Rattle.sheet_rules.specs.Desk.{OnDesk}
 use Rattle.sheet_rules.specs.Reading.{Reading, refused, up_to, rules_from, after_size, size_from, rules_read, rules_of}
 use Rattle.sheet_rules.specs.Reads.{ReadsUpto}
-use Rattle.sheet_rules.specs.declared.desk.RulesDesk.{RulesDesk}
-use Rattle.sheet_rules.specs.declared.RulesTold.{RulesTold}
-use Rattle.sheet_rules.specs.declared.RulesTold.TheVariants.{Upto, Refused}
+use Rattle.sheet_rules.specs.declared.RulesRead.{RulesRead}
 
 -- ---- the lines after the size, a line at a time
 
@@ -45,58 +47,72 @@ module _ (passes : Bool) (L : ℕ) (rules : Rules) (line another : List ℕ) (mo
   unfolding rules_from
   rules_end e = subst (λ (b : Bool). Comes b (line_step passes L rules line) (up_to rules L (line ∷ another ∷ more))) (sym e) refl
 
-module _ (s : List ℕ) (at r L : ℕ) (passes : Bool) (p : PieceEnd s at newline r) where
+-- ---- by the first line of what is left
+
+module _ (passes : Bool) (L : ℕ) (s : List ℕ) where
   module _ (rules : Rules) where
     -- what follows the last byte 10 is left
-    pub rest-ends : length s ≤ r → rules_from passes L rules (split newline (drop at s)) ≡ up_to rules L (split newline (drop at s))
+    pub rest-ends : split newline s ≡ s ∷ [] → rules_from passes L rules (split newline s) ≡ up_to rules L (split newline s)
     unfolding rules_from
-    rest-ends h = subst (λ (q : List (List ℕ)). rules_from passes L rules q ≡ up_to rules L q) (sym (p.last h)) refl
+    rest-ends p = subst (λ (q : List (List ℕ)). rules_from passes L rules q ≡ up_to rules L q) (sym p) refl
 
-    -- so is a line that is none of the rules'
-    pub rest-stops : r < length s → is_of_rules passes rules.size.settings rules.size.posts (part s at r) ≡ false
-        → rules_from passes L rules (split newline (drop at s)) ≡ up_to rules L (split newline (drop at s))
-    rest-stops h e =
-        subst (λ (q : List (List ℕ)). rules_from passes L rules q ≡ up_to rules L q) (sym (p.more h))
-        (some_piece newline (λ q. rules_from passes L rules (part s at r ∷ q) ≡ up_to rules L (part s at r ∷ q)) (λ another more. rules_end passes L rules (part s at r) another more e) (drop (suc r) s))
+    module _ (line rest : List ℕ) (p : split newline s ≡ line ∷ split newline rest) where
+      -- so is a line that is none of the rules'
+      pub rest-stops : is_of_rules passes rules.size.settings rules.size.posts line ≡ false → rules_from passes L rules (split newline s) ≡ up_to rules L (split newline s)
+      rest-stops e =
+          subst (λ (q : List (List ℕ)). rules_from passes L rules q ≡ up_to rules L q) (sym p)
+          (some_piece newline (λ q. rules_from passes L rules (line ∷ q) ≡ up_to rules L (line ∷ q)) (λ another more. rules_end passes L rules line another more e) rest)
 
-    pub rest_goes_on : r < length s → is_of_rules passes rules.size.settings rules.size.posts (part s at r) ≡ true
-        → {st : Step Rules} → line_step passes L rules (part s at r) ≡ st
-        → rules_from passes L rules (split newline (drop at s)) ≡ after_size passes L st (split newline (drop (suc r) s))
-    rest_goes_on h e {st} f =
-        ap (rules_from passes L rules) (p.more h)
-        ∙ some_piece newline (λ q. rules_from passes L rules (part s at r ∷ q) ≡ after_size passes L (line_step passes L rules (part s at r)) q)
-        (λ another more. rules-line passes L rules (part s at r) another more e) (drop (suc r) s)
-        ∙ ap (λ (x : Step Rules). after_size passes L x (split newline (drop (suc r) s))) f
+      module _ (e : is_of_rules passes rules.size.settings rules.size.posts line ≡ true) where
+        pub rest_goes_on : {st : Step Rules} → line_step passes L rules line ≡ st → rules_from passes L rules (split newline s) ≡ after_size passes L st (split newline rest)
+        rest_goes_on {st} f =
+            ap (rules_from passes L rules) p
+            ∙ some_piece newline (λ q. rules_from passes L rules (line ∷ q) ≡ after_size passes L (line_step passes L rules line) q)
+            (λ another more. rules-line passes L rules line another more e) rest
+            ∙ ap (λ (x : Step Rules). after_size passes L x (split newline rest)) f
 
-    -- the next line's number and place, as they are counted on
-    pub rest-next : {o : Reading} {v : Rules} (L' at' : ℕ) → L' ≡ suc L → at' ≡ suc r → r < length s
-        → is_of_rules passes rules.size.settings rules.size.posts (part s at r) ≡ true → line_step passes L rules (part s at r) ≡ next v
-        → rules_from passes L rules (split newline (drop at s)) ≡ o → rules_from passes L' v (split newline (drop at' s)) ≡ o
-    rest-next {v = v} L' at' e f h t w q = ap₂ (λ (k i : ℕ). rules_from passes k v (split newline (drop i s))) e f ∙ sym (rest_goes_on h t w) ∙ q
+        -- the next line's number, as it is counted on
+        pub rest-next : {v : Rules} → line_step passes L rules line ≡ next v → rules_from passes (L + 1) v (split newline rest) ≡ rules_from passes L rules (split newline s)
+        rest-next {v} f = ap (λ (k : ℕ). rules_from passes k v (split newline rest)) (add-one L) ∙ sym (rest_goes_on f)
 
   -- ---- the lines up to the size
   module _ (most : ℕ) where
-    pub size-ends : length s ≤ r → size_from passes most L (split newline (drop at s)) ≡ refused (Malformed L) L
+    pub size-ends : split newline s ≡ s ∷ [] → size_from passes most L (split newline s) ≡ refused (Malformed L) L
     unfolding size_from
-    size-ends h = ap (size_from passes most L) (p.last h)
+    size-ends p = ap (size_from passes most L) p
 
-    size_by : r < length s → (b : Bool) → (passes && passed_over (part s at r)) ≡ b
-        → size_from passes most L (split newline (drop at s))
-        ≡ cond b (size_from passes most (suc L) (split newline (drop (suc r) s))) (after_size passes L (size_step most L (part s at r)) (split newline (drop (suc r) s)))
-    unfolding size_from
-    size_by h b e =
-        ap (size_from passes most L) (p.more h)
-        ∙ some_piece newline (λ q. size_from passes most L (part s at r ∷ q) ≡ cond b (size_from passes most (suc L) q) (after_size passes L (size_step most L (part s at r)) q))
-        (λ another more. ap (λ (b : Bool). cond b (size_from passes most (suc L) (another ∷ more)) (after_size passes L (size_step most L (part s at r)) (another ∷ more))) e) (drop (suc r) s)
+    module _ (line rest : List ℕ) (p : split newline s ≡ line ∷ split newline rest) where
+      size_by : (b : Bool) → (passes && passed_over line) ≡ b
+          → size_from passes most L (split newline s) ≡ cond b (size_from passes most (suc L) (split newline rest)) (after_size passes L (size_step most L line) (split newline rest))
+      unfolding size_from
+      size_by b e =
+          ap (size_from passes most L) p
+          ∙ some_piece newline (λ q. size_from passes most L (line ∷ q) ≡ cond b (size_from passes most (suc L) q) (after_size passes L (size_step most L line) q))
+          (λ another more. ap (λ (b : Bool). cond b (size_from passes most (suc L) (another ∷ more)) (after_size passes L (size_step most L line) (another ∷ more))) e) rest
 
-    -- the next line's number and place, as they are counted on
-    pub size_passed : {o : Reading} (L' at' : ℕ) → L' ≡ suc L → at' ≡ suc r → r < length s → (passes && passed_over (part s at r)) ≡ true
-        → size_from passes most L (split newline (drop at s)) ≡ o → size_from passes most L' (split newline (drop at' s)) ≡ o
-    size_passed L' at' e f h p q = ap₂ (λ (k i : ℕ). size_from passes most k (split newline (drop i s))) e f ∙ sym (size_by h true p) ∙ q
+      -- the next line's number, as it is counted on
+      pub size_passed : (passes && passed_over line) ≡ true → size_from passes most (L + 1) (split newline rest) ≡ size_from passes most L (split newline s)
+      size_passed e = ap (λ (k : ℕ). size_from passes most k (split newline rest)) (add-one L) ∙ sym (size_by true e)
 
-    pub size-here : r < length s → (passes && passed_over (part s at r)) ≡ false
-        → size_from passes most L (split newline (drop at s)) ≡ after_size passes L (size_step most L (part s at r)) (split newline (drop (suc r) s))
-    size-here h e = size_by h false e
+      pub size-here : (passes && passed_over line) ≡ false → size_from passes most L (split newline s) ≡ after_size passes L (size_step most L line) (split newline rest)
+      size-here e = size_by false e
+
+-- ---- what is left of a text
+
+pub rest_all : (s : List ℕ) → Rest s s
+rest_all s = let none : length s - length s ≡ 0 = omega arith in record { within = omega arith; is = rw none refl }
+
+pub rest_after : {s rest line after : List ℕ} → Rest s rest → LineCut rest line after → Rest s after
+rest_after {s} {rest} {line} {after} r cut =
+    let further : length s - length rest + (length line + 1) ≡ length s - length after = omega (arith, r.within, cut.lengths) in
+    record {
+      within = omega (arith, r.within, cut.lengths);
+      is = cut.rest_is ∙ ap (drop (length line + 1)) r.is ∙ drop-drop (length line + 1) (length s - length rest) s ∙ ap (λ (k : ℕ). drop k s) further;
+    }
+
+-- the rules leave it, from its byte on
+pub up_left : {s rest : List ℕ} {rules : Rules} {L : ℕ} → Rest s rest → up_to rules L (split newline rest) ≡ up_to rules L (split newline (drop (length s - length rest) s))
+up_left {s} {rest} {rules} {L} r = ap (λ (t : List ℕ). up_to rules L (split newline t)) r.is
 
 -- ---- the whole
 
@@ -109,15 +125,11 @@ module _ (passes : Bool) (most : ℕ) (s : List ℕ) where
   unfolding rules_of rules_read
   from_first h = ap (λ (b : Bool). cond b (refused SheetLength 0) (rules_read passes most (split newline s))) (le-ltb 65536 (length s) h)
 
--- ---- what is told
+-- ---- what is read
 
-pub refused-is : {o : Reading} {t : RulesTold} (s : List ℕ) (d : RulesDesk) (why : Refusal) (line : ℕ) → o ≡ refused why line
-    → (t ≡ Refused why line) × RulesOnDesk (size_of 1 1) [] d → ReadsUpto s o t d
-refused-is {o} {t} s d why line e (f, h) =
-    subst (λ (x : Reading). ReadsUpto s x t d) (sym e) (subst (λ (x : RulesTold). ReadsUpto s (refused why line) x d) (sym f) (refl, refl, h))
+pub refused-is : {o : Reading} (s : List ℕ) {why : Refusal} {line : ℕ} → o ≡ refused why line → ReadsUpto s o (Err (record { why = why; line = line }))
+refused-is s e = rw e (refl, refl)
 
-pub upto_is : {o : Reading} {t : RulesTold} (s : List ℕ) (d e : RulesDesk) (rules : Rules) (at lines L : ℕ) → o ≡ up_to rules L (split newline (drop at s))
-    → (t ≡ Upto at lines) × (e ≡ d) → at ≤ length s → suc lines ≡ L → OnDesk rules d → ReadsUpto s o t e
-upto_is {o} {t} s d e rules at lines L f (g, same) fits number h =
-    subst (λ (x : Reading). ReadsUpto s x t e) (sym f)
-    (subst (λ (x : RulesTold). ReadsUpto s (up_to rules L (split newline (drop at s))) x e) (sym g) (fits, refl, number, subst (OnDesk rules) (sym same) h))
+pub upto_is : {o : Reading} (s : List ℕ) (read : RulesRead) (rules : Rules) (L : ℕ) → o ≡ up_to rules L (split newline (drop read.at s))
+    → read.at ≤ length s → suc read.lines ≡ L → OnDesk rules read.desk → ReadsUpto s o (Ok read)
+upto_is s read rules L e fits number h = rw e (fits, refl, number, h)

@@ -6,7 +6,9 @@ use Prim.Native.Nat.{ℕ, ◌+◌, ◌-◌, ◌<◌}
 use native.Mathlib.Omega.{arith}
 use lib.Dec.{T}
 use lib.ListN.{length, get_or, take, drop}
+use Rattle.std.proofs.Common.{Result}
 use Rattle.ground.specs.Text.{bytes}
+use Rattle.refusal.specs.declared.Refusal.{Refusal}
 use Rattle.refusal.specs.declared.Refusal.TheVariants.{Twice}
 use Rattle.formula.specs.Read.{Accepts}
 use Rattle.book_block.specs.declared.rule.Right.{Right}
@@ -20,7 +22,6 @@ use Rattle.sheet_words.specs.Steps.{Step, fault, next, unless_refused}
 use Rattle.sheet_rules.specs.Desk.{slot_of, mark_of, OnDesk}
 use Rattle.sheet_rules.specs.Turns.{ruled_desk, Turns}
 use Rattle.sheet_rules.specs.declared.desk.RulesDesk.{RulesDesk}
-use Rattle.sheet_rules.specs.declared.desk.Taken.{Taken}
 use Rattle.sheet_rules.proofs.FormLaws.{RuleBounds, of_rules_by}
 use Rattle.sheet_rules.proofs.StepLaws.{rule-twice, rule_once, line_by}
 use Rattle.sheet_rules.proofs.SlotLaws.{slot_small}
@@ -70,21 +71,21 @@ module _ (rules : Rules) (d : RulesDesk) (h : OnDesk rules d) (right : Right) (w
       free : is_stated rules.rules the_rule.right the_rule.setting the_rule.post ≡ false
       free = sym of_rule ∙ unmarked_free (is_stated rules.rules right i q) own_mark m
 
-      behind : (F : List ℕ) → F ≡ the_rule.text → (st : Step Rules) (x : Taken) (y : RulesDesk) → Turns (unless_refused d.settings F st) x y
-          → Turns (unless_refused rules.size.settings the_rule.text st) x y
-      behind F e st x y s =
-          subst (λ (n : ℕ). Turns (unless_refused n the_rule.text st) x y) h.settings
-          (subst (λ (F : List ℕ). Turns (unless_refused d.settings F st) x y) e s)
+      behind : (F : List ℕ) → F ≡ the_rule.text → (st : Step Rules) (x : Result RulesDesk Refusal) → Turns (unless_refused d.settings F st) x
+          → Turns (unless_refused rules.size.settings the_rule.text st) x
+      behind F e st x s =
+          subst (λ (n : ℕ). Turns (unless_refused n the_rule.text st) x) h.settings
+          (subst (λ (F : List ℕ). Turns (unless_refused d.settings F st) x) e s)
 
       -- the formula behind the words is the rule's, and its table goes to the rule's slot
-      pub line_read : (x : Taken) (y : RulesDesk)
+      pub line_read : (x : Result RulesDesk Refusal)
           → ((v : Rules) → ((t : List ℕ) → Accepts d.settings (take (length line - (length w + 4)) (drop (length w + 4) line)) t → OnDesk v (ruled_desk d slot t))
-          → Turns (unless_refused d.settings (take (length line - (length w + 4)) (drop (length w + 4) line)) (next v)) x y)
-          → Turns (rule_step L rules (rule_of w right line)) x y
+          → Turns (unless_refused d.settings (take (length line - (length w + 4)) (drop (length w + 4) line)) (next v)) x)
+          → Turns (rule_step L rules (rule_of w right line)) x
       unfolding the_rule rule_of
-      line_read x y f =
-          subst (λ (s : Step Rules). Turns s x y) (sym (rule_once L rules the_rule free))
-          (behind (take (length line - (length w + 4)) (drop (length w + 4) line)) (tail line (length w + 4)) (next (with_rule rules the_rule)) x y
+      line_read x f =
+          subst (λ (s : Step Rules). Turns s x) (sym (rule_once L rules the_rule free))
+          (behind (take (length line - (length w + 4)) (drop (length w + 4) line)) (tail line (length w + 4)) (next (with_rule rules the_rule)) x
           (f (with_rule rules the_rule) (λ t a.
           subst (λ (k : ℕ). OnDesk (with_rule rules the_rule) (ruled_desk d k t)) (sym (cc))
           (holds-rule rules d h the_rule t (omega (arith, bounds.setting-most, bounds.setting-least)) (omega (arith, bounds.post-most, bounds.post-least)) free a.table.sixteen

@@ -9,8 +9,7 @@ use Rattle.ground.specs.Text.{bytes}
 use Rattle.ground.proofs.Bools.{decide, T→true, T→false, lt_or_ge}
 use Rattle.refusal.specs.declared.Refusal.{Refusal}
 use Rattle.refusal.specs.declared.Refusal.TheVariants.{Twice, SheetSettings}
-use Rattle.formula.specs.declared.Answer.{Answer}
-use Rattle.formula.specs.declared.Answer.TheVariants.{Accepted, Refused}
+use Rattle.std.proofs.Common.{Result, Ok, Err}
 use Rattle.formula.specs.Computed.{formula_answer}
 use Rattle.book_block.specs.declared.rule.Right.TheVariants.{Look, Set}
 use Rattle.sheet_words.specs.Words.{passed_over}
@@ -45,9 +44,9 @@ keeps_refused : (size : Size) (n : ℕ) (F : List ℕ) (st : Step Rules) → Kee
 unfolding unless_refused
 keeps_refused size n F st h = by (formula_answer n F)
   where
-    by : (a : Answer) → Keeps size (unless_answered a st)
-    by Accepted = h
-    by (Refused r) = tt
+    by : (a : Result (Unit {0}) Refusal) → Keeps size (unless_answered a st)
+    by (Ok x) = h
+    by (Err r) = tt
 
 module _ (L : ℕ) (rules : Rules) where
   rule_keeps : (r : Rule) → Keeps rules.size (rule_step L rules r)

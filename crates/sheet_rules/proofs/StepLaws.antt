@@ -8,9 +8,9 @@ use borrow.Author.Tests.{le-leb, lt-leb}
 use Rattle.ground.specs.Text.{bytes}
 use Rattle.refusal.specs.declared.Refusal.{Refusal}
 use Rattle.refusal.specs.declared.Refusal.TheVariants.{Malformed, Twice, SheetSettings}
-use Rattle.formula.specs.Read.{ReadsFormula}
-use Rattle.formula.specs.declared.Answer.{Answer}
-use Rattle.formula.specs.declared.Answer.TheVariants.{Accepted, Refused}
+use Rattle.formula.specs.Read.{ReadsFormula, Accepts}
+use Rattle.formula.specs.Computed.{without_table}
+use Rattle.std.proofs.Common.{Result, Ok, Err}
 use Rattle.formula.proofs.Computed.{read_computed}
 use Rattle.book_block.specs.declared.rule.Right.TheVariants.{Look, Set}
 use Rattle.sheet_words.specs.Words.{passed_over}
@@ -21,14 +21,16 @@ use Rattle.sheet_rules.specs.Steps.{size_step, rule_step, line_step}
 
 -- ---- a formula
 
-module _ (n : ℕ) (F t : List ℕ) (later : Step Rules) where
-  pub refused-step : (why : Refusal) → ReadsFormula n F (Refused why) t → unless_refused n F later ≡ fault why
+module _ (n : ℕ) (F : List ℕ) (later : Step Rules) where
+  answered : (a : Result (List ℕ) Refusal) → ReadsFormula n F a → unless_refused n F later ≡ unless_answered (without_table a) later
   unfolding unless_refused
-  refused-step why r = ap (λ (a : Answer). unless_answered a later) (read_computed n F (Refused why) t r)
+  answered a r = ap (λ (x : Result (Unit {0}) Refusal). unless_answered x later) (read_computed n F a r)
 
-  pub accepted-step : ReadsFormula n F Accepted t → unless_refused n F later ≡ later
-  unfolding unless_refused
-  accepted-step r = ap (λ (a : Answer). unless_answered a later) (read_computed n F Accepted t r)
+  pub refused-step : {why : Refusal} → ReadsFormula n F (Err why) → unless_refused n F later ≡ fault why
+  refused-step {why} r = answered (Err why) r
+
+  pub accepted-step : {t : List ℕ} → Accepts n F t → unless_refused n F later ≡ later
+  accepted-step {t} r = answered (Ok t) r
 
 -- ---- the size
 

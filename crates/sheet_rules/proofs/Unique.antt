@@ -1,7 +1,6 @@
--- The contracts of `rules_of` and `read_rules` settle all that they give, the desk included; and that of a line what it gives, but for the desk beside a
--- fault. One desk alone holds what rules state: byte by byte. The byte where rules end is settled by what is left of the text, since joining undoes
+-- The contracts of `rules_of` and `read_rules` settle all that they give, and so does that of a line. One desk alone holds what rules state: byte by byte. The byte where rules end is settled by what is left of the text, since joining undoes
 -- splitting.
-use mathlib.Core.Path.{◌≡◌, refl, sym, ap, ap₂, ◌∙◌, subst}
+use mathlib.Core.Path.{◌≡◌, sym, ap, ◌∙◌, subst}
 use mathlib.Core.Logic.{inl, inr}
 use mathlib.Core.Bool.{Bool, true, false}
 use mathlib.Core.List.{List}
@@ -9,10 +8,12 @@ use Prim.Native.Nat.{ℕ, ◌+◌, ◌*◌, ◌/◌, ◌%◌, ◌≤◌, ◌<◌
 use native.Mathlib.Omega.{arith}
 use lib.ListN.{length, get_or, drop, length-drop}
 use lib.Seq.{ext_get_or}
+use Rattle.refusal.specs.declared.Refusal.{Refusal}
+use Rattle.sheet_words.specs.declared.Fault.{Fault}
 use Rattle.ground.proofs.Bools.{lt_or_ge}
 use Rattle.ground.proofs.Lists.{get_d_part}
 use Rattle.formula.specs.Read.{Accepts}
-use Rattle.formula.specs.declared.Answer.TheVariants.{Accepted}
+use Rattle.std.proofs.Common.{Result, Ok, Err}
 use Rattle.formula.proofs.Unique.{read_unique}
 use Rattle.book_block.specs.Rule.{table_place}
 use Rattle.book_block.specs.declared.rule.Right.{Right}
@@ -20,7 +21,8 @@ use Rattle.book_block.specs.declared.rule.Right.TheVariants.{Look, Set}
 use Rattle.sheet_words.specs.Words.{split, newline}
 use Rattle.sheet_words.specs.Steps.{Step, fault, next}
 use Rattle.sheet_words.proofs.Split.{joined, joined_split}
-use Rattle.sheet_rules.specs.Rules.{Size, Rule, Rules, size_of, rule_text}
+use Rattle.sheet_words.proofs.Unique.{fault_one}
+use Rattle.sheet_rules.specs.Rules.{Size, Rule, Rules, rule_text}
 use Rattle.sheet_rules.specs.Desk.{slot_of, table_in, Filled, in_size, RulesOnDesk}
 use Rattle.sheet_rules.specs.Turns.{rules_laid, Turns}
 use Rattle.sheet_rules.specs.Reading.{Reading, refused, up_to}
@@ -28,17 +30,12 @@ use Rattle.sheet_rules.specs.Meaning.{Meaning, stated}
 use Rattle.sheet_rules.specs.Meaning.{refused as whole-refused}
 use Rattle.sheet_rules.specs.Reads.{ReadsUpto, ReadsRules}
 use Rattle.sheet_rules.specs.declared.desk.RulesDesk.{RulesDesk}
-use Rattle.sheet_rules.specs.declared.desk.Taken.{Taken}
-use Rattle.sheet_rules.specs.declared.desk.Taken.TheVariants.{Next, No}
-use Rattle.sheet_rules.specs.declared.RulesTold.{RulesTold}
-use Rattle.sheet_rules.specs.declared.RulesTold.TheVariants.{Upto, Refused}
-use Rattle.sheet_rules.specs.declared.WholeTold.{WholeTold}
-use Rattle.sheet_rules.specs.declared.WholeTold.TheVariants.{Refused as WholeRefused, Stated}
+use Rattle.sheet_rules.specs.declared.RulesRead.{RulesRead}
 
 -- ---- tables
 
 pub table-one : {n : ℕ} {F t u : List ℕ} → Accepts n F t → Accepts n F u → t ≡ u
-table-one {n} {F} {t} {u} a b = (read_unique n F Accepted Accepted t u a b).1
+table-one {n} {F} {t} {u} a b = let e = read_unique n F (Ok t) (Ok u) a b in cc
 
 -- ---- the rules on the desk
 
@@ -93,14 +90,13 @@ module _ (size : Size) (rules : List Rule) (a b : RulesDesk) (h : RulesOnDesk si
 
 -- ---- what comes of a line
 
--- one thing alone, but for the desk beside a fault, which says nothing
-pub turn_one : (st : Step Rules) (x y : Taken) (a b : RulesDesk) → Turns st x a → Turns st y b → (x ≡ y) × (x ≡ Next → a ≡ b)
-turn_one (fault r) (No why) (No else) a b e f = (ap No (e ∙ sym f), λ z. (let y : ◌≡◌ {A = ℕ} 0 1 = cc in absurd (omega arith)))
-turn_one (next v) Next Next a b h k = (refl, λ z. rules-one v.size v.rules a b h k)
-turn_one (fault r) Next y a b e f = elim e [ ]
-turn_one (fault r) (No why) Next a b e f = elim f [ ]
-turn_one (next v) Next (No else) a b h k = elim k [ ]
-turn_one (next v) (No why) y a b h k = elim h [ ]
+pub turn_one : (st : Step Rules) (x y : Result RulesDesk Refusal) → Turns st x → Turns st y → x ≡ y
+turn_one (fault r) (Err why) (Err else) e f = ap Err (e ∙ sym f)
+turn_one (next v) (Ok a) (Ok b) h k = ap Ok (rules-one v.size v.rules a b h k)
+turn_one (fault r) (Ok a) y e f = elim e [ ]
+turn_one (fault r) (Err why) (Ok b) e f = elim f [ ]
+turn_one (next v) (Ok a) (Err else) h k = elim k [ ]
+turn_one (next v) (Err why) y h k = elim h [ ]
 
 -- ---- the byte where rules end
 
@@ -112,22 +108,23 @@ end_one s a b h k e =
 -- ---- one result alone
 
 -- `rules_of`
-pub upto_one : (s : List ℕ) (o : Reading) (x y : RulesTold) (a b : RulesDesk) → ReadsUpto s o x a → ReadsUpto s o y b → (x ≡ y) × (a ≡ b)
-upto_one s (refused r line) (Refused why at) (Refused else to) a b (e, f, h) (i, j, k) =
-    (ap₂ Refused (e ∙ sym i) (f ∙ sym j), rules-one (size_of 1 1) _ a b h k)
-upto_one s (up_to rules line pieces) (Upto at lines) (Upto to others) a b (e, f, g, h) (i, j, l, k) =
-    (ap₂ Upto (end_one s at to e i (f ∙ sym j)) (omega (arith, g, l)), rules-one rules.size rules.rules a b h k)
-upto_one s (refused r line) (Upto at lines) y a b x6 _ = elim x6 [ ]
-upto_one s (refused r line) (Refused why at) (Upto to others) a b _ x10 = elim x10 [ ]
-upto_one s (up_to rules line pieces) (Upto at lines) (Refused else to) a b _ x10 = elim x10 [ ]
-upto_one s (up_to rules line pieces) (Refused why at) y a b x8 _ = elim x8 [ ]
+pub upto_one : (s : List ℕ) (o : Reading) (x y : Result RulesRead Fault) → ReadsUpto s o x → ReadsUpto s o y → x ≡ y
+upto_one s (refused r line) (Err f) (Err g) h k = ap Err (fault_one h k)
+upto_one s (up_to rules line pieces) (Ok a) (Ok b) (e, f, g, h) (i, j, l, k) =
+    let at : a.at ≡ b.at = end_one s a.at b.at e i (f ∙ sym j) in
+    let lines : a.lines ≡ b.lines = omega (arith, g, l) in
+    let desk : a.desk ≡ b.desk = rules-one rules.size rules.rules a.desk b.desk h k in
+    let z : ◌≡◌ {A = RulesRead} (record { desk = a.desk; at = a.at; lines = a.lines }) (record { desk = b.desk; at = b.at; lines = b.lines }) = cc in ap Ok z
+upto_one s (refused r line) (Ok a) y h k = elim h [ ]
+upto_one s (refused r line) (Err f) (Ok b) h k = elim k [ ]
+upto_one s (up_to rules line pieces) (Ok a) (Err g) h k = elim k [ ]
+upto_one s (up_to rules line pieces) (Err f) y h k = elim h [ ]
 
 -- `read_rules`
-pub rules-read-one : (o : Meaning) (x y : WholeTold) (a b : RulesDesk) → ReadsRules o x a → ReadsRules o y b → (x ≡ y) × (a ≡ b)
-rules-read-one (whole-refused r line) (WholeRefused why at) (WholeRefused else to) a b (e, f, h) (i, j, k) =
-    (ap₂ WholeRefused (e ∙ sym i) (f ∙ sym j), rules-one (size_of 1 1) _ a b h k)
-rules-read-one (stated rules) Stated Stated a b h k = (refl, rules-one rules.size rules.rules a b h k)
-rules-read-one (whole-refused r line) Stated y a b h k = elim h [ ]
-rules-read-one (whole-refused r line) (WholeRefused why at) Stated a b h k = elim k [ ]
-rules-read-one (stated rules) Stated (WholeRefused else to) a b h k = elim k [ ]
-rules-read-one (stated rules) (WholeRefused why at) y a b h k = elim h [ ]
+pub rules-read-one : (o : Meaning) (x y : Result RulesDesk Fault) → ReadsRules o x → ReadsRules o y → x ≡ y
+rules-read-one (whole-refused r line) (Err f) (Err g) h k = ap Err (fault_one h k)
+rules-read-one (stated rules) (Ok a) (Ok b) h k = ap Ok (rules-one rules.size rules.rules a b h k)
+rules-read-one (whole-refused r line) (Ok a) y h k = elim h [ ]
+rules-read-one (whole-refused r line) (Err f) (Ok b) h k = elim k [ ]
+rules-read-one (stated rules) (Ok a) (Err g) h k = elim k [ ]
+rules-read-one (stated rules) (Err f) y h k = elim h [ ]

@@ -1,6 +1,6 @@
 -- The rules at the beginning of a text: what they state, and where they end; or their first refusal. A sheet goes on with a question there. "In rules
 -- and question files (not in sheets) lines that begin with `#` and empty lines are passed over; line numbers count them."
-use Rattle.std.specs.Prelude.{Bool, true, false, not, ◌&&◌, cond, List, [], ◌∷◌, ℕ, suc, ltb, length}
+use Rattle.std.specs.Prelude.{Bool, true, false, ◌&&◌, cond, List, [], ◌∷◌, ℕ, suc, ltb, length}
 use Rattle.refusal.specs.declared.Refusal.{Refusal}
 use Rattle.refusal.specs.declared.Refusal.TheVariants.{Malformed, SheetLength}
 use Rattle.sheet_words.specs.Words.{split, newline, passed_over}

@@ -1,14 +1,13 @@
--- The desk after a line that states a right, and what a line does, on the desk. For the functions of this crate alone.
-use Rattle.std.specs.Prelude.{◌≡◌, List, cond, ℕ, ◌*◌, ◌/◌, ◌%◌, ◌<◌, eqb, length, set, replicate}
+-- The desk after a line that states a right, and what a line does, on the desk; what is left of a text. For the functions of this crate alone.
+use Rattle.std.specs.Prelude.{◌≡◌, List, cond, ℕ, ◌-◌, ◌*◌, ◌/◌, ◌%◌, ◌≤◌, ◌<◌, eqb, length, drop, set, replicate, Result, Ok, Err}
 use Rattle.std.proofs.lemmas.List.Edits.{sets}
+use Rattle.refusal.specs.declared.Refusal.{Refusal}
 use Rattle.formula.specs.Read.{Accepts}
 use Rattle.book_block.specs.declared.rule.Right.TheVariants.{Look, Set}
 use Rattle.sheet_words.specs.Steps.{Step, fault, next}
 use Rattle.sheet_rules.specs.Rules.{Rules, unstated}
 use Rattle.sheet_rules.specs.Desk.{in_size, table_in, OnDesk}
 use Rattle.sheet_rules.specs.declared.desk.RulesDesk.{RulesDesk}
-use Rattle.sheet_rules.specs.declared.desk.Taken.{Taken}
-use Rattle.sheet_rules.specs.declared.desk.Taken.TheVariants.{Next, No}
 
 -- a desk from what it holds
 abbrev pub rules_laid : ℕ → ℕ → List ℕ → List ℕ → RulesDesk
@@ -36,8 +35,13 @@ unfoldable pub ruled_desk : RulesDesk → ℕ → List ℕ → RulesDesk
 ruled_desk d slot t = rules_laid d.settings d.posts (sets d.rights (16 * slot) t) (set d.stated slot 1)
 
 -- what a line does, on the desk
-abbrev pub Turns : Step Rules → Taken → RulesDesk → Type 0
-Turns (fault r) (No why) d = why ≡ r
-Turns (fault r) Next d = ⊥
-Turns (next rules) (No why) d = ⊥
-Turns (next rules) Next d = OnDesk rules d
+abbrev pub Turns : Step Rules → Result RulesDesk Refusal → Type 0
+Turns (fault r) (Err why) = why ≡ r
+Turns (fault r) (Ok d) = ⊥
+Turns (next rules) (Err why) = ⊥
+Turns (next rules) (Ok d) = OnDesk rules d
+
+-- what is left of a text, from some byte on
+pub record Rest (text rest : List ℕ) : Type 0 where
+  pub within : length rest ≤ length text
+  pub is : rest ≡ drop (length text - length rest) text

@@ -1,12 +1,11 @@
 // The rules' desk: what rules have stated so far, by value, with the formulas as their tables.
-ghost use Rattle.std.specs.Prelude.{◌≡◌, [], ◌≤◌};
+ghost use Rattle.std.specs.Prelude.{[], ◌≤◌};
 ghost use Rattle.sheet_rules.specs.Rules.{size_of};
 ghost use Rattle.sheet_rules.specs.Desk.{RulesOnDesk};
 
 use crate::unstated::unstated_rights;
 use book_block::TABLES;
 use ground::{SETTINGS_MOST, TABLE};
-use refusal::Refusal;
 
 // The bytes of the rights of 7 settings, and how many rights there are.
 pub(crate) const RIGHTS: usize = SETTINGS_MOST * TABLES;
@@ -24,22 +23,6 @@ pub struct RulesDesk {
     pub stated: [u8; SLOTS],
 }
 
-// What becomes of a line of rules.
-#[derive(Clone, Copy)]
-pub enum Taken {
-    // It is taken.
-    Next,
-    // It is at fault.
-    No(Refusal),
-}
-
-// The desk after a line; what it holds says nothing where the line is at fault.
-#[derive(Clone, Copy)]
-pub struct Turn {
-    pub taken: Taken,
-    pub desk: RulesDesk,
-}
-
 // A desk on which only the size is stated.
 pub(crate) fn sized(settings: u8, posts: u8) -> RulesDesk
     requires { (1 ≤ settings) × (settings ≤ 7) × (1 ≤ posts) × (posts ≤ 8) }
@@ -51,15 +34,5 @@ pub(crate) fn sized(settings: u8, posts: u8) -> RulesDesk
         posts,
         rights,
         stated: [0u8; SLOTS],
-    }
-}
-
-// A line at fault, with nothing on the desk that counts.
-pub(crate) fn at_fault(why: Refusal) -> Turn
-    ensures { result.taken ≡ Taken.No why }
-{
-    Turn {
-        taken: Taken::No(why),
-        desk: sized(1, 1),
     }
 }

@@ -1,6 +1,5 @@
 // The lines that state a right, `read P G F` and `write P G F`.
 ghost use Rattle.std.specs.Prelude.{◌≡◌, List, ℕ, ◌<◌, ◌+◌, T, length};
-ghost use Rattle.std.proofs.lemmas.List.Edits.{sets};
 ghost use Rattle.formula.specs.Read.{Accepts};
 ghost use Rattle.sheet_words.specs.Steps.{next, unless_refused};
 ghost use Rattle.sheet_rules.specs.Rules.{Rules};
@@ -9,10 +8,9 @@ ghost use Rattle.sheet_rules.specs.Steps.{rule_step};
 ghost use Rattle.sheet_rules.specs.Desk.{slot_of, OnDesk};
 ghost use Rattle.sheet_rules.specs.Turns.{ruled_desk, Turns};
 
-use crate::desk::{RulesDesk, Taken, Turn, at_fault};
+use crate::desk::RulesDesk;
 use book_block::{Right, TABLES, table_at};
-use formula::Answer;
-use ground::{TABLE, copy, peek};
+use ground::{TABLE, peek};
 use refusal::Refusal;
 use sheet_words::{among, begins};
 
@@ -21,20 +19,12 @@ pub(crate) fn is_rule(word: &[u8], n: u8, m: u8, line: &[u8]) -> bool
     requires { length word.now < 8 }
     ensures { result ≡ is_rule word.now n m line.now }
 {
-    if !begins(word, line) {
-        return false;
-    }
     let at = word.len();
-    if !among(b'a', n, peek(line, at)) {
-        return false;
-    }
-    if peek(line, at + 1) != b' ' {
-        return false;
-    }
-    if !among(b'1', m, peek(line, at + 2)) {
-        return false;
-    }
-    peek(line, at + 3) == b' '
+    begins(word, line)
+        && among(b'a', n, peek(line, at))
+        && peek(line, at + 1) == b' '
+        && among(b'1', m, peek(line, at + 2))
+        && peek(line, at + 3) == b' '
 }
 
 // The place of a right among all, counted in tables.
@@ -44,47 +34,26 @@ fn slot_of(right: Right, setting: u8, post: u8) -> usize
     (TABLES * (setting as usize) + table_at(post, right)) / TABLE
 }
 
-// Writes a table into the room at `at`.
-pub(crate) fn put_table(table: &[u8; TABLE], room: &mut [u8], at: usize)
-    requires { length table.now ≡ 16 }
-    ensures { room.new ≡ sets room.old at table.now }
-{
-    copy(table, 0, TABLE, room, at);
-}
-
 // The desk with one right more.
-fn ruled(desk: RulesDesk, slot: usize, table: &[u8; TABLE]) -> RulesDesk
+fn ruled(mut desk: RulesDesk, slot: usize, table: &[u8; TABLE]) -> RulesDesk
     requires { (length table.now ≡ 16) × (slot < 112) × (length desk.rights ≡ 1792) × (length desk.stated ≡ 112) }
     ensures { result ≡ ruled_desk desk slot table.now }
 {
-    let mut next = desk;
-    let mut rights = desk.rights;
-    put_table(table, &mut rights, TABLE * slot);
-    next.rights = rights;
-    let mut stated = desk.stated;
-    stated[slot] = 1;
-    next.stated = stated;
-    next
+    desk.rights[TABLE * slot..TABLE * slot + TABLE].copy_from_slice(table);
+    desk.stated[slot] = 1;
+    desk
 }
 
 // Reads the formula of a right and puts its table in its place. What the text then states is for the
 // caller to say: any rules that are on the desk with a table of this formula.
-fn formula_line(desk: RulesDesk, slot: usize, text: &[u8]) -> Turn
+fn formula_line(desk: RulesDesk, slot: usize, text: &[u8]) -> Result<RulesDesk, Refusal>
     requires { (slot < 112) × (length desk.rights ≡ 1792) × (length desk.stated ≡ 112) }
     ensures { (rules : Rules) →
         ((t : List ℕ) → Accepts desk.settings text.now t → OnDesk rules (ruled_desk desk slot t)) →
-        Turns (unless_refused desk.settings text.now (next rules)) result.taken result.desk }
+        Turns (unless_refused desk.settings text.now (next rules)) result }
 {
-    let reading = formula::read(desk.settings as usize, text);
-    let answer = reading.answer;
-    let table = reading.table;
-    match answer {
-        Answer::Refused(why) => at_fault(why),
-        Answer::Accepted => Turn {
-            taken: Taken::Next,
-            desk: ruled(desk, slot, &table),
-        },
-    }
+    let table = formula::read(desk.settings as usize, text)?;
+    Ok(ruled(desk, slot, &table))
 }
 
 // A line that states a right, as `is_rule` says that it does.
@@ -94,18 +63,16 @@ pub(crate) fn rule_line(
     word: &[u8],
     line: &[u8],
     number: usize,
-) -> Turn
+) -> Result<RulesDesk, Refusal>
     requires { ((rules : Rules) × OnDesk rules desk) × (length word.now < 8) × T (is_rule word.now desk.settings desk.posts line.now) }
-    ensures { (rules : Rules) → OnDesk rules desk → Turns (rule_step number rules (rule_of word.now right line.now)) result.taken result.desk }
+    ensures { (rules : Rules) → OnDesk rules desk → Turns (rule_step number rules (rule_of word.now right line.now)) result }
 {
     let at = word.len();
     let setting = peek(line, at) - b'a';
     let post = peek(line, at + 2) - b'1';
     let slot = slot_of(right, setting, post);
-    let stated = desk.stated;
-    if stated[slot] != 0 {
-        return at_fault(Refusal::Twice(number));
+    if desk.stated[slot] != 0 {
+        return Err(Refusal::Twice(number));
     }
-    let from = at + 4;
-    formula_line(desk, slot, &line[from..])
+    formula_line(desk, slot, &line[at + 4..])
 }

@@ -5,7 +5,6 @@ ghost use Rattle.sheet_rules.specs.Rules.{unstated};
 ghost use Rattle.sheet_rules.specs.Turns.{unstated_at, Laid, Unstated};
 
 use crate::desk::{RIGHTS, SLOTS};
-use crate::rights::put_table;
 use book_block::Right;
 use ground::TABLE;
 
@@ -27,9 +26,7 @@ fn unstated_table(n: u8, right: Right) -> [u8; TABLE]
     requires { (1 ≤ n) × (n ≤ 7) }
     ensures { Accepts n (unstated right) result }
 {
-    let text = unstated(right);
-    let reading = formula::read(n as usize, &text);
-    reading.table
+    formula::read(n as usize, &unstated(right)).unwrap()
 }
 
 // What stands at this place among all rights: the table of a right of the size, and past it zeros.
@@ -42,10 +39,7 @@ fn unstated_at(n: u8, m: u8, looks: [u8; TABLE], sets: [u8; TABLE], slot: usize)
     if m as usize <= slot % SETTING_SLOTS / 2 {
         return [0u8; TABLE];
     }
-    if slot % 2 == 0 {
-        return looks;
-    }
-    sets
+    if slot % 2 == 0 { looks } else { sets }
 }
 
 // The rights of n settings and m posts of which none is stated.
@@ -54,11 +48,9 @@ fn lay(n: u8, m: u8, looks: [u8; TABLE], sets: [u8; TABLE]) -> [u8; RIGHTS]
     ensures { Laid n m looks sets 112 result }
 {
     let mut rights = [0u8; RIGHTS];
-    let mut slot = 0;
-    while slot < SLOTS {
+    for slot in 0..SLOTS {
         let table = unstated_at(n, m, looks, sets, slot);
-        put_table(&table, &mut rights, TABLE * slot);
-        slot += 1;
+        rights[TABLE * slot..TABLE * slot + TABLE].copy_from_slice(&table);
     }
     rights
 }

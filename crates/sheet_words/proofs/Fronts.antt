@@ -1,47 +1,35 @@
--- The beginning of a line, a byte at a time: what is left to be compared begins one byte further.
-use mathlib.Core.Path.{◌≡◌, refl, sym, ap, ◌∙◌}
+-- The beginning of a line, by its bytes.
+use mathlib.Core.Path.{◌≡◌, refl, sym, ap, ap₂, ◌∙◌}
 use mathlib.Core.Logic.{inl, inr}
 use mathlib.Core.Bool.{Bool, true, false, ◌&&◌}
 use mathlib.Core.List.{List, [], ◌∷◌}
-use Prim.Native.Nat.{ℕ, suc, ◌≤◌, ◌<◌}
+use Prim.Native.Nat.{ℕ, ◌+◌, ◌-◌, ◌≤◌}
 use native.Mathlib.Omega.{arith}
-use lib.Dec.{eqb}
-use lib.ListN.{length, get_or, drop}
-use lib.Seq.{drop-cons, drop-length}
-use borrow.Author.Tests.{eq-eqb, ne_eqb}
+use lib.Dec.{eqb, ltb}
+use lib.ListN.{length, get_or, take}
+use Rattle.std.specs.Cmp.Lexicographic.{pointwise}
+use Rattle.std.proofs.lemmas.Bool.{lt-ltb, le-ltb}
+use borrow.Author.Tests.{le-leb}
 use Rattle.ground.specs.Text.{byte}
 use Rattle.ground.proofs.Bools.{lt_or_ge}
-use Rattle.sheet_words.specs.Words.{begins, passed_over}
+use Rattle.sheet_words.specs.Words.{begins, passed_over, among}
 
-pub begins-step : (w s : List ℕ) (i : ℕ) → i < length w → i < length s
-    → begins (drop i w) (drop i s) ≡ (eqb (get_or w i 0) (get_or s i 0) && begins (drop (suc i) w) (drop (suc i) s))
+-- what `starts_with` says
+pub begins_by_bytes : (w s : List ℕ) → pointwise eqb w (take (length w) s) ≡ begins w s
 unfolding begins
-begins-step w s i h k = rw (drop-cons w i 0 h, drop-cons s i 0 k) refl
+begins_by_bytes [] s = refl
+begins_by_bytes (c ∷ w) [] = refl
+begins_by_bytes (c ∷ w) (d ∷ s) = ap (λ (b : Bool). eqb c d && b) (begins_by_bytes w s)
 
-pub begins-short : (w s : List ℕ) → length s < length w → begins w s ≡ false
-unfolding begins
-begins-short [] s h = absurd (omega arith)
-begins-short (c ∷ w) [] h = refl
-begins-short (c ∷ w) (d ∷ s) h = go (eqb c d) (begins-short w s (omega arith))
-  where
-    go : (b : Bool) {x : Bool} → x ≡ false → (b && x) ≡ false
-    go true e = e
-    go false e = refl
-
--- one byte that differs
-pub begins_differs : (w s : List ℕ) (i : ℕ) → i < length w → i < length s → (get_or w i 0 ≡ get_or s i 0 → ⊥) → begins (drop i w) (drop i s) ≡ false
-begins_differs w s i h k ne = begins-step w s i h k ∙ ap (λ (b : Bool). b && begins (drop (suc i) w) (drop (suc i) s)) (ne_eqb (get_or w i 0) (get_or s i 0) ne)
-
--- one byte more that agrees
-pub begins-more : (w s : List ℕ) (i : ℕ) → i < length w → i < length s → get_or w i 0 ≡ get_or s i 0 → begins (drop i w) (drop i s) ≡ begins (drop (suc i) w) (drop (suc i) s)
-begins-more w s i h k e = begins-step w s i h k ∙ ap (λ (b : Bool). b && begins (drop (suc i) w) (drop (suc i) s)) (eq-eqb (get_or w i 0) (get_or s i 0) e)
-
-pub begins-whole : (w s : List ℕ) (i : ℕ) → length w ≤ i → i ≤ length w → begins (drop i w) (drop i s) ≡ true
-unfolding begins
-begins-whole w s i h k = let e : i ≡ length w = omega arith in ap (λ (t : List ℕ). begins t (drop i s)) (ap (λ (j : ℕ). drop j w) e ∙ drop-length w)
+and_right_true : (a b : Bool) → (a && b) ≡ true → b ≡ true
+and_right_true true b e = e
+and_right_true false b e = absurd cc
 
 pub begins-length : (w s : List ℕ) → begins w s ≡ true → length w ≤ length s
-begins-length w s e = elim (lt_or_ge (length s) (length w)) [ inl h ↦ (let z : true ≡ false = sym e ∙ begins-short w s h in let y : ◌≡◌ {A = ℕ} 0 1 = cc in omega arith) | inr h ↦ h ]
+unfolding begins
+begins-length [] s e = omega arith
+begins-length (c ∷ w) [] e = absurd cc
+begins-length (c ∷ w) (d ∷ s) e = let h = begins-length w s (and_right_true (eqb c d) (begins w s) e) in omega arith
 
 -- a line that is passed over, by its length and its first byte
 pub passed_empty : (s : List ℕ) → length s ≡ 0 → true ≡ passed_over s
@@ -53,3 +41,12 @@ pub passed_first : (s : List ℕ) → (length s ≡ 0 → ⊥) → eqb (get_or s
 unfolding passed_over
 passed_first [] h = absurd (h refl)
 passed_first (c ∷ s) h = refl
+
+-- a sign by how far it stands from the first
+pub among_shifted : (first count c : ℕ) → first ≤ c → ltb (c - first) count ≡ among first count c
+unfolding among
+among_shifted first count c h =
+    elim (lt_or_ge (c - first) count) [
+      | inl l ↦ lt-ltb (c - first) count l ∙ sym (ap₂ ◌&&◌ (le-leb first c h) (lt-ltb c (first + count) (omega arith)))
+      | inr l ↦ le-ltb (c - first) count l ∙ sym (ap₂ ◌&&◌ (le-leb first c h) (le-ltb c (first + count) (omega arith)))
+    ]

@@ -1,28 +1,26 @@
 -- The words after `team` and `known`, one by one: a word with `~` in front is the word behind it, and each name sets its bit.
 use mathlib.Core.Path.{◌≡◌, refl, sym, ap, ap₂, ◌∙◌, subst}
-use mathlib.Core.Logic.{inl, inr}
 use mathlib.Core.Bool.{Bool, true, false, not, ◌&&◌, ◌||◌, cond}
 use mathlib.Core.List.{List, [], ◌∷◌}
 use Prim.Native.Nat.{ℕ, suc, ◌+◌, ◌-◌, ◌*◌, ◌%◌, ◌^◌, ◌≤◌, ◌<◌}
 use native.Mathlib.Omega.{arith}
 use native.Mathlib.Nat.{one-mul}
-use lib.Dec.{T, eqb, lit<}
+use native.Mathlib.Numerals.{add-one}
+use lib.Dec.{T, eqb, eqb→eq, lit<}
 use lib.Bits.{bit_or}
 use lib.Pow.{shl_exact}
-use lib.ListN.{length, get_or, drop, length-drop}
-use lib.Seq.{get_or-drop}
+use lib.ListN.{length, get_or, take, drop, length-drop}
+use lib.Seq.{take_all, drop-cons, drop-length}
 use borrow.Author.Tests.{ne_eqb, eq-eqb, le-leb, lt-leb}
 use Rattle.ground.specs.Digits.{bit}
-use Rattle.ground.proofs.Bools.{and_right, lt_or_ge, or_false}
+use Rattle.ground.proofs.Bools.{and_right, or_false}
 use Rattle.ground.proofs.Bits.{bit-bit_or, bit_of_zero}
 use Rattle.ground.proofs.HighBits.{power_bit}
-use Rattle.sheet_words.specs.Words.{member, split, space, is_false, bare, among, is_name, all_names, index_of, indexes, twice, true_indexes}
+use Rattle.sheet_words.specs.Words.{member, is_false, bare, among, is_name, all_names, index_of, indexes, twice, true_indexes}
 use Rattle.sheet_words.specs.Marks.{Marking, Marked, Names, are_names}
 use Rattle.sheet_words.specs.declared.names.Marks.{Marks}
-use Rattle.sheet_words.specs.declared.names.Naming.{Naming}
-use Rattle.sheet_words.specs.declared.names.Naming.TheVariants.{Stray, Of}
-use Rattle.sheet_words.proofs.NameForms.{between}
-use Rattle.sheet_words.proofs.Pieces.{part, PieceEnd}
+use Rattle.std.specs.Prelude.{Option, Some, None}
+use Rattle.sheet_words.proofs.NameForms.{three, between}
 
 pub bare_false : (w : List ℕ) → is_false w ≡ true → bare w ≡ drop 1 w
 unfolding bare
@@ -32,67 +30,55 @@ pub bare_true : (w : List ℕ) → is_false w ≡ false → bare w ≡ w
 unfolding bare
 bare_true w e = ap (λ (b : Bool). cond b (drop 1 w) w) e
 
-pub length-bare : (w : List ℕ) → is_false w ≡ true → length (bare w) ≡ length w - 1
-length-bare w e = ap length (bare_false w e) ∙ length-drop 1 w
+pub bare_behind : (w : List ℕ) → get_or w 0 0 ≡ 126 → take (length w - 1) (drop 1 w) ≡ bare w
+unfolding bare is_false
+bare_behind w e = take_all (length w - 1) (drop 1 w) (omega (arith, length-drop 1 w)) ∙ sym (bare_false w (eq-eqb (get_or w 0 0) 126 e))
 
-pub sign_false : (w : List ℕ) → is_false w ≡ true → get_or (bare w) 0 0 ≡ get_or w 1 0
-sign_false w e = ap (λ (t : List ℕ). get_or t 0 0) (bare_false w e) ∙ get_or-drop 1 w 0 0
+pub bare_whole : (w : List ℕ) → (get_or w 0 0 ≡ 126 → ⊥) → w ≡ bare w
+unfolding bare is_false
+bare_whole w ne = sym (bare_true w (ne_eqb (get_or w 0 0) 126 ne))
+
+pub bare_empty : (w : List ℕ) → length w < 1 → w ≡ bare w
+unfolding bare is_false
+bare_empty [] h = refl
+bare_empty (c ∷ w) h = absurd (omega arith)
 
 -- ---- a bit more
 
 pub with_bit : (byte i j : ℕ) → i < 8 → bit (bit_or byte ((1 * 2 ^ i) % 256)) j ≡ (bit byte j || eqb i j)
 with_bit byte i j h = bit-bit_or byte ((1 * 2 ^ i) % 256) j ∙ ap (λ (x : Bool). bit byte j || x) (ap (λ (x : ℕ). bit x j) (shl_exact 1 i 8 (lit< tt) (omega arith) ∙ one-mul (2 ^ i)) ∙ power_bit i j)
 
--- ---- a word as a name
-
-module _ (signed : Bool) (first count : ℕ) (w : List ℕ) where
-  pub name_unsigned : (signed || not (is_false w)) ≡ false → is_name signed first count w ≡ false
-  unfolding is_name
-  name_unsigned e = ap (λ (b : Bool). b && eqb (length (bare w)) 1 && among first count (get_or (bare w) 0 0)) e
-
-  pub name_long : (signed || not (is_false w)) ≡ true → (length (bare w) ≡ 1 → ⊥) → is_name signed first count w ≡ false
-  unfolding is_name
-  name_long e h = ap₂ (λ (a b : Bool). a && b && among first count (get_or (bare w) 0 0)) e (ne_eqb (length (bare w)) 1 h)
-
-  pub name_sign : (signed || not (is_false w)) ≡ true → length (bare w) ≡ 1 → is_name signed first count w ≡ among first count (get_or (bare w) 0 0)
-  unfolding is_name
-  name_sign e h = ap₂ (λ (a b : Bool). a && b && among first count (get_or (bare w) 0 0)) e (eq-eqb (length (bare w)) 1 h)
-
 -- ---- words one after the other
 
-module _ (signed : Bool) (first count : ℕ) (s : List ℕ) (at r : ℕ) (p : PieceEnd s at space r) where
-  names_cons : {rest : List (List ℕ)} → split space (drop at s) ≡ part s at r ∷ rest
-      → all_names signed first count (split space (drop at s)) ≡ (is_name signed first count (part s at r) && all_names signed first count rest)
-  unfolding all_names
-  names_cons e = ap (all_names signed first count) e
+module _ (words : List (List ℕ)) (k : ℕ) (w : List ℕ) (h : k < length words) (e : w ≡ get_or words k w) where
+  pub here : drop k words ≡ w ∷ drop (k + 1) words
+  here = rw (add-one, drop-cons words k w) (ap (λ (x : List ℕ). x ∷ drop (suc k) words) (sym e))
 
-  names_more : r < length s
-      → all_names signed first count (split space (drop at s)) ≡ (is_name signed first count (part s at r) && all_names signed first count (split space (drop (suc r) s)))
-  names_more h = names_cons (p.more h)
+  module _ (signed : Bool) (first count : ℕ) where
+    names_here : all_names signed first count (drop k words) ≡ (is_name signed first count w && all_names signed first count (drop (k + 1) words))
+    unfolding all_names
+    names_here = ap (all_names signed first count) here
 
-  names_last : length s ≤ r → all_names signed first count (split space (drop at s)) ≡ (is_name signed first count (part s at r) && true)
-  unfolding all_names
-  names_last h = names_cons (p.last h)
+    -- a word that is no name spoils them all
+    pub names_fail : is_name signed first count w ≡ false → all_names signed first count (drop k words) ≡ false
+    names_fail n = names_here ∙ ap (λ (b : Bool). b && all_names signed first count (drop (k + 1) words)) n
 
-  -- a word that is no name spoils them all
-  pub names_fail : is_name signed first count (part s at r) ≡ false → all_names signed first count (split space (drop at s)) ≡ false
-  names_fail e = elim (lt_or_ge r (length s)) [
-    | inl h ↦ names_more h ∙ ap (λ (b : Bool). b && all_names signed first count (split space (drop (suc r) s))) e
-    | inr h ↦ names_last h ∙ ap (λ (b : Bool). b && true) e
-  ]
+    -- a name leaves it to those that follow
+    pub names-on : is_name signed first count w ≡ true → all_names signed first count (drop k words) ≡ all_names signed first count (drop (k + 1) words)
+    names-on n = names_here ∙ ap (λ (b : Bool). b && all_names signed first count (drop (k + 1) words)) n
 
-  -- a name leaves it to those that follow
-  pub names-on : is_name signed first count (part s at r) ≡ true → r < length s
-      → all_names signed first count (split space (drop at s)) ≡ all_names signed first count (split space (drop (suc r) s))
-  names-on e h = names_more h ∙ ap (λ (b : Bool). b && all_names signed first count (split space (drop (suc r) s))) e
-
-  pub names_end : is_name signed first count (part s at r) ≡ true → length s ≤ r → all_names signed first count (split space (drop at s)) ≡ true
-  names_end e h = names_last h ∙ ap (λ (b : Bool). b && true) e
+pub names_end : (signed : Bool) (first count : ℕ) (words : List (List ℕ)) (k : ℕ) → k ≡ length words → all_names signed first count (drop k words) ≡ true
+unfolding all_names
+names_end signed first count words k e = ap (all_names signed first count) (ap (λ (i : ℕ). drop i words) e ∙ drop-length words)
 
 -- what a name shows
 name_among : (signed : Bool) (first count : ℕ) (w : List ℕ) → T (is_name signed first count w) → T (among first count (get_or (bare w) 0 0))
 unfolding is_name
 name_among signed first count w t = and_right ((signed || not (is_false w)) && eqb (length (bare w)) 1) (among first count (get_or (bare w) 0 0)) t
+
+pub name_one : (signed : Bool) (first count : ℕ) (w : List ℕ) → T (is_name signed first count w) → length (bare w) ≡ 1
+unfolding is_name
+name_one signed first count w t = eqb→eq (length (bare w)) 1 (three (signed || not (is_false w)) (eqb (length (bare w)) 1) (among first count (get_or (bare w) 0 0)) t).1
 
 pub name_least : (signed : Bool) (first count : ℕ) (w : List ℕ) → T (is_name signed first count w) → first ≤ get_or (bare w) 0 0
 name_least signed first count w t = (between first count (get_or (bare w) 0 0) (name_among signed first count w t)).0
@@ -167,25 +153,25 @@ module _ (signed : Bool) (first count : ℕ) (words : List (List ℕ)) where
   few_enough h = ap (λ (b : Bool). b && all_names signed first count words) (le-leb count 8 h)
 
 module _ (are : Bool) (first : ℕ) (words : List (List ℕ)) where
-  pub names_stray : are ≡ false → Names are first words Stray
-  names_stray e = subst (λ (b : Bool). Names b first words Stray) (sym e) tt
+  pub names_stray : are ≡ false → Names are first words None
+  names_stray e = subst (λ (b : Bool). Names b first words None) (sym e) tt
 
-  pub names_of : (m : Marks) → are ≡ true → Marked first words m → Names are first words (Of m)
-  names_of m e k = subst (λ (b : Bool). Names b first words (Of m)) (sym e) k
+  pub names_of : (m : Marks) → are ≡ true → Marked first words m → Names are first words (Some m)
+  names_of m e k = subst (λ (b : Bool). Names b first words (Some m)) (sym e) k
 
   -- and what an answer shows
-  module _ (r : Naming) (n : Names are first words r) where
-    pub stray_names : r ≡ Stray → are ≡ false
+  module _ (r : Option Marks) (n : Names are first words r) where
+    pub stray_names : r ≡ None → are ≡ false
     stray_names e = by_test are (subst (Names are first words) e n)
       where
-        by_test : (b : Bool) → Names b first words Stray → b ≡ false
+        by_test : (b : Bool) → Names b first words None → b ≡ false
         by_test true k = absurd k
         by_test false k = refl
 
-    pub of_names : {m : Marks} → r ≡ Of m → (are ≡ true) × Marked first words m
+    pub of_names : {m : Marks} → r ≡ Some m → (are ≡ true) × Marked first words m
     of_names {m} e = by_test are (subst (Names are first words) e n)
       where
-        by_test : (b : Bool) → Names b first words (Of m) → (b ≡ true) × Marked first words m
+        by_test : (b : Bool) → Names b first words (Some m) → (b ≡ true) × Marked first words m
         by_test true k = (refl, k)
         by_test false k = absurd k
 

@@ -1,14 +1,19 @@
 -- Where a piece ends: a byte that is no mark goes onto the piece that follows, so both end at one place; and up to there `split` takes the piece off
 -- whole. By induction on the text.
-use mathlib.Core.Path.{◌≡◌, refl, sym, ap, ◌∙◌}
+use mathlib.Core.Path.{◌≡◌, refl, sym, ap, ap₂, ◌∙◌}
 use mathlib.Core.Logic.{◌⊎◌, inl, inr}
 use mathlib.Core.List.{List, [], ◌∷◌}
 use Prim.Native.Nat.{ℕ, suc, ◌+◌, ◌-◌, ◌≤◌, ◌<◌}
 use native.Mathlib.Omega.{arith}
-use lib.ListN.{length, get_or, take, drop, length-drop, drop_of_length-le}
-use lib.Seq.{drop-drop, take_all, drop-cons}
-use Rattle.sheet_words.specs.Words.{split, onto, first_piece, piece_end}
-use Rattle.sheet_words.proofs.Split.{split_mark, split-other, by_byte}
+use lib.Dec.{eqb}
+use mathlib.Core.Bool.{Bool, true, false, not, cond}
+use Rattle.std.specs.List.{prefix_len}
+use Rattle.std.proofs.lemmas.List.Folds.{length-prefix_len}
+use lib.ListN.{length, take, drop, length-drop}
+use lib.Seq.{drop-drop, take_all, length-take-le}
+use Rattle.sheet_words.specs.Words.{split, onto, first_piece, newline, piece_end}
+use Rattle.sheet_words.specs.Lines.{LineCut}
+use Rattle.sheet_words.proofs.Split.{by_byte}
 
 -- ---- the end, a byte at a time
 
@@ -17,26 +22,20 @@ unfolding onto first_piece
 onto-first c [] = refl
 onto-first c (piece ∷ pieces) = refl
 
-module _ (s : List ℕ) (i mark : ℕ) where
-  pub end_past : length s ≤ i → piece_end s i mark ≡ i
-  unfolding piece_end split first_piece
-  end_past h = ap (λ (t : List ℕ). i + length (first_piece (split mark t))) (drop_of_length-le s h) ∙ omega arith
+-- as many bytes as stand before the first mark
+first-length : (mark : ℕ) (s : List ℕ) → prefix_len (λ c. not (eqb c mark)) s ≡ length (first_piece (split mark s))
+unfolding split first_piece
+first-length mark [] = refl
+first-length mark (c ∷ s) = go (eqb c mark) (first-length mark s)
+  where
+    go : (b : Bool) → prefix_len (λ c. not (eqb c mark)) s ≡ length (first_piece (split mark s)) → cond (not b) (1 + prefix_len (λ c. not (eqb c mark)) s) 0 ≡ length (first_piece (cond b ([] ∷ split mark s) (onto c (split mark s))))
+    go true e = refl
+    go false e = omega (arith, ap length (onto-first c (split mark s)))
 
-  module _ (h : i < length s) where
-    first-at : {pieces : List (List ℕ)} → split mark (get_or s i 0 ∷ drop (suc i) s) ≡ pieces → piece_end s i mark ≡ i + length (first_piece pieces)
-    unfolding piece_end
-    first-at e = ap (λ (q : List (List ℕ)). i + length (first_piece q)) (ap (split mark) (drop-cons s i 0 h) ∙ e)
-
-    pub end_mark : get_or s i 0 ≡ mark → piece_end s i mark ≡ i
-    unfolding first_piece
-    end_mark e = first-at (ap (λ (c : ℕ). split mark (c ∷ drop (suc i) s)) e ∙ split_mark mark (drop (suc i) s)) ∙ omega arith
-
-    pub end_other : (get_or s i 0 ≡ mark → ⊥) → piece_end s i mark ≡ piece_end s (suc i) mark
-    unfolding piece_end
-    end_other ne =
-        first-at (split-other mark (get_or s i 0) (drop (suc i) s) ne)
-        ∙ ap (λ (p : List ℕ). i + length p) (onto-first (get_or s i 0) (split mark (drop (suc i) s)))
-        ∙ omega arith
+pub end_counted : (s : List ℕ) (at mark n : ℕ) → n ≡ length (take (prefix_len (λ c. not (eqb c mark)) (drop at s)) (drop at s)) → at + n ≡ piece_end s at mark
+unfolding piece_end
+end_counted s at mark n e =
+    ap (λ (k : ℕ). at + k) (e ∙ length-prefix_len (λ c. not (eqb c mark)) (drop at s) ∙ first-length mark (drop at s))
 
 -- ---- the piece that ends there
 
@@ -94,3 +93,22 @@ module _ (s : List ℕ) (at mark r : ℕ) (inside : at ≤ length s) (e : r ≡ 
 -- all from a place on, as a part of a slice has it
 pub tail : (s : List ℕ) (a : ℕ) → take (length s - a) (drop a s) ≡ drop a s
 tail s a = take_all (length s - a) (drop a s) (omega (arith, length-drop a s))
+
+-- the first line and what follows it, as parts of a slice have them
+module _ (s : List ℕ) (r : ℕ) (e : r ≡ piece_end s 0 newline) where
+  whole : PieceEnd s 0 newline r
+  whole = piece_is s 0 newline r (omega arith) e
+
+  pub line_cut : r < length s → LineCut s (take r s) (take (length s - (r + 1)) (drop (r + 1) s))
+  line_cut h =
+      let n = length-take-le r s (omega arith) in
+      let t = tail s (r + 1) in
+      record {
+        pieces = whole.more h ∙ ap₂ (λ (k : ℕ) (t : List ℕ). take k s ∷ split newline t) {x = r - 0} {y = r} (omega arith) (ap (λ (k : ℕ). drop k s) {x = suc r} {y = r + 1} (omega arith) ∙ sym t);
+        line_is = ap (λ (k : ℕ). take k s) (sym n);
+        rest_is = t ∙ ap (λ (k : ℕ). drop (k + 1) s) (sym n);
+        lengths = omega (arith, n, ap length t, length-drop (r + 1) s);
+      }
+
+  pub no_line : length s ≤ r → split newline s ≡ s ∷ []
+  no_line h = whole.last h ∙ ap (λ (t : List ℕ). t ∷ []) (take_all (r - 0) s (omega arith))

@@ -6,6 +6,16 @@ use Prim.Native.Nat.{ℕ, suc, ◌≤◌}
 use native.Mathlib.Omega.{arith}
 use lib.Dec.{eqb, eqb→eq, eqb_refl, not_T}
 use lib.ListN.{length}
+use mathlib.Core.Bool.{Bool, false, cond}
+use denote.Param.Members.{Mut}
+use denote.Ref.{Bor}
+use Rattle.std.specs.Fn.{CalledAt}
+use Rattle.std.specs.declared.slice.Split.{Split}
+use Rattle.std.specs.Slice.Iter.{split_steps, split_rest, split_done, split_callee}
+use Rattle.std.proofs.lemmas.Iterator.{YieldsList}
+use Rattle.std.proofs.lemmas.Iterator.Consumers.{YieldsList-at}
+use Rattle.std.proofs.lemmas.Iterator.Splits.{YieldsList-from_slice_split}
+use Rattle.std.specs.List.{slice_split, onto_first}
 use Rattle.ground.proofs.Bools.{T→true, T→false, eq→eqb, decide, both}
 use Rattle.sheet_words.specs.Words.{onto, split}
 
@@ -114,3 +124,22 @@ split-length mark [] = omega arith
 split-length mark (c ∷ s) =
     by_byte mark (λ c s q. length (split mark s) ≤ suc (length s) → length q ≤ suc (suc (length s))) (λ s l. omega arith)
     (λ c s other l. omega (arith, onto-length c (split mark s))) c s (split-length mark s)
+
+-- what std's `split` gives, at a closure that finds the mark
+onto-slice : (c : ℕ) (q : List (List ℕ)) → onto_first c q ≡ onto c q
+unfolding onto
+onto-slice c [] = refl
+onto-slice c (p ∷ q) = refl
+
+pub split-slice : (mark : ℕ) (s : List ℕ) → slice_split (λ b. eqb b mark) s ≡ split mark s
+unfolding split
+split-slice mark [] = refl
+split-slice mark (c ∷ s) = ap (λ (q : List (List ℕ)). cond (eqb c mark) ([] ∷ q) (onto_first c q)) (split-slice mark s)
+    ∙ ap (cond (eqb c mark) ([] ∷ split mark s)) (onto-slice c (split mark s))
+
+-- so that is what a `for` over it meets
+pub YieldsList-from_split : {F : Type 0} {s i : Split ℕ F} (g : Mut F (Bor ℕ × Unit {0}) Bool) (mark : ℕ) {f : F} (t : List ℕ) →
+    split_rest s ≡ t → split_done s ≡ false → split_callee s ≡ f → ((x : ℕ) (b : Bool) (q : F) → CalledAt g f x b q → (q ≡ f) × (b ≡ eqb x mark)) →
+    i ≡ s → YieldsList (split_steps g) (λ x. x.now) i (split mark t)
+YieldsList-from_split g mark t rest done callee test same =
+    rw (← split-slice mark t) (YieldsList-at same (YieldsList-from_slice_split g (λ b. eqb b mark) t rest done callee test))

@@ -1,10 +1,8 @@
 -- What a line of a text may do: it is at fault, or the text goes on with something more stated. "22, 23, the formula's number", in this order.
-use Rattle.std.specs.Prelude.{Bool, true, false, not, List, ℕ}
+use Rattle.std.specs.Prelude.{Bool, true, false, not, List, ℕ, Result, Ok, Err}
 use Rattle.refusal.specs.declared.Refusal.{Refusal}
 use Rattle.refusal.specs.declared.Refusal.TheVariants.{Malformed, Twice}
 use Rattle.formula.specs.Computed.{formula_answer}
-use Rattle.formula.specs.declared.Answer.{Answer}
-use Rattle.formula.specs.declared.Answer.TheVariants.{Accepted, Refused}
 use Rattle.sheet_words.specs.Words.{twice}
 
 -- a fault, with its refusal; or what is stated then
@@ -18,9 +16,9 @@ unless true r later = later
 unless false r later = fault r
 
 -- the formula's refusal unless F is a formula of n settings
-abbrev pub unless_answered : {A : Type 0} → Answer → Step A → Step A
-unless_answered Accepted later = later
-unless_answered (Refused r) later = fault r
+abbrev pub unless_answered : {A : Type 0} → Result (Unit {0}) Refusal → Step A → Step A
+unless_answered (Ok x) later = later
+unless_answered (Err r) later = fault r
 
 unfoldable pub unless_refused : {A : Type 0} → ℕ → List ℕ → Step A → Step A
 unless_refused n F later = unless_answered (formula_answer n F) later

@@ -1,4 +1,5 @@
 -- What each fault is, as the request lists it: the causes of 27, and that 29 is of looks alone.
+use Rattle.std.specs.Prelude.{Option, Some, None}
 use mathlib.Core.Path.{◌≡◌, refl, sym, ap, ◌∙◌}
 use mathlib.Core.Logic.{inl, inr}
 use mathlib.Core.List.{List}
@@ -12,8 +13,6 @@ use Rattle.ground.proofs.Bools.{lt_or_ge}
 use Rattle.knowledge_acts.specs.Acts.{setting_of, post_of, of_kind, act_of}
 use Rattle.knowledge_acts.specs.declared.act.Act.{Act}
 use Rattle.knowledge_acts.specs.declared.act.Act.TheVariants.{Set, Look}
-use Rattle.knowledge_acts.specs.declared.act.Named.{Named}
-use Rattle.knowledge_acts.specs.declared.act.Named.TheVariants.{One, Nothing}
 use Rattle.knowledge_acts.proofs.Acts.{setting_of_kind, post_of_kind, kind_look}
 use Rattle.station.specs.Station.{allowed, seen_most}
 use Rattle.station.specs.Shift.{IsRecord, no_record, disagrees, IsAtFault}
@@ -24,15 +23,15 @@ use Rattle.station.proofs.RecordLaws.{one_act, names-none}
 abbrev act_at : ℕ → Act
 act_at c = of_kind ((c - 1) / 56) ((c - 1) / 8 % 7) ((c - 1) % 8)
 
-named-at : (c : ℕ) → 1 ≤ c → c ≤ 168 → act_of c ≡ One (act_at c)
+named-at : (c : ℕ) → 1 ≤ c → c ≤ 168 → act_of c ≡ Some (act_at c)
 unfolding act_of
 named-at c h k = rw (lt-ltb 0 c h, le-leb c 168 k)
 
-none-low : act_of 0 ≡ Nothing
+none-low : act_of 0 ≡ None
 unfolding act_of
 none-low = refl
 
-none-high : (c : ℕ) → 168 < c → act_of c ≡ Nothing
+none-high : (c : ℕ) → 168 < c → act_of c ≡ None
 unfolding act_of
 none-high c h = rw (lt-ltb 0 c (omega arith), lt-leb c 168 h)
 
@@ -59,8 +58,8 @@ pub data NoRecordSince (n m c s : ℕ) : Type 0 where
   set-not_0 : c ≤ 112 → 0 < s → NoRecordSince n m c s
 
 module _ (n m : ℕ) (book : List ℕ) (v c s : ℕ) where
-  abbrev None : Type 0
-  None = IsAtFault no_record n m book v (act_of c) s
+  abbrev Unrecorded : Type 0
+  Unrecorded = IsAtFault no_record n m book v (act_of c) s
 
   -- a byte from 1 to 168 names its own act and no other
   own_act : 1 ≤ c → c ≤ 168 → (a : Act) → IsRecord n m (act_of c) s a → (setting_of a ≡ (c - 1) / 8 % 7) × (post_of a ≡ (c - 1) % 8) × (seen_most a ≡ seen_most (act_at c))
@@ -71,11 +70,11 @@ module _ (n m : ℕ) (book : List ℕ) (v c s : ℕ) where
         ap seen_most same,
       )
 
-  no_act : act_of c ≡ Nothing → None
+  no_act : act_of c ≡ None → Unrecorded
   no_act e a r = names-none (sym e ∙ r.names)
 
   -- within 1 to 168, each other cause
-  since_act : 1 ≤ c → c ≤ 168 → NoRecordSince n m c s → None
+  since_act : 1 ≤ c → c ≤ 168 → NoRecordSince n m c s → Unrecorded
   since_act h k (byte_0 e) a r = omega arith
   since_act h k (byte_over_168 l) a r = omega arith
   since_act h k (setting-past-n l) a r = let o = own_act h k a r in omega (arith, o.0, l, (book_has n m a r.of_book_case).0)
@@ -83,7 +82,7 @@ module _ (n m : ℕ) (book : List ℕ) (v c s : ℕ) where
   since_act h k (seen_over_1 l) a r = omega (arith, l, r.second, seen_most_lem a)
   since_act h k (set-not_0 i l) a r = let o = own_act h k a r in omega (arith, o.2, l, r.second, seen_set c h i)
 
-  pub since_none : NoRecordSince n m c s → None
+  pub since_none : NoRecordSince n m c s → Unrecorded
   since_none x = elim (lt_or_ge 0 c) [
     | inl h ↦ (elim (lt_or_ge 168 c) [ inl l ↦ no_act (none-high c l) | inr k ↦ since_act h k x ])
     | inr h ↦ (let e : c ≡ 0 = omega arith in no_act (ap act_of e ∙ none-low))
@@ -98,7 +97,7 @@ module _ (n m : ℕ) (book : List ℕ) (v c s : ℕ) where
     second = l;
   }
 
-  pub none_since : None → NoRecordSince n m c s
+  pub none_since : Unrecorded → NoRecordSince n m c s
   none_since none = elim (lt_or_ge 0 c) [
     | inr h ↦ byte_0 (omega arith)
     | inl h ↦ (elim (lt_or_ge 168 c) [
@@ -124,8 +123,8 @@ module _ (n m : ℕ) (book : List ℕ) (v c s : ℕ) where
 
 -- ---- 29: "a look that disagrees", on a setting whose value is the other one
 
-pub disagrees_look : (n m : ℕ) (book : List ℕ) (v : ℕ) (named : Named) (s : ℕ) → IsAtFault disagrees n m book v named s
-    → (i : ℕ) × (q : ℕ) × (named ≡ One (Look i q)) × T (allowed book v (Look i q)) × (s ≡ 1 - v / 2 ^ i % 2)
+pub disagrees_look : (n m : ℕ) (book : List ℕ) (v : ℕ) (named : Option Act) (s : ℕ) → IsAtFault disagrees n m book v named s
+    → (i : ℕ) × (q : ℕ) × (named ≡ Some (Look i q)) × T (allowed book v (Look i q)) × (s ≡ 1 - v / 2 ^ i % 2)
 disagrees_look n m book v named s (Set i q b, r, t, unlike) = absurd (unlike (omega (arith, r.second)))
 disagrees_look n m book v named s (Look i q, r, t, unlike) =
     let shows = look_shows v i q in

@@ -1,5 +1,6 @@
 -- The contract of `replay` allows one answer alone: no record is both faultless and at fault, nor at fault for two things, so two answers have come equally
 -- far; and none of the rows is given where a shift is played.
+use Rattle.std.specs.Prelude.{Option, Result, Ok, Err}
 use mathlib.Core.Path.{◌≡◌, refl, sym, ap, ap₂, ◌∙◌, subst}
 use mathlib.Core.Logic.{inl, inr}
 use mathlib.Core.List.{List}
@@ -14,10 +15,9 @@ use Rattle.book_sound.proofs.SoundLaws.{sound-settings, sound-clear}
 use Rattle.book_sound.proofs.Theorems.{sound-one}
 use Rattle.knowledge_acts.specs.Acts.{act_of}
 use Rattle.knowledge_acts.specs.declared.act.Act.{Act}
-use Rattle.knowledge_acts.specs.declared.act.Named.{Named}
 use Rattle.station.specs.declared.record.Running.{Running}
 use Rattle.station.specs.declared.shift.Replayed.{Replayed}
-use Rattle.station.specs.declared.shift.Replayed.TheVariants.{Whole, Stopped, Refused}
+use Rattle.station.specs.declared.shift.Replayed.TheVariants.{Whole, Stopped}
 use Rattle.station.specs.Station.{allowed, shown}
 use Rattle.station.specs.Shift.{act_byte, seen_byte, settings_at, IsRecord, IsFaultless, RecordFault, no_record, not_allowed, disagrees}
 use Rattle.station.specs.Shift.{IsAtFault, fault_at, Reached, StopsAt}
@@ -27,10 +27,10 @@ use Rattle.station.proofs.RecordLaws.{one_act}
 -- ---- one record
 
 -- it is of one act
-record_one : {n m : ℕ} {named : Named} {seen : ℕ} {a b : Act} → IsRecord n m named seen a → IsRecord n m named seen b → a ≡ b
+record_one : {n m : ℕ} {named : Option Act} {seen : ℕ} {a b : Act} → IsRecord n m named seen a → IsRecord n m named seen b → a ≡ b
 record_one r s = one_act (sym r.names ∙ s.names)
 
-module _ (n m : ℕ) (book : List ℕ) (v : ℕ) (named : Named) (seen : ℕ) where
+module _ (n m : ℕ) (book : List ℕ) (v : ℕ) (named : Option Act) (seen : ℕ) where
   allowed_of : {a b : Act} → IsRecord n m named seen a → IsRecord n m named seen b → T (allowed book v a) → T (allowed book v b)
   allowed_of r s t = subst (λ (a : Act). T (allowed book v a)) (record_one r s) t
 
@@ -90,7 +90,6 @@ module _ (n m : ℕ) (book : List ℕ) (start : ℕ) (shift : List ℕ) where
   pub plays-one : (x y : Replayed) → Plays n m book start shift x → Plays n m book start shift y → x ≡ y
   plays-one (Whole running) (Whole other) (r, e) (o, f) = ap Whole (reached-one running other r o (e ∙ sym f))
   plays-one (Whole running) (Stopped why other) (r, e) (o, t) = absurd (not-past other running why o t r (omega (arith, e, t.more)))
-  plays-one (Whole running) (Refused why) p q = absurd q
   plays-one (Stopped why running) (Whole other) (r, s) (o, f) = absurd (not-past running other why r s o (omega (arith, f, s.more)))
   plays-one (Stopped why running) (Stopped also other) (r, s) (o, t) =
       let same : running.count ≡ other.count = elim (lt_or_ge running.count other.count) [
@@ -98,8 +97,6 @@ module _ (n m : ℕ) (book : List ℕ) (start : ℕ) (shift : List ℕ) where
         | inr g ↦ (elim (lt_or_ge other.count running.count) [ inl l ↦ absurd (not-past other running also o t r l) | inr h ↦ omega arith ])
       ] in
       ap₂ Stopped (stopped-one running other why also r s o t same) (reached-one running other r o same)
-  plays-one (Stopped why running) (Refused also) p q = absurd q
-  plays-one (Refused why) y p q = absurd p
 
 -- ---- one answer
 
@@ -117,13 +114,8 @@ module _ (book : List ℕ) (start : ℕ) (shift : List ℕ) where
       plays-one q.n q.m book start shift x y
       (subst (λ (n : ℕ). Plays n q.m book start shift x) e.0 (subst (λ (m : ℕ). Plays p.n m book start shift x) e.1 p.plays)) q.plays
 
-  pub replays-one : (x y : Replayed) → Replays book start shift x → Replays book start shift y → x ≡ y
-  replays-one (Whole running) (Whole other) p q = played_one p q
-  replays-one (Whole running) (Stopped why other) p q = played_one p q
-  replays-one (Whole running) (Refused why) p q = first-clear q (played_clear p)
-  replays-one (Stopped why running) (Whole other) p q = played_one p q
-  replays-one (Stopped why running) (Stopped also other) p q = played_one p q
-  replays-one (Stopped why running) (Refused also) p q = first-clear q (played_clear p)
-  replays-one (Refused why) (Whole other) p q = first-clear p (played_clear q)
-  replays-one (Refused why) (Stopped also other) p q = first-clear p (played_clear q)
-  replays-one (Refused why) (Refused also) p q = ap Refused (first_unique p q)
+  pub replays-one : (x y : Result Replayed Refusal) → Replays book start shift x → Replays book start shift y → x ≡ y
+  replays-one (Ok answer) (Ok other) p q = ap Ok (played_one p q)
+  replays-one (Ok answer) (Err why) p q = first-clear q (played_clear p)
+  replays-one (Err why) (Ok other) p q = first-clear p (played_clear q)
+  replays-one (Err why) (Err also) p q = ap Err (first_unique p q)

@@ -1,14 +1,14 @@
 -- A shift, record by record: what was reached grows by each record that is faultless, and a record at fault ends it.
+use Rattle.std.specs.Prelude.{Ok, Err}
 use mathlib.Core.Path.{◌≡◌, ap, subst}
 use mathlib.Core.List.{List}
-use Prim.Native.Nat.{ℕ, suc, ◌+◌, ◌≤◌, ◌<◌}
+use Prim.Native.Nat.{ℕ, suc, ◌+◌, ◌<◌}
 use native.Mathlib.Omega.{arith}
 use Rattle.ground.proofs.Search.{below_suc}
 use Rattle.knowledge_acts.specs.Acts.{act_of}
 use Rattle.refusal.specs.declared.Refusal.{Refusal}
 use Rattle.station.specs.declared.record.Running.{Running}
-use Rattle.station.specs.declared.judge.Judged.TheVariants.{Faultless, AtFault}
-use Rattle.station.specs.declared.shift.Replayed.TheVariants.{Whole, Stopped}
+use Rattle.station.specs.declared.shift.Replayed.TheVariants.{Stopped}
 use Rattle.station.specs.Station.{leaves}
 use Rattle.station.specs.Shift.{records, act_byte, seen_byte, settings_at, IsFaultless, stepped_by, Reached}
 use Rattle.station.specs.Replay.{Plays}
@@ -30,7 +30,7 @@ module _ (n m : ℕ) (book : List ℕ) (start : ℕ) (shift : List ℕ) where
   module _ (running : Running) (reached : Reached n m book start shift running) where
     -- after one that is faultless
     pub reached-more : (next : Running) → running.count < records shift
-        → Judges n m book running.present.0 running.count (act_of (act_byte shift running.count)) (seen_byte shift running.count) Faultless
+        → Judges n m book running.present.0 running.count (act_of (act_byte shift running.count)) (seen_byte shift running.count) (Ok tt)
         → next ≡ stepped_by running (act_byte shift running.count) → Reached n m book start shift next
     unfolding settings_at
     reached-more next more judged e =
@@ -46,10 +46,6 @@ module _ (n m : ℕ) (book : List ℕ) (start : ℕ) (shift : List ℕ) where
 
     -- at one that is not
     pub plays-stopped : (why : Refusal) → running.count < records shift
-        → Judges n m book running.present.0 running.count (act_of (act_byte shift running.count)) (seen_byte shift running.count) (AtFault why)
+        → Judges n m book running.present.0 running.count (act_of (act_byte shift running.count)) (seen_byte shift running.count) (Err why)
         → Plays n m book start shift (Stopped why running)
     plays-stopped why more judged = (reached, record { more = more; fault = judged.0; why_is = judged.1; at_fault = judged.2 })
-
-    -- after the last
-    pub plays-whole : records shift ≤ running.count → Plays n m book start shift (Whole running)
-    plays-whole last = (reached, omega (arith, reached.there))

@@ -1,14 +1,13 @@
 -- "Given a book and a true starting valuation, play the acts on the real settings [..] Give the count of acts done, the valuation they leave, and the first act
 -- that the station's rules did not allow". What `replay` answers, for every book, starting valuation and shift.
-use Rattle.std.specs.Prelude.{◌≡◌, List, [], ◌∷◌, ◌++◌, ℕ, ◌%◌, ◌^◌, ◌<◌, length}
+use Rattle.std.specs.Prelude.{◌≡◌, List, [], ◌∷◌, ◌++◌, ℕ, ◌%◌, ◌^◌, ◌<◌, length, Result, Ok, Err}
 use Rattle.refusal.specs.declared.Refusal.{Refusal}
 use Rattle.refusal.specs.declared.Refusal.TheVariants.{Shift}
 use Rattle.refusal.specs.Order.{Row, when, First}
 use Rattle.book_sound.specs.Sound.{Sound}
 use Rattle.book_sound.specs.Rows.{settings_of, book_rows}
-use Rattle.station.specs.declared.record.Running.{Running}
 use Rattle.station.specs.declared.shift.Replayed.{Replayed}
-use Rattle.station.specs.declared.shift.Replayed.TheVariants.{Whole, Stopped, Refused}
+use Rattle.station.specs.declared.shift.Replayed.TheVariants.{Whole, Stopped}
 use Rattle.station.specs.Shift.{records, Reached, StopsAt}
 
 -- 26 denies this: "odd length or a starting valuation not below 2^n"
@@ -24,7 +23,6 @@ replay_rows book start shift = book_rows book ++ (when (ShiftFits (settings_of b
 abbrev pub Plays : ℕ → ℕ → List ℕ → ℕ → List ℕ → Replayed → Type 0
 Plays n m book start shift (Whole running) = Reached n m book start shift running × (running.count ≡ records shift)
 Plays n m book start shift (Stopped why running) = Reached n m book start shift running × StopsAt n m book shift running why
-Plays n m book start shift (Refused why) = ⊥
 
 -- a sound book of n settings and m posts, a shift that can be played, and the answer to it
 pub record PlaysAs (book : List ℕ) (start : ℕ) (shift : List ℕ) (answer : Replayed) : Type 0 where
@@ -35,7 +33,6 @@ pub record PlaysAs (book : List ℕ) (start : ℕ) (shift : List ℕ) (answer : 
   pub plays : Plays n m book start shift answer
 
 -- a refusal before any record is read gives no count and no valuation
-abbrev pub Replays : List ℕ → ℕ → List ℕ → Replayed → Type 0
-Replays book start shift (Whole running) = PlaysAs book start shift (Whole running)
-Replays book start shift (Stopped why running) = PlaysAs book start shift (Stopped why running)
-Replays book start shift (Refused why) = First (replay_rows book start shift) why
+abbrev pub Replays : List ℕ → ℕ → List ℕ → Result Replayed Refusal → Type 0
+Replays book start shift (Ok answer) = PlaysAs book start shift answer
+Replays book start shift (Err why) = First (replay_rows book start shift) why

@@ -1,10 +1,8 @@
 -- A recorded shift: "two bytes an act, the act byte and what was seen (0 or 1; 0 for a set)". Played from a true starting valuation, it stops at "the first
 -- act that the station's rules did not allow on the true settings".
-use Rattle.std.specs.Prelude.{◌≡◌, List, ℕ, zero, suc, ◌+◌, ◌*◌, ◌/◌, ◌≤◌, ◌<◌, T, length, get_or}
+use Rattle.std.specs.Prelude.{◌≡◌, List, ℕ, zero, suc, ◌+◌, ◌*◌, ◌/◌, ◌≤◌, ◌<◌, T, length, get_or, Option, Some}
 use Rattle.knowledge_acts.specs.Acts.{act_of}
 use Rattle.knowledge_acts.specs.declared.act.Act.{Act}
-use Rattle.knowledge_acts.specs.declared.act.Named.{Named}
-use Rattle.knowledge_acts.specs.declared.act.Named.TheVariants.{One}
 use Rattle.refusal.specs.declared.Refusal.{Refusal}
 use Rattle.refusal.specs.declared.Refusal.TheVariants.{NoRecord, NotAllowed, Disagrees}
 use Rattle.station.specs.declared.record.Running.{Running}
@@ -26,13 +24,13 @@ settings_at v shift zero = v
 settings_at v shift (suc k) = leaves (settings_at v shift k) (act_of (act_byte shift k))
 
 -- a record of an act of the book: 27 denies this. "no act of this book or a second byte that is not 0 or 1 (not 0 for a set)"
-pub record IsRecord (n m : ℕ) (named : Named) (seen : ℕ) (a : Act) : Type 0 where
-  pub names : named ≡ One a
+pub record IsRecord (n m : ℕ) (named : Option Act) (seen : ℕ) (a : Act) : Type 0 where
+  pub names : named ≡ Some a
   pub of_book_case : T (of_book n m a)
   pub second : seen ≤ seen_most a
 
 -- on the settings v: an act of the book, allowed there, that showed what was recorded
-pub record IsFaultless (n m : ℕ) (book : List ℕ) (v : ℕ) (named : Named) (seen : ℕ) : Type 0 where
+pub record IsFaultless (n m : ℕ) (book : List ℕ) (v : ℕ) (named : Option Act) (seen : ℕ) : Type 0 where
   pub act_done : Act
   pub is_record_case : IsRecord n m named seen act_done
   pub was_allowed : T (allowed book v act_done)
@@ -48,7 +46,7 @@ pub data RecordFault : Type 0 where
   disagrees : RecordFault
 
 -- "in this order": a later fault is one only where no earlier one is
-abbrev pub IsAtFault : RecordFault → ℕ → ℕ → List ℕ → ℕ → Named → ℕ → Type 0
+abbrev pub IsAtFault : RecordFault → ℕ → ℕ → List ℕ → ℕ → Option Act → ℕ → Type 0
 IsAtFault no_record n m book v named seen = (a : Act) → IsRecord n m named seen a → ⊥
 IsAtFault not_allowed n m book v named seen = (a : Act) × IsRecord n m named seen a × (T (allowed book v a) → ⊥)
 IsAtFault disagrees n m book v named seen = (a : Act) × IsRecord n m named seen a × T (allowed book v a) × (seen ≡ shown v a → ⊥)

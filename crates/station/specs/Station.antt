@@ -1,6 +1,6 @@
 -- The station on true settings. A post of the book may do an act where its rule is true at the present valuation: any post, in a team or not, looks at
 -- settings that are known too. A set changes its setting; a look shows the present value. No word of knowledge: v is what the settings really are.
-use Rattle.std.specs.Prelude.{Bool, true, false, ◌&&◌, List, ℕ, ltb}
+use Rattle.std.specs.Prelude.{Bool, true, false, ◌&&◌, List, ℕ, ltb, Option, Some, None}
 use Rattle.ground.specs.Digits.{bit}
 use Rattle.ground.specs.Table.{truth}
 use Rattle.book_block.specs.Rule.{rule}
@@ -9,8 +9,6 @@ use Rattle.book_block.specs.declared.rule.Right.TheVariants.{Look as look-rule, 
 use Rattle.knowledge_acts.specs.Acts.{setting_of, post_of}
 use Rattle.knowledge_acts.specs.declared.act.Act.{Act}
 use Rattle.knowledge_acts.specs.declared.act.Act.TheVariants.{Set, Look}
-use Rattle.knowledge_acts.specs.declared.act.Named.{Named}
-use Rattle.knowledge_acts.specs.declared.act.Named.TheVariants.{One, Nothing}
 use Rattle.plan.specs.Runs.{change}
 
 -- an "act of this book": its setting is one of the n, and its post one of the m
@@ -50,6 +48,6 @@ seen_most (Set i q b) = 0
 seen_most (Look i q) = 1
 
 -- the settings after the act that a byte names; what is no act changes nothing
-abbrev pub leaves : ℕ → Named → ℕ
-leaves v Nothing = v
-leaves v (One a) = left_by v a
+abbrev pub leaves : ℕ → Option Act → ℕ
+leaves v None = v
+leaves v (Some a) = left_by v a

@@ -8,7 +8,7 @@ ghost use Rattle.station.specs.Inner.{rule_at};
 
 use book_block::{Right, rule_at};
 use ground::{Present, bit_of};
-use knowledge_acts::{Act, Named};
+use knowledge_acts::Act;
 
 // How many valuations a table tells of.
 const VALUATIONS: u8 = 128;
@@ -19,12 +19,7 @@ fn setting_of(act: Act) -> u8
     ensures { result ≡ setting_of act }
 {
     match act {
-        Act::Set {
-            setting,
-            post: _,
-            value: _,
-        } => setting,
-        Act::Look { setting, post: _ } => setting,
+        Act::Set { setting, .. } | Act::Look { setting, .. } => setting,
     }
 }
 
@@ -32,12 +27,7 @@ fn post_of(act: Act) -> u8
     ensures { result ≡ post_of act }
 {
     match act {
-        Act::Set {
-            setting: _,
-            post,
-            value: _,
-        } => post,
-        Act::Look { setting: _, post } => post,
+        Act::Set { post, .. } | Act::Look { post, .. } => post,
     }
 }
 
@@ -45,26 +35,17 @@ fn right_of(act: Act) -> Right
     ensures { result ≡ right_of act }
 {
     match act {
-        Act::Set {
-            setting: _,
-            post: _,
-            value: _,
-        } => Right::Set,
-        Act::Look {
-            setting: _,
-            post: _,
-        } => Right::Look,
+        Act::Set { .. } => Right::Set,
+        Act::Look { .. } => Right::Look,
     }
 }
 
 // Whether it is an act of a book of n settings and m posts, whoever is in a team.
+#[tactic(auto, unfolding(crate::specs::Station::of_book))]
 pub(crate) fn is_of_book(n: u8, m: u8, act: Act) -> bool
     ensures { result ≡ of_book n m act }
 {
-    if setting_of(act) < n {
-        return post_of(act) < m;
-    }
-    false
+    setting_of(act) < n && post_of(act) < m
 }
 
 // Whether such an act can be recorded with this second byte: 0 for a set, 0 or 1 for a look.
@@ -72,19 +53,13 @@ pub(crate) fn can_record(act: Act, seen: u8) -> bool
     ensures { result ≡ leb seen (seen_most act) }
 {
     match act {
-        Act::Set {
-            setting: _,
-            post: _,
-            value: _,
-        } => seen <= 0,
-        Act::Look {
-            setting: _,
-            post: _,
-        } => seen <= 1,
+        Act::Set { .. } => seen == 0,
+        Act::Look { .. } => seen <= 1,
     }
 }
 
 // Where the table of the act's rule begins in the book.
+#[tactic(auto, unfolding(crate::specs::Inner::rule_at))]
 fn rule_of(book: &[u8], act: Act) -> usize
     ensures { result ≡ rule_at book.now act }
 {
@@ -95,10 +70,7 @@ fn rule_of(book: &[u8], act: Act) -> usize
 pub(crate) fn allows(book: &[u8], present: Present, act: Act) -> bool
     ensures { result ≡ allowed book.now present.0 act }
 {
-    if VALUATIONS <= present.0 {
-        return false;
-    }
-    present.finds(book, rule_of(book, act))
+    present.0 < VALUATIONS && present.finds(book, rule_of(book, act))
 }
 
 // What the act shows: a look the present value, a set nothing, which is recorded as 0.
@@ -106,12 +78,8 @@ pub(crate) fn shows(present: Present, act: Act) -> u8
     ensures { result ≡ shown present.0 act }
 {
     match act {
-        Act::Set {
-            setting: _,
-            post: _,
-            value: _,
-        } => 0,
-        Act::Look { setting, post: _ } => bit_of(present.0, setting) as u8,
+        Act::Set { .. } => 0,
+        Act::Look { setting, .. } => bit_of(present.0, setting) as u8,
     }
 }
 
@@ -130,17 +98,7 @@ pub(crate) fn after(present: Present, byte: u8) -> Present
     ensures { result.0 ≡ leaves present.0 (act_of byte) }
 {
     match Act::of_byte(byte) {
-        Named::Nothing => present,
-        Named::One(act) => match act {
-            Act::Set {
-                setting,
-                post: _,
-                value,
-            } => Present(changed(present.0, setting, value)),
-            Act::Look {
-                setting: _,
-                post: _,
-            } => present,
-        },
+        Some(Act::Set { setting, value, .. }) => Present(changed(present.0, setting, value)),
+        Some(Act::Look { .. }) | None => present,
     }
 }

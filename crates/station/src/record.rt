@@ -1,5 +1,5 @@
 // "The replay has one running record that each act updates": a small struct that is lent, and one thin
-// function over it. Every other caller uses `stepped`, which has plain values for parameters.
+// function over it.
 ghost use Rattle.std.specs.Prelude.{◌≡◌, ◌+◌, ◌^◌, ◌<◌};
 ghost use Rattle.station.specs.Shift.{stepped_by};
 
@@ -21,15 +21,5 @@ pub(crate) fn step(running: &mut Running, byte: u8)
     ensures { running.new ≡ stepped_by running.old byte }
 {
     running.present = after(running.present, byte);
-    running.count = running.count + 1;
-}
-
-// The record after an act was done.
-pub(crate) fn stepped(running: Running, byte: u8) -> Running
-    requires { running.count + 1 < 2 ^ 64 }
-    ensures { result ≡ stepped_by running byte }
-{
-    let mut next = running;
-    step(&mut next, byte);
-    next
+    running.count += 1;
 }

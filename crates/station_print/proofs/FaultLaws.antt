@@ -1,4 +1,5 @@
 -- The line of an act at fault, by the tests that its writing makes.
+use Rattle.std.specs.Option.{unwrap_or}
 use mathlib.Core.Path.{◌≡◌, sym, ap, ◌∙◌}
 use mathlib.Core.Bool.{Bool, true, false, cond}
 use mathlib.Core.List.{List, ◌∷◌, ◌++◌, append-nil}
@@ -16,7 +17,7 @@ use Rattle.station_print.specs.Faults.{line_said, place_text, record_words, faul
 
 module _ (shift : List ℕ) (index : ℕ) where
   abbrev line_number : ℕ
-  line_number = line_of 1 index (split newline shift)
+  line_number = unwrap_or (line_of 1 index (split newline shift)) 0
 
   pub place-bytes : is_text shift ≡ false → bytes "act " ++ decimal index ≡ place_text shift index
   unfolding place_text

@@ -1,5 +1,7 @@
 -- How long the printed lines are, where the shift has at most 2,097,152 bytes: its indexes and its line numbers have at most seven digits. Piece by piece.
-use mathlib.Core.Path.{◌≡◌, refl, sym, subst}
+use Rattle.std.specs.Prelude.{Option, Some, None}
+use Rattle.std.specs.Option.{unwrap_or}
+use mathlib.Core.Path.{◌≡◌, refl, sym, subst, ap}
 use mathlib.Core.Logic.{inl, inr}
 use mathlib.Core.Bool.{Bool, true, false}
 use mathlib.Core.List.{List, [], ◌∷◌, ◌++◌}
@@ -10,8 +12,6 @@ use Rattle.ground.specs.Text.{bytes}
 use Rattle.ground.proofs.Bools.{lt_or_ge}
 use Rattle.knowledge_acts.specs.Acts.{act_of}
 use Rattle.knowledge_acts.specs.declared.act.Act.TheVariants.{Set, Look}
-use Rattle.knowledge_acts.specs.declared.act.Named.{Named}
-use Rattle.knowledge_acts.specs.declared.act.Named.TheVariants.{One, Nothing}
 use Rattle.print_room.specs.Decimal.{decimal}
 use Rattle.print_room.proofs.Decimals.{decimal-length}
 use Rattle.sheet_words.specs.Words.{split, newline}
@@ -26,6 +26,7 @@ use Rattle.station_print.specs.Faults.{place_text, record_words, fault_numbered,
 use Rattle.station_print.specs.Printed.{done_line, now_line, reached_text, stopped_text}
 use Rattle.station_print.proofs.SettingsLaws.{names-length, words_length}
 use Rattle.station_print.proofs.FaultLaws.{place-bytes, place-line, record_said, record_unsaid}
+use Rattle.knowledge_acts.specs.declared.act.Act.{Act}
 
 -- ---- what was reached
 
@@ -48,10 +49,10 @@ reached-length n running h k =
 -- ---- the line of an act at fault
 
 -- a text has no more lines than bytes
-line-most : (shift : List ℕ) (k : ℕ) → line_of 1 k (split newline shift) ≤ suc (length shift)
+line-most : (shift : List ℕ) (k : ℕ) → unwrap_or (line_of 1 k (split newline shift)) 0 ≤ suc (length shift)
 line-most shift k = elim (lt_or_ge (2 * k) (length (lines_bytes (split newline shift)))) [
-  | inl h ↦ (let g = line_gives shift k h in omega (arith, g.number, g.there, split-length newline shift))
-  | inr h ↦ omega (arith, line-none shift k h)
+  | inl h ↦ (let g = line_gives shift k h in omega (arith, ap (λ (n : Option ℕ). unwrap_or n 0) g.1, g.2.number, g.2.there, split-length newline shift))
+  | inr h ↦ omega (arith, ap (λ (n : Option ℕ). unwrap_or n 0) (line-none shift k h))
 ]
 
 place-length : (shift : List ℕ) (index : ℕ) → length shift ≤ 2097152 → index ≤ 1048576 → length (place_text shift index) ≤ 25
@@ -60,7 +61,7 @@ place-length shift index h k = by_form (is_text shift) refl
     by_form : (b : Bool) → is_text shift ≡ b → length (place_text shift index) ≤ 25
     by_form false e = subst (λ (t : List ℕ). length t ≤ 25) (place-bytes shift index e) (omega (arith, decimal-length 6 index (omega arith)))
     by_form true e =
-        let line = line_of 1 index (split newline shift) in
+        let line = unwrap_or (line_of 1 index (split newline shift)) 0 in
         subst (λ (t : List ℕ). length t ≤ 25) (sym (place-line shift index e))
         (omega (
           arith,
@@ -69,10 +70,10 @@ place-length shift index h k = by_form (is_text shift) refl
           decimal-length 6 line (omega (arith, line-most shift index)),
         ))
 
-words_most : (named : Named) (seen : ℕ) → length (words_of named seen) ≤ 10
-words_most Nothing seen = omega arith
-words_most (One (Set i q b)) seen = omega arith
-words_most (One (Look i q)) seen = omega arith
+words_most : (named : Option Act) (seen : ℕ) → length (words_of named seen) ≤ 10
+words_most None seen = omega arith
+words_most (Some (Set i q b)) seen = omega arith
+words_most (Some (Look i q)) seen = omega arith
 
 record_length : (byte seen : ℕ) → byte < 256 → seen < 256 → length (record_words byte seen) ≤ 13
 unfolding record_text

@@ -22,6 +22,8 @@ use Rattle.station_print.specs.Start.{start_words, names_all, StartIs}
 use Rattle.station_print.specs.Settings.{setting_names}
 use Rattle.station_print.specs.Faults.{fault_numbered}
 use Rattle.station_print.specs.declared.ReplayTold.{ReplayTold}
+use Rattle.station_print.specs.declared.ReplayFault.{ReplayFault}
+use Rattle.std.specs.Prelude.{Some, Result}
 use Rattle.station_print.proofs.Theorems.{next_start, print_unique}
 use Rattle.station_print.proofs.print.Reads as print
 
@@ -48,14 +50,14 @@ module _ (book : List ℕ) (start : ℕ) (shift : List ℕ) (running : Running) 
 
 -- the line of record k says the two bytes that the replay reads there
 pub text-plays : (s b : List ℕ) → read_meaning s ≡ gives b → (k : ℕ) → k < records b
-    → (g : GivesAt (split newline s) k (line_of 1 k (split newline s))) × (line_record (get_or (split newline s) g.index []) ≡ act_byte b k ∷ seen_byte b k ∷ [])
+    → (M : ℕ) × (line_of 1 k (split newline s) ≡ Some M) × (g : GivesAt (split newline s) k M) × (line_record (get_or (split newline s) g.index []) ≡ act_byte b k ∷ seen_byte b k ∷ [])
 unfolding act_byte seen_byte
 text-plays s b e k l =
     let same = bytes-given s b e in
     let g = line_gives s k (rw same (omega (arith, l))) in
-    (g, g.own ∙ ap (λ (x : List ℕ). get_or x (2 * k) 0 ∷ get_or x (2 * k + 1) 0 ∷ []) same)
+    (g.0, g.1, g.2, g.2.own ∙ ap (λ (x : List ℕ). get_or x (2 * k) 0 ∷ get_or x (2 * k + 1) 0 ∷ []) same)
 
 -- one result over the function's own contract, as the check reads it
-pub print_one : (κs : _) (a : _) (x y : ReplayTold) (s : _) → print.Post κs a x s → print.Post κs a y s → x ≡ y
+pub print_one : (κs : _) (a : _) (x y : Result ReplayTold ReplayFault) (s : _) → print.Post κs a x s → print.Post κs a y s → x ≡ y
 print_one κs a x y s p q =
     (print_unique a.0.now a.1.0.now a.1.1.0.now a.1.1.1.0.now x y s.1.1.1.0.now s.1.1.1.0.now p q).0

@@ -1,30 +1,33 @@
 -- What the marks of START's words say: whether each setting is named, and the valuation.
+use Rattle.std.specs.Prelude.{Option, Some, None}
 use mathlib.Core.Path.{◌≡◌, sym, ap, ap₂, ◌∙◌, subst}
 use mathlib.Core.Logic.{inl, inr}
 use mathlib.Core.Bool.{Bool, true, false, not, ◌&&◌, cond}
 use mathlib.Core.List.{List, [], ◌∷◌}
-use Prim.Native.Nat.{ℕ, ◌+◌, ◌%◌, ◌^◌, ◌≤◌, ◌<◌}
-use native.Mathlib.Numerals.{add-one}
+use Prim.Native.Nat.{ℕ, ◌%◌, ◌^◌, ◌≤◌, ◌<◌}
 use native.Mathlib.Nat.{mod-lt}
 use native.Mathlib.Omega.{arith}
 use lib.Dec.{T, eqb, leb, eqb→eq}
 use lib.Pow.{pow_pos}
 use Rattle.ground.specs.Digits.{bit}
 use Rattle.ground.specs.Search.{all}
-use Rattle.ground.proofs.Bools.{true→T, T→false, false→T, and_left, and_right, or_out, decide, both, lt_or_ge}
+use Rattle.ground.proofs.Bools.{true→T, T→true, T→false, false→T, and_left, and_right, or_out, decide, both, lt_or_ge}
 use Rattle.ground.proofs.Search.{all-at, all_ext}
 use Rattle.ground.proofs.Bits.{bit-mod}
 use Rattle.ground.proofs.HighBits.{high_bit}
 use Rattle.sheet_words.specs.Words.{is_false, is_name, all_names, index_of, indexes, true_indexes, member, twice}
 use Rattle.sheet_words.specs.Marks.{Marked, Names, are_names}
 use Rattle.sheet_words.specs.declared.names.Marks.{Marks}
-use Rattle.sheet_words.specs.declared.names.Naming.{Naming}
-use Rattle.sheet_words.specs.declared.names.Naming.TheVariants.{Stray, Of}
 use Rattle.sheet_words.proofs.NameForms.{bare-word}
 use Rattle.sheet_words.proofs.NameLaws.{stray_names, of_names}
 use Rattle.sheet_words.proofs.Unique.{mask_one}
 use Rattle.station_print.specs.Start.{names_all, Starts}
-use Rattle.station_print.specs.declared.start.StartTold.TheVariants.{Settings, Nothing}
+use lib.ListN.{length}
+use Rattle.std.specs.Bool.{MatchBool}
+use Rattle.std.specs.List.{range_with_len, AllWithin, HoldsAt}
+use Rattle.std.proofs.lemmas.List.FromFn.{get_or-range_with_len, length-range_with_len}
+use native.Mathlib.Nat.{zero-add}
+use Rattle.ground.proofs.Search.{all_intro}
 
 -- ---- a test of the first n numbers, one by one
 
@@ -32,9 +35,14 @@ module _ (f : ℕ → Bool) where
   pub all-fails : (n i : ℕ) → i < n → f i ≡ false → all n f ≡ false
   all-fails n i l e = elim (decide (all n f)) [ inl h ↦ both (f i) (all-at n f h i l) (false→T e) | inr h ↦ T→false (all n f) h ]
 
-  pub all_more : (i : ℕ) → f i ≡ true → all i f ≡ true → all (i + 1) f ≡ true
-  unfolding all
-  all_more i e h = rw (add-one i) (ap₂ ◌&&◌ e h)
+  -- what std's `all` over the numbers below n finds
+  pub all-found : (n : ℕ) (r : Bool) → MatchBool r (AllWithin (λ i. f i ≡ true) (range_with_len 0 n) 0 (length (range_with_len 0 n)))
+      ((k : ℕ) × (k < length (range_with_len 0 n)) × HoldsAt (λ i. f i ≡ false) (range_with_len 0 n) k) → r ≡ all n f
+  all-found n true each =
+      sym (T→true (all n f) (all_intro n f (λ i l. true→T (rw (get_or-range_with_len 0 n i 0 l ∙ zero-add i) at (each i 0 (omega arith) (omega (arith, l, length-range_with_len 0 n)))))))
+  all-found n false (k, l, here) =
+      let few : k < n = omega (arith, l, length-range_with_len 0 n) in
+      sym (all-fails n k few (rw (get_or-range_with_len 0 n k 0 few ∙ zero-add k) at (here 0)))
 
 -- ---- the valuation
 
@@ -70,19 +78,19 @@ no_high-bits n v f = subst (λ (x : ℕ). x < 2 ^ n) (sym same) below
 
 -- ---- what is said, by what the words name
 
-module _ (n : ℕ) (words : List (List ℕ)) (r : Naming) (answer : Names (are_names true 97 n words) 97 words r) where
+module _ (n : ℕ) (words : List (List ℕ)) (r : Option Marks) (answer : Names (are_names true 97 n words) 97 words r) where
   abbrev name_test : Bool → Bool → Bool → Bool
   name_test a b c = a && not b && c
 
-  nothing : names_all n words ≡ false → Starts n (names_all n words) words Nothing
-  nothing e = subst (λ (b : Bool). Starts n b words Nothing) (sym e) tt
+  nothing : names_all n words ≡ false → Starts n (names_all n words) words None
+  nothing e = subst (λ (b : Bool). Starts n b words None) (sym e) tt
 
-  pub stray_nothing : r ≡ Stray → Starts n (names_all n words) words Nothing
+  pub stray_nothing : r ≡ None → Starts n (names_all n words) words None
   unfolding names_all
   stray_nothing e =
       nothing (ap (λ (b : Bool). name_test b (twice (λ i. false) (indexes 97 words)) (all n (λ i. member i (indexes 97 words)))) (stray_names (are_names true 97 n words) 97 words r answer e))
 
-  module _ (marks : Marks) (e : r ≡ Of marks) where
+  module _ (marks : Marks) (e : r ≡ Some marks) where
     marked : Marked 97 words marks
     marked = (of_names (are_names true 97 n words) 97 words r answer e).1
 
@@ -96,16 +104,16 @@ module _ (n : ℕ) (words : List (List ℕ)) (r : Naming) (answer : Names (are_n
         ap (λ (b : Bool). name_test b (twice (λ i. false) (indexes 97 words)) (all n (λ i. member i (indexes 97 words)))) are
         ∙ ap₂ (name_test true) (sym marked.again) (sym (all_ext n (bit marks.named) (λ i. member i (indexes 97 words)) (λ i l. marked.named i)))
 
-    pub twice_nothing : marks.twice ≡ true → Starts n (names_all n words) words Nothing
+    pub twice_nothing : marks.twice ≡ true → Starts n (names_all n words) words None
     twice_nothing h = nothing (test_is ∙ ap (λ (b : Bool). name_test true b (all n (bit marks.named))) h)
 
     module _ (once : marks.twice ≡ false) where
-      pub some_nothing : all n (bit marks.named) ≡ false → Starts n (names_all n words) words Nothing
+      pub some_nothing : all n (bit marks.named) ≡ false → Starts n (names_all n words) words None
       some_nothing h = nothing (test_is ∙ ap₂ (name_test true) once h)
 
-      pub all-settings : all n (bit marks.named) ≡ true → Starts n (names_all n words) words (Settings marks.values)
+      pub all-settings : all n (bit marks.named) ≡ true → Starts n (names_all n words) words (Some marks.values)
       unfolding are_names
-      all-settings h = subst (λ (b : Bool). Starts n b words (Settings marks.values)) (sym (test_is ∙ ap₂ (name_test true) once h)) (record {
+      all-settings h = subst (λ (b : Bool). Starts n b words (Some marks.values)) (sym (test_is ∙ ap₂ (name_test true) once h)) (record {
         below = no_high-bits n marks.values (λ i g. marked.values i ∙ off i g);
         on = λ i l. marked.values i;
       })

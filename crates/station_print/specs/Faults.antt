@@ -3,6 +3,7 @@
 --     act 3, line 5, look a 2 1: shows 0 where a is off, b on, c off, d off
 --     act 3, bytes 200 7: no record of this book
 use Rattle.std.specs.Prelude.{Bool, true, false, cond, List, [], ◌∷◌, ◌++◌, ℕ, eqb}
+use Rattle.std.specs.Option.{unwrap_or}
 use Rattle.ground.specs.Text.{bytes}
 use Rattle.print_room.specs.Decimal.{decimal}
 use Rattle.print_answer.specs.Listed.{line, value_digit}
@@ -19,7 +20,7 @@ line_said false number = []
 
 -- "`act 3` is the record with index 3"
 unfoldable pub place_text : List ℕ → ℕ → List ℕ
-place_text shift index = bytes "act " ++ (decimal index ++ line_said (is_text shift) (line_of 1 index (split newline shift)))
+place_text shift index = bytes "act " ++ (decimal index ++ line_said (is_text shift) (unwrap_or (line_of 1 index (split newline shift)) 0))
 
 -- the words of a record; two bytes that are none which text can say stand as they are
 unfoldable pub record_words : ℕ → ℕ → List ℕ

@@ -2,7 +2,7 @@
 --     done 3
 --     now ~a b ~c ~d
 --     act 3, set d 1 1: not permitted where a is off, b on, c off, d off
-use Rattle.std.specs.Prelude.{List, [], ◌++◌, ℕ}
+use Rattle.std.specs.Prelude.{List, [], ◌++◌, ℕ, Result, Ok, Err}
 use Rattle.ground.specs.Text.{bytes}
 use Rattle.refusal.specs.Refusals.{number}
 use Rattle.print_room.specs.Decimal.{decimal}
@@ -10,9 +10,10 @@ use Rattle.print_answer.specs.Listed.{line}
 use Rattle.station.specs.Shift.{act_byte, seen_byte}
 use Rattle.station.specs.declared.record.Running.{Running}
 use Rattle.station.specs.declared.shift.Replayed.{Replayed}
-use Rattle.station.specs.declared.shift.Replayed.TheVariants.{Whole, Stopped, Refused}
+use Rattle.station.specs.declared.shift.Replayed.TheVariants.{Whole, Stopped}
 use Rattle.station_print.specs.Settings.{setting_names}
 use Rattle.station_print.specs.Faults.{fault_text}
+use Rattle.refusal.specs.declared.Refusal.{Refusal}
 
 abbrev pub done_line : ℕ → List ℕ
 done_line count = line (bytes "done " ++ decimal count)
@@ -31,7 +32,7 @@ stopped_text n shift bytes code running =
     reached_text n running ++ fault_text shift k (act_byte bytes k) (seen_byte bytes k) code n running.present.0
 
 -- by what comes of the bytes of a shift; nothing is printed where it is refused
-abbrev pub replay_text : ℕ → List ℕ → List ℕ → Replayed → List ℕ
-replay_text n shift bytes (Whole running) = reached_text n running
-replay_text n shift bytes (Stopped why running) = stopped_text n shift bytes (number why) running
-replay_text n shift bytes (Refused why) = []
+abbrev pub replay_text : ℕ → List ℕ → List ℕ → Result Replayed Refusal → List ℕ
+replay_text n shift bytes (Ok (Whole running)) = reached_text n running
+replay_text n shift bytes (Ok (Stopped why running)) = stopped_text n shift bytes (number why) running
+replay_text n shift bytes (Err why) = []

@@ -1,12 +1,10 @@
 -- START: "START names every setting (`'a ~b c ~d'`)", "each setting of the book once, in any order, else trouble". Its words are split by one space; a word
 -- without `~` is on, one with `~` is off.
-use Rattle.std.specs.Prelude.{◌≡◌, Bool, true, false, not, ◌&&◌, List, ℕ, ◌^◌, ◌<◌}
+use Rattle.std.specs.Prelude.{◌≡◌, Bool, true, false, not, ◌&&◌, List, ℕ, ◌^◌, ◌<◌, Option, Some, None}
 use Rattle.ground.specs.Digits.{bit}
 use Rattle.ground.specs.Search.{all}
 use Rattle.sheet_words.specs.Words.{split, space, indexes, true_indexes, member, twice}
 use Rattle.sheet_words.specs.Marks.{are_names}
-use Rattle.station_print.specs.declared.start.StartTold.{StartTold}
-use Rattle.station_print.specs.declared.start.StartTold.TheVariants.{Settings, Nothing}
 
 abbrev pub start_words : List ℕ → List (List ℕ)
 start_words start = split space start
@@ -21,8 +19,8 @@ pub record StartIs (n : ℕ) (words : List (List ℕ)) (v : ℕ) : Type 0 where
   pub on : (i : ℕ) → i < n → bit v i ≡ member i (true_indexes 97 words)
 
 -- what START says, by whether its words name all settings
-abbrev pub Starts : ℕ → Bool → List (List ℕ) → StartTold → Type 0
-Starts n true words (Settings v) = StartIs n words v
-Starts n true words Nothing = ⊥
-Starts n false words (Settings v) = ⊥
-Starts n false words Nothing = Unit
+abbrev pub Starts : ℕ → Bool → List (List ℕ) → Option ℕ → Type 0
+Starts n true words (Some v) = StartIs n words v
+Starts n true words None = ⊥
+Starts n false words (Some v) = ⊥
+Starts n false words None = Unit

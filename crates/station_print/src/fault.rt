@@ -1,11 +1,11 @@
 // The line of an act at fault: which act it is, its words, and why it was not allowed. Into a lent room
 // from a place on; a place past the room is counted and not written.
-ghost use Rattle.std.specs.Prelude.{◌≡◌, ◌≤◌, eqb};
+ghost use Rattle.std.specs.Prelude.{◌≤◌};
 ghost use Rattle.print_room.specs.Wrote.{Ends, Wrote};
-ghost use Rattle.print_answer.specs.Listed.{value_digit};
 ghost use Rattle.station_print.specs.Faults.{place_text, record_words, fault_numbered, why_text, fault_text};
 
 use crate::settings::words;
+use print_answer::value_digit;
 use station_text::{is_record, is_text, line_of, record_text};
 
 // `act K`, and `, line L` of a shift that is text.
@@ -19,7 +19,7 @@ fn place(shift: &[u8], index: usize, out: &mut [u8], to: usize) -> usize
         return to;
     }
     let to = print_room::word(b", line ", out, to);
-    print_room::number(line_of(shift, index) as u64, out, to)
+    print_room::number(line_of(shift, index).unwrap_or(0) as u64, out, to)
 }
 
 // A record's words, or its two bytes where it is none that text can say.
@@ -36,16 +36,6 @@ fn record_words(byte: u8, seen: u8, out: &mut [u8], to: usize) -> usize
     print_room::number(seen as u64, out, to)
 }
 
-// The digit of the value that was not seen.
-fn unseen_digit(seen: u8) -> u8
-    ensures { result ≡ value_digit (eqb seen 0) }
-{
-    if seen == 0 {
-        return b'1';
-    }
-    b'0'
-}
-
 // Why the act was not allowed, by the number of its refusal.
 fn why(number: u64, n: u8, present: u8, seen: u8, out: &mut [u8], to: usize) -> usize
     requires { (n ≤ 7) × Ends to (why_text (fault_numbered number) n present seen) }
@@ -59,7 +49,7 @@ fn why(number: u64, n: u8, present: u8, seen: u8, out: &mut [u8], to: usize) -> 
         return words(n, present, out, to);
     }
     let to = print_room::word(b"shows ", out, to);
-    let to = print_room::put(unseen_digit(seen), out, to);
+    let to = print_room::put(value_digit(seen == 0), out, to);
     let to = print_room::word(b" where ", out, to);
     words(n, present, out, to)
 }

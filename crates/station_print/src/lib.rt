@@ -19,12 +19,11 @@ ghost use Rattle.station_print.specs.Inner.{Readable, NextRecord};
 
 use crate::fault::fault_line;
 use crate::settings::names;
-use crate::start::{StartTold, read_start};
-use book_sound::ReadAnswer;
+use crate::start::read_start;
 use ground::peek;
 use refusal::Refusal;
 use station::{Replayed, Running};
-use station_text::{READ_MOST, SHIFT_MOST, ShiftTold};
+use station_text::{READ_MOST, SHIFT_MOST};
 
 // The most bytes that are printed (proofs/Theorems `printed-most`), so a room of this length always fits. A
 // shift has at most a million acts and two million lines, numbers of seven digits: 13 bytes for the line of
@@ -34,20 +33,25 @@ pub const REPLAY_MOST: usize = 151;
 // The bytes of a record: the act byte and what was seen.
 const RECORD: usize = 2;
 
-// What is said of a shift.
-#[derive(Clone, Copy)]
+// What comes of a shift that was run. The text has this many bytes; the room holds as many of them as fit.
+#[derive(Clone, Copy, Debug, PartialEq, Eq)]
 pub enum ReplayTold {
-    // Every act was done. The text has this many bytes; the room holds as many of them as fit.
+    // Every act was done.
     Done(usize),
-    // An act was at fault: 27, 28 or 29 with its index. The text's length as above.
+    // An act was at fault: 27, 28 or 29 with its index.
     Stopped(Refusal, usize),
+}
+
+// Why no shift was run.
+#[derive(Clone, Copy, Debug, PartialEq, Eq)]
+pub enum ReplayFault {
     // The book is not sound: 6 to 9.
-    BookRefused(Refusal),
+    Book(Refusal),
     // START does not name each setting of the book once.
-    NoStart,
+    Start,
     // The shift is refused. As text: 24, or 22 with the line as its place. As bytes: 24, or 26 for an odd
     // length.
-    ShiftRefused(Refusal),
+    Shift(Refusal),
 }
 
 // `done K`.
@@ -108,35 +112,47 @@ fn print_bytes(
     shift: &[u8],
     bytes: &[u8],
     out: &mut [u8],
-) -> ReplayTold
+) -> Result<ReplayTold, ReplayFault>
     requires { (n ≤ 7) × Readable shift.now bytes.now }
     ensures { PrintsBytes n book.now start shift.now bytes.now out.old result out.new }
 {
     match station::replay(book, start as u64, bytes) {
-        Replayed::Whole(running) => ReplayTold::Done(reached(n, running, out)),
-        Replayed::Stopped(why, running) => {
+        Err(why) => Err(ReplayFault::Shift(why)),
+        Ok(Replayed::Whole(running)) => Ok(ReplayTold::Done(reached(n, running, out))),
+        Ok(Replayed::Stopped(why, running)) => {
             let numbers = why.numbers();
             let count = stopped(n, shift, bytes, numbers.number, running, out);
-            ReplayTold::Stopped(why, count)
+            Ok(ReplayTold::Stopped(why, count))
         }
-        Replayed::Refused(why) => ReplayTold::ShiftRefused(why),
     }
 }
 
 // The same of a shift's text. Every text that is read fits the room.
-fn print_text(book: &[u8], n: u8, start: u8, shift: &[u8], out: &mut [u8]) -> ReplayTold
+fn print_text(
+    book: &[u8],
+    n: u8,
+    start: u8,
+    shift: &[u8],
+    out: &mut [u8],
+) -> Result<ReplayTold, ReplayFault>
     requires { n ≤ 7 }
     ensures { PrintsShift n book.now start shift.now (read_meaning shift.now) out.old result out.new }
 {
     let mut room = [0u8; READ_MOST];
     match station_text::read(shift, &mut room) {
-        ShiftTold::Refused(why) => ReplayTold::ShiftRefused(why),
-        ShiftTold::Read(count) => print_bytes(book, n, start, shift, &room[..count], out),
+        Err(why) => Err(ReplayFault::Shift(why)),
+        Ok(count) => print_bytes(book, n, start, shift, &room[..count], out),
     }
 }
 
 // The same of a shift, text or bytes.
-fn print_shift(book: &[u8], n: u8, start: u8, shift: &[u8], out: &mut [u8]) -> ReplayTold
+fn print_shift(
+    book: &[u8],
+    n: u8,
+    start: u8,
+    shift: &[u8],
+    out: &mut [u8],
+) -> Result<ReplayTold, ReplayFault>
     requires { n ≤ 7 }
     ensures { PrintsShift n book.now start shift.now (shift_meaning shift.now) out.old result out.new }
 {
@@ -144,28 +160,37 @@ fn print_shift(book: &[u8], n: u8, start: u8, shift: &[u8], out: &mut [u8]) -> R
         return print_text(book, n, start, shift, out);
     }
     if SHIFT_MOST < shift.len() {
-        return ReplayTold::ShiftRefused(Refusal::SheetLength);
+        return Err(ReplayFault::Shift(Refusal::SheetLength));
     }
     print_bytes(book, n, start, shift, shift, out)
 }
 
 // The same of a shift that begins where START says.
-fn print_start(book: &[u8], n: u8, start: &[u8], shift: &[u8], out: &mut [u8]) -> ReplayTold
+fn print_start(
+    book: &[u8],
+    n: u8,
+    start: &[u8],
+    shift: &[u8],
+    out: &mut [u8],
+) -> Result<ReplayTold, ReplayFault>
     requires { n ≤ 7 }
     ensures { PrintsStart n book.now (names_all n (start_words start.now)) start.now shift.now out.old result out.new }
 {
-    match read_start(n, start) {
-        StartTold::Nothing => ReplayTold::NoStart,
-        StartTold::Settings(values) => print_shift(book, n, values, shift, out),
-    }
+    let Some(values) = read_start(n, start) else {
+        return Err(ReplayFault::Start);
+    };
+    print_shift(book, n, values, shift, out)
 }
 
 // The same of any bytes as a book, as START and as a shift.
-pub fn print(book: &[u8], start: &[u8], shift: &[u8], out: &mut [u8]) -> ReplayTold
+pub fn print(
+    book: &[u8],
+    start: &[u8],
+    shift: &[u8],
+    out: &mut [u8],
+) -> Result<ReplayTold, ReplayFault>
     ensures { PrintsReplay book.now start.now shift.now out.old result out.new }
 {
-    match book_sound::sound(book) {
-        ReadAnswer::Refused(why) => ReplayTold::BookRefused(why),
-        ReadAnswer::Book { settings, posts: _ } => print_start(book, settings, start, shift, out),
-    }
+    let size = book_sound::sound(book).map_err(ReplayFault::Book)?;
+    print_start(book, size.settings, start, shift, out)
 }

@@ -35,11 +35,9 @@ pub(crate) fn names(n: u8, present: u8, out: &mut [u8], to: usize) -> usize
     requires { (n ≤ 7) × Ends to (setting_names n present) }
     ensures { Wrote out.old to (setting_names n present) out.new result }
 {
-    let mut i = 0;
     let mut at = to;
-    while i < n {
+    for i in 0..n {
         at = name(i, bit_of(present, i), out, at);
-        i += 1;
     }
     at
 }
@@ -82,11 +80,9 @@ pub(crate) fn words(n: u8, present: u8, out: &mut [u8], to: usize) -> usize
     requires { (n ≤ 7) × Ends to (setting_words n present) }
     ensures { Wrote out.old to (setting_words n present) out.new result }
 {
-    let mut i = 0;
     let mut at = to;
-    while i < n {
+    for i in 0..n {
         at = setting_word(i, bit_of(present, i), out, at);
-        i += 1;
     }
     at
 }

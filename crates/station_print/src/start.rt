@@ -6,45 +6,23 @@ ghost use Rattle.ground.specs.Search.{all};
 ghost use Rattle.station_print.specs.Start.{names_all, start_words, Starts};
 
 use ground::bit_of;
-use sheet_words::{Naming, marks_of};
-
-// What START says.
-#[derive(Clone, Copy)]
-pub enum StartTold {
-    // The settings that the shift begins on: bit i is setting i.
-    Settings(u8),
-    // It does not name each setting once.
-    Nothing,
-}
+use sheet_words::marks_of;
 
 // Whether each of the first n bits is set.
 fn all_named(n: u8, named: u8) -> bool
     ensures { result ≡ all n (bit named) }
 {
-    let mut i = 0;
-    while i < n {
-        if !bit_of(named, i) {
-            return false;
-        }
-        i += 1;
-    }
-    true
+    (0..n).all(|i| bit_of(named, i))
 }
 
-// What some bytes say as START, for a book of n settings.
-pub(crate) fn read_start(n: u8, start: &[u8]) -> StartTold
+// The settings that START says, for a book of n settings: bit i is setting i. None where it does not name
+// each setting once.
+pub(crate) fn read_start(n: u8, start: &[u8]) -> Option<u8>
     ensures { Starts n (names_all n (start_words start.now)) (start_words start.now) result }
 {
-    match marks_of(true, b'a', n, start) {
-        Naming::Stray => StartTold::Nothing,
-        Naming::Of(marks) => {
-            if marks.twice {
-                return StartTold::Nothing;
-            }
-            if !all_named(n, marks.named) {
-                return StartTold::Nothing;
-            }
-            StartTold::Settings(marks.values)
-        }
+    let marks = marks_of(true, b'a', n, start)?;
+    if marks.twice || !all_named(n, marks.named) {
+        return None;
     }
+    Some(marks.values)
 }

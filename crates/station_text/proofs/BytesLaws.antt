@@ -11,8 +11,8 @@ use lib.Seq.{drop-cons}
 use borrow.Author.Tests.{lt-ltb, le-ltb, eq-eqb, ne_eqb}
 use Rattle.knowledge_acts.specs.Acts.{act_of}
 use Rattle.knowledge_acts.specs.declared.act.Act.TheVariants.{Set, Look}
-use Rattle.knowledge_acts.specs.declared.act.Named.{Named}
-use Rattle.knowledge_acts.specs.declared.act.Named.TheVariants.{One, Nothing}
+use Rattle.knowledge_acts.specs.declared.act.Act.{Act}
+use Rattle.std.specs.Prelude.{Option, Some, None}
 use Rattle.refusal.specs.declared.Refusal.TheVariants.{SheetLength, Shift, NoRecord}
 use Rattle.print_answer.specs.Listed.{line}
 use Rattle.station_text.specs.Records.{is_record, words_of, record_text}
@@ -26,10 +26,10 @@ pub text-most : (c v : ℕ) → length (record_text c v) ≤ 10
 unfolding record_text
 text-most c v = by_act (act_of c)
   where
-    by_act : (n : Named) → length (words_of n v) ≤ 10
-    by_act Nothing = omega arith
-    by_act (One (Set i q b)) = omega arith
-    by_act (One (Look i q)) = omega arith
+    by_act : (n : Option Act) → length (words_of n v) ≤ 10
+    by_act None = omega arith
+    by_act (Some (Set i q b)) = omega arith
+    by_act (Some (Look i q)) = omega arith
 
 -- ---- from a place on
 

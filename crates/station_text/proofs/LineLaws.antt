@@ -5,11 +5,9 @@ use mathlib.Core.List.{List, [], ◌∷◌}
 use Prim.Native.Nat.{ℕ, ◌*◌, ◌-◌, ◌≤◌}
 use native.Mathlib.Omega.{arith}
 use lib.ListN.{length, get_or}
-use Rattle.ground.specs.Text.{bytes}
 use Rattle.knowledge_acts.specs.Acts.{plan_byte}
-use Rattle.sheet_words.specs.Words.{passed_over, begins}
+use Rattle.sheet_words.specs.Words.{passed_over}
 use Rattle.station_text.specs.Lines.{is_look, is_set, gives_record, records_in, is_line, look_of, set_of, line_act, line_seen, line_record}
-use Rattle.station_text.specs.Meaning.{is_text}
 
 module _ (line : List ℕ) where
   pub gives_by : (a b : Bool) → is_look line ≡ a → is_set line ≡ b → gives_record line ≡ (a || b)
@@ -50,9 +48,3 @@ module _ (line : List ℕ) where
       by_test : (a : Bool) → gives_record line ≡ a → (length (line_record line) ≡ 2 * records_in line) × (records_in line ≤ 1)
       by_test true e = rw (record_by true e, records_by true e) (refl, omega arith)
       by_test false e = rw (record_by false e, records_by false e) (refl, omega arith)
-
--- ---- how a text begins
-
-pub text_by : (s : List ℕ) (a b c : Bool) → begins (bytes "look ") s ≡ a → begins (bytes "set ") s ≡ b → begins (bytes "# ") s ≡ c → is_text s ≡ (a || b || c)
-unfolding is_text
-text_by s a b c x y z = rw (x, y, z) refl

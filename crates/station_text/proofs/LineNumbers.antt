@@ -1,4 +1,5 @@
 -- The line of a record: it is the first line, or one line more in front moves its number by one. By induction on the lines.
+use Rattle.std.specs.Prelude.{Some, None}
 use mathlib.Core.Path.{◌≡◌, refl, sym, ap, ap₂, ◌∙◌, subst}
 use mathlib.Core.Bool.{Bool, true, false, cond}
 use mathlib.Core.List.{List, [], ◌∷◌, ◌++◌}
@@ -67,7 +68,7 @@ module _ (L : ℕ) (l another : List ℕ) (more : List (List ℕ)) where
   unfolding lines_bytes
   lines-length = length-append (line_record l) (lines_bytes (another ∷ more)) ∙ omega (arith, (record_length l).0)
 
-find : (pieces : List (List ℕ)) (L k : ℕ) → 2 * k < length (lines_bytes pieces) → Found L pieces k (line_of L k pieces)
+find : (pieces : List (List ℕ)) (L k : ℕ) → 2 * k < length (lines_bytes pieces) → (M : ℕ) × (line_of L k pieces ≡ Some M) × Found L pieces k M
 unfolding lines_bytes line_of
 find [] L k h = absurd (omega arith)
 find (rest ∷ []) L k h = absurd (omega arith)
@@ -75,23 +76,26 @@ find (l ∷ another ∷ more) L k h =
     by_test (ltb k (records_in l)) refl (find (another ∷ more) (suc L) (k - records_in l))
   where
     by_test : (b : Bool) → ltb k (records_in l) ≡ b
-        → (2 * (k - records_in l) < length (lines_bytes (another ∷ more)) → Found (suc L) (another ∷ more) (k - records_in l) (line_of (suc L) (k - records_in l) (another ∷ more)))
-        → Found L (l ∷ another ∷ more) k (cond b L (line_of (suc L) (k - records_in l) (another ∷ more)))
-    by_test true e f = at_once L l another more k (ltb-true k (records_in l) e)
+        → (2 * (k - records_in l) < length (lines_bytes (another ∷ more))
+        → (M : ℕ) × (line_of (suc L) (k - records_in l) (another ∷ more) ≡ Some M) × Found (suc L) (another ∷ more) (k - records_in l) M)
+        → (M : ℕ) × (cond b (Some L) (line_of (suc L) (k - records_in l) (another ∷ more)) ≡ Some M) × Found L (l ∷ another ∷ more) k M
+    by_test true e f = (L, refl, at_once L l another more k (ltb-true k (records_in l) e))
     by_test false e f =
         let past = ltb-false k (records_in l) e in
-        later L l another more k past (f (omega (arith, h, past, lines-length L l another more)))
+        let g = f (omega (arith, h, past, lines-length L l another more)) in
+        (g.0, g.1, later L l another more k past g.2)
 
-pub find_none : (pieces : List (List ℕ)) (L k : ℕ) → length (lines_bytes pieces) ≤ 2 * k → line_of L k pieces ≡ 0
+pub find_none : (pieces : List (List ℕ)) (L k : ℕ) → length (lines_bytes pieces) ≤ 2 * k → line_of L k pieces ≡ None
 unfolding lines_bytes line_of
 find_none [] L k h = refl
 find_none (rest ∷ []) L k h = refl
 find_none (l ∷ another ∷ more) L k h =
     let all = lines-length L l another more in
-    ap (λ (b : Bool). cond b L (line_of (suc L) (k - records_in l) (another ∷ more))) (le-ltb k (records_in l) (omega (arith, h, all)))
+    ap (λ (b : Bool). cond b (Some L) (line_of (suc L) (k - records_in l) (another ∷ more))) (le-ltb k (records_in l) (omega (arith, h, all)))
     ∙ find_none (another ∷ more) (suc L) (k - records_in l) (omega (arith, h, all))
 
-pub gives_at : (pieces : List (List ℕ)) (k : ℕ) → 2 * k < length (lines_bytes pieces) → GivesAt pieces k (line_of 1 k pieces)
+pub gives_at : (pieces : List (List ℕ)) (k : ℕ) → 2 * k < length (lines_bytes pieces) → (M : ℕ) × (line_of 1 k pieces ≡ Some M) × GivesAt pieces k M
 gives_at pieces k h =
-    let f = find pieces 1 k h in
-    record { index = f.index; number = f.number ∙ omega arith; there = f.there; before = f.before; own = f.own }
+    let g = find pieces 1 k h in
+    let f = g.2 in
+    (g.0, g.1, record { index = f.index; number = f.number ∙ omega arith; there = f.there; before = f.before; own = f.own })

@@ -12,8 +12,8 @@ use Rattle.ground.specs.Text.{bytes}
 use Rattle.ground.proofs.Bools.{true→T, T→true, or_out}
 use Rattle.knowledge_acts.specs.Acts.{byte_of, plan_byte, act_of}
 use Rattle.knowledge_acts.specs.declared.act.Act.TheVariants.{Set, Look}
-use Rattle.knowledge_acts.specs.declared.act.Named.{Named}
-use Rattle.knowledge_acts.specs.declared.act.Named.TheVariants.{One, Nothing}
+use Rattle.knowledge_acts.specs.declared.act.Act.{Act}
+use Rattle.std.specs.Prelude.{Option, Some, None}
 use Rattle.knowledge_acts.proofs.Acts.{act_of_byte, byte_of_act, plan-byte}
 use Rattle.print_answer.specs.Listed.{value_digit}
 use Rattle.sheet_words.specs.Words.{newline}
@@ -46,20 +46,20 @@ module _ (i q : ℕ) (hi : i < 7) (hq : q < 8) where
   names-above : (b : Bool) → above (names i q b) ≡ true
   names-above b = rw (lt-ltb 10 (97 + i) (omega arith), lt-ltb 10 (49 + q) (omega arith), lt-ltb 10 (value_digit b) (value-past b)) refl
 
-  look_taken : (v : ℕ) → v ≤ 1 → Taken (words_of (One (Look i q)) v) (byte_of (Look i q)) v
+  look_taken : (v : ℕ) → v ≤ 1 → Taken (words_of (Some (Look i q)) v) (byte_of (Look i q)) v
   unfolding is_look has_form stands_for
   look_taken v h =
-      let l = words_of (One (Look i q)) v in
+      let l = words_of (Some (Look i q)) v in
       let e : is_look l ≡ true = rw (sign_of 97 7 i hi, sign_of 49 8 q hq, value-fits (eqb v 1)) refl in
       taken_by l (gives_by l true _ e refl)
       (act_by l true e ∙ ap plan_byte (ap₂ Look (index_of 97 i) (index_of 49 q)) ∙ plan-byte (Look i q) hi hq)
       (seen_by l true e ∙ seen_digit v h)
       (above-clear l (names-above (eqb v 1)))
 
-  set-taken : (b : Bool) → Taken (words_of (One (Set i q b)) 0) (byte_of (Set i q b)) 0
+  set-taken : (b : Bool) → Taken (words_of (Some (Set i q b)) 0) (byte_of (Set i q b)) 0
   unfolding is_look is_set has_form stands_for
   set-taken b =
-      let l = words_of (One (Set i q b)) 0 in
+      let l = words_of (Some (Set i q b)) 0 in
       taken_by l (gives_by l false true refl (rw (sign_of 97 7 i hi, sign_of 49 8 q hq, value-fits b) refl))
       (act_by l false refl
       ∙ ap plan_byte (ap₂ (λ (j k : ℕ). Set j k (eqb (value_digit b) 49)) (index_of 97 i) (index_of 49 q) ∙ ap (Set i q) (value_read b))
@@ -71,15 +71,15 @@ pub record_taken : (c v : ℕ) → T (is_record c v) → Taken (record_text c v)
 unfolding is_record record_text
 record_taken c v h = by_act (act_of c) refl h
   where
-    by_act : (n : Named) → act_of c ≡ n → T (seen_in n v) → Taken (words_of n v) c v
-    by_act Nothing e h = absurd h
-    by_act (One (Set i q b)) e h =
+    by_act : (n : Option Act) → act_of c ≡ n → T (seen_in n v) → Taken (words_of n v) c v
+    by_act None e h = absurd h
+    by_act (Some (Set i q b)) e h =
         let x = byte_of_act c (Set i q b) e in
-        subst (λ (k : ℕ). Taken (words_of (One (Set i q b)) v) k v) x.0
-        (subst (λ (w : ℕ). Taken (words_of (One (Set i q b)) w) (byte_of (Set i q b)) w) (sym (eqb→eq v 0 h)) (set-taken i q x.1 x.2 b))
-    by_act (One (Look i q)) e h =
+        subst (λ (k : ℕ). Taken (words_of (Some (Set i q b)) v) k v) x.0
+        (subst (λ (w : ℕ). Taken (words_of (Some (Set i q b)) w) (byte_of (Set i q b)) w) (sym (eqb→eq v 0 h)) (set-taken i q x.1 x.2 b))
+    by_act (Some (Look i q)) e h =
         let x = byte_of_act c (Look i q) e in
-        subst (λ (k : ℕ). Taken (words_of (One (Look i q)) v) k v) x.0 (look_taken i q x.1 x.2 v (leb→le v 1 h))
+        subst (λ (k : ℕ). Taken (words_of (Some (Look i q)) v) k v) x.0 (look_taken i q x.1 x.2 v (leb→le v 1 h))
 
 -- ---- a line that gives a record is its words
 
@@ -127,8 +127,8 @@ look_said l e =
     record {
       act_byte = byte_of (Look x.0 x.1);
       seen = v;
-      is_record_case = subst (λ (n : Named). T (seen_in n v)) (sym a) y.0;
-      text = x.5 ∙ ap (λ (b : Bool). bytes "look " ++ names x.0 x.1 b) (sym y.1) ∙ ap (λ (n : Named). words_of n v) (sym a);
+      is_record_case = subst (λ (n : Option Act). T (seen_in n v)) (sym a) y.0;
+      text = x.5 ∙ ap (λ (b : Bool). bytes "look " ++ names x.0 x.1 b) (sym y.1) ∙ ap (λ (n : Option Act). words_of n v) (sym a);
     }
 
 set_said : (l : List ℕ) → is_set l ≡ true → Said l
@@ -139,8 +139,8 @@ set_said l e =
     record {
       act_byte = byte_of (Set x.0 x.1 x.2);
       seen = 0;
-      is_record_case = subst (λ (n : Named). T (seen_in n 0)) (sym a) tt;
-      text = x.5 ∙ ap (λ (n : Named). words_of n 0) (sym a);
+      is_record_case = subst (λ (n : Option Act). T (seen_in n 0)) (sym a) tt;
+      text = x.5 ∙ ap (λ (n : Option Act). words_of n 0) (sym a);
     }
 
 pub given_said : (l : List ℕ) → gives_record l ≡ true → Said l

@@ -19,14 +19,14 @@ use Rattle.sheet_words.proofs.Split.{joined_split, split-clear}
 use Rattle.sheet_words.proofs.Fronts.{begins-length}
 use Rattle.plancheck_text.proofs.ReadLines.{begins_then}
 use Rattle.station_text.specs.Records.{is_record}
-use Rattle.station_text.specs.Meaning.{Meaning, refused, gives, stray_line, lines_bytes, read_meaning, line_of, records_said, shift_text, print_meaning, Tells, is_text}
+use Rattle.station_text.specs.Meaning.{Meaning, refused, gives, lines_bytes, read_meaning, line_of, records_said, shift_text, print_meaning, Tells, is_text}
 use Rattle.station_text.specs.Grammar.{ShiftTextOf, GivesAt}
-use Rattle.station_text.specs.declared.ShiftTold.{ShiftTold}
-use Rattle.station_text.specs.declared.ShiftTold.TheVariants.{Read, Refused}
+use Rattle.std.specs.Prelude.{Some, None, Result, Ok, Err}
+use Rattle.refusal.specs.declared.Refusal.{Refusal}
 use Rattle.station_text.proofs.TextLaws.{without_stray}
 use Rattle.station_text.proofs.BytesLaws.{said_turn, with_stray, prints-text}
 use Rattle.station_text.proofs.WrittenText.{lines-taken, text_of, all_said, shortest, bytes-least}
-use Rattle.station_text.proofs.ReadText.{lines-only, not-refused}
+use Rattle.station_text.proofs.ReadText.{lines-only, not-refused, no_stray}
 use Rattle.station_text.proofs.LineNumbers.{gives_at, find_none}
 use Rattle.station_text.proofs.text.read.Reads as read
 use Rattle.station_text.proofs.bytes.print.Reads as print
@@ -37,18 +37,17 @@ use Rattle.station_text.proofs.text.line_of.Reads as Line-of
 -- ---- a text is taken where it is written as the grammar says, and nowhere else
 
 pub taken : {s b : List ℕ} → ShiftTextOf s b → length s ≤ 2097152 → read_meaning s ≡ gives b
-taken {s} p h = let x = lines-taken p 1 in without_stray s h 0 x.0 (omega arith) ∙ ap gives x.1
+taken {s} p h = let x = lines-taken p 1 in without_stray s h x.0 ∙ ap gives x.1
 
 pub taken-only : (s b : List ℕ) → read_meaning s ≡ gives b → ShiftTextOf s b × (length s ≤ 2097152)
 unfolding read_meaning
 taken-only s b e =
     let x = not-refused _ _ _ e in
-    let y = not-refused _ _ _ x.1 in
-    let none : stray_line 1 (split newline s) ≡ 0 = omega (arith, ltb-false 0 (stray_line 1 (split newline s)) y.0) in
+    let y = no_stray _ _ x.1 in
     let own : lines_bytes (split newline s) ≡ b = cc y.1 in (
       subst (ShiftTextOf s) own
           (subst (λ (t : List ℕ). ShiftTextOf t (lines_bytes (split newline s))) (joined_split newline s)
-          (lines-only 1 (split newline s) (split-clear newline s) (omega arith) none)),
+          (lines-only 1 (split newline s) (split-clear newline s) y.0)),
       ltb-false 2097152 (length s) x.0,
     )
 
@@ -74,10 +73,10 @@ pub reads_back : (b t : List ℕ) → print_meaning b ≡ gives t → read_meani
 reads_back b t e = let x = printed-only b t e in taken x.0 x.1
 
 -- and so is what the room holds, where it holds the whole text
-pub room-reads_back : (b old new : List ℕ) (n : ℕ) → Tells (print_meaning b) (Read n) old new → n ≤ length old → read_meaning (take n new) ≡ gives b
+pub room-reads_back : (b old new : List ℕ) (n : ℕ) → Tells (print_meaning b) (Ok n) old new → n ≤ length old → read_meaning (take n new) ≡ gives b
 room-reads_back b old new n p h = by_meaning (print_meaning b) refl p
   where
-    by_meaning : (m : Meaning) → print_meaning b ≡ m → Tells m (Read n) old new → read_meaning (take n new) ≡ gives b
+    by_meaning : (m : Meaning) → print_meaning b ≡ m → Tells m (Ok n) old new → read_meaning (take n new) ≡ gives b
     by_meaning (refused r) e p = absurd p
     by_meaning (gives t) e p = ap read_meaning (prints-whole p h) ∙ reads_back b t e
 
@@ -100,10 +99,10 @@ pub bytes-given : (s b : List ℕ) → read_meaning s ≡ gives b → lines_byte
 bytes-given s b e = (lines-taken (taken-only s b e).0 1).1
 
 module _ (s : List ℕ) (k : ℕ) where
-  pub line_gives : 2 * k < length (lines_bytes (split newline s)) → GivesAt (split newline s) k (line_of 1 k (split newline s))
+  pub line_gives : 2 * k < length (lines_bytes (split newline s)) → (M : ℕ) × (line_of 1 k (split newline s) ≡ Some M) × GivesAt (split newline s) k M
   line_gives h = gives_at (split newline s) k h
 
-  pub line-none : length (lines_bytes (split newline s)) ≤ 2 * k → line_of 1 k (split newline s) ≡ 0
+  pub line-none : length (lines_bytes (split newline s)) ≤ 2 * k → line_of 1 k (split newline s) ≡ None
   line-none h = find_none (split newline s) 1 k h
 
 -- ---- text is not taken for bytes
@@ -139,13 +138,13 @@ text_no_bytes s e fits even =
 
 -- ---- one result
 
-pub told-one : (m : Meaning) (x y : ShiftTold) (old new other : List ℕ) → Tells m x old new → Tells m y old other → (x ≡ y) × (new ≡ other)
-told-one (refused r) (Refused why) (Refused cause) old new other p q = (ap Refused (p.0 ∙ sym q.0), p.1 ∙ sym q.1)
-told-one (gives b) (Read n) (Read k) old new other p q = (ap Read (p.count ∙ sym q.count), p.room ∙ sym q.room)
-told-one (refused r) (Read n) y old new other p q = elim p [ ]
-told-one (refused r) (Refused why) (Read k) old new other p q = elim q [ ]
-told-one (gives b) (Read n) (Refused cause) old new other p q = elim q [ ]
-told-one (gives b) (Refused why) y old new other p q = elim p [ ]
+pub told-one : (m : Meaning) (x y : Result ℕ Refusal) (old new other : List ℕ) → Tells m x old new → Tells m y old other → (x ≡ y) × (new ≡ other)
+told-one (refused r) (Err why) (Err cause) old new other p q = (ap Err (p.0 ∙ sym q.0), p.1 ∙ sym q.1)
+told-one (gives b) (Ok n) (Ok k) old new other p q = (ap Ok (p.count ∙ sym q.count), p.room ∙ sym q.room)
+told-one (refused r) (Ok n) y old new other p q = elim p [ ]
+told-one (refused r) (Err why) (Ok k) old new other p q = elim q [ ]
+told-one (gives b) (Ok n) (Err cause) old new other p q = elim q [ ]
+told-one (gives b) (Err why) y old new other p q = elim p [ ]
 
 pub read_unique : (κs : _) (a : _) (x y : _) (s : _) → read.Post κs a x s → read.Post κs a y s → x ≡ y
 read_unique κs a x y s p q = (told-one (read_meaning a.0.now) x y a.1.0.now s.1.0.now s.1.0.now p q).0

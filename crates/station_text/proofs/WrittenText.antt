@@ -10,8 +10,8 @@ use lib.ListN.{length, length-append}
 use Rattle.ground.proofs.Bools.{true→T, T→true}
 use Rattle.knowledge_acts.specs.Acts.{act_of}
 use Rattle.knowledge_acts.specs.declared.act.Act.TheVariants.{Set, Look}
-use Rattle.knowledge_acts.specs.declared.act.Named.{Named}
-use Rattle.knowledge_acts.specs.declared.act.Named.TheVariants.{One, Nothing}
+use Rattle.knowledge_acts.specs.declared.act.Act.{Act}
+use Rattle.std.specs.Prelude.{Option, Some, None}
 use Rattle.print_answer.specs.Listed.{line}
 use Rattle.sheet_words.specs.Words.{split, newline, passed_over}
 use Rattle.sheet_words.proofs.Split.{Clear, AllClear, split-clear}
@@ -38,8 +38,8 @@ one_line l e = (subst (AllClear newline) e (split-clear newline l)).0
 
 -- a line and the text after it, by what the line's tests say
 module _ (l s : List ℕ) (clear : Clear newline l) (is-line : is_line l ≡ true) {own b : List ℕ} (gives : line_record l ≡ own) where
-  one_more : (L : ℕ) → (stray_line (suc L) (split newline s) ≡ 0) × (lines_bytes (split newline s) ≡ b)
-      → (stray_line L (split newline (line l ++ s)) ≡ 0) × (lines_bytes (split newline (line l ++ s)) ≡ own ++ b)
+  one_more : (L : ℕ) → (stray_line (suc L) (split newline s) ≡ None) × (lines_bytes (split newline s) ≡ b)
+      → (stray_line L (split newline (line l ++ s)) ≡ None) × (lines_bytes (split newline (line l ++ s)) ≡ own ++ b)
   one_more L later = let cut = line-split l s clear in (
     ap (stray_line L) cut ∙ stray_line_lem l s L is-line ∙ later.0,
     ap lines_bytes cut ∙ bytes-line l s ∙ ap₂ ◌++◌ gives later.1,
@@ -47,7 +47,7 @@ module _ (l s : List ℕ) (clear : Clear newline l) (is-line : is_line l ≡ tru
 
 -- ---- all lines
 
-pub lines-taken : {s b : List ℕ} → ShiftTextOf s b → (L : ℕ) → (stray_line L (split newline s) ≡ 0) × (lines_bytes (split newline s) ≡ b)
+pub lines-taken : {s b : List ℕ} → ShiftTextOf s b → (L : ℕ) → (stray_line L (split newline s) ≡ None) × (lines_bytes (split newline s) ≡ b)
 unfolding split stray_line lines_bytes
 lines-taken ended L = (refl, refl)
 lines-taken (passing l {s} h e p) L =
@@ -83,10 +83,10 @@ text-least : (c v : ℕ) → T (is_record c v) → 9 ≤ length (record_text c v
 unfolding is_record record_text
 text-least c v h = by_act (act_of c) h
   where
-    by_act : (n : Named) → T (seen_in n v) → 9 ≤ length (words_of n v)
-    by_act Nothing h = absurd h
-    by_act (One (Set i q b)) h = omega arith
-    by_act (One (Look i q)) h = omega arith
+    by_act : (n : Option Act) → T (seen_in n v) → 9 ≤ length (words_of n v)
+    by_act None h = absurd h
+    by_act (Some (Set i q b)) h = omega arith
+    by_act (Some (Look i q)) h = omega arith
 
 line-length : (l s : List ℕ) → length (line l ++ s) ≡ length l + 1 + length s
 line-length l s = simp length-append (omega arith)

@@ -1,7 +1,7 @@
 -- What a shift's text means, as bytes, and what its bytes mean, as text; each with its first refusal. A text: 24 where it has more than 2,097,152 bytes, then 22
 -- with the first line that may not stand there. Bytes: 24 likewise, then "26 odd length", then "27 no act [..] or a second byte that is not 0 or 1 (not 0 for a
 -- set)" with the index of the first such record, and last 24 where the text would be too long to be read back.
-use Rattle.std.specs.Prelude.{◌≡◌, Bool, true, false, not, ◌||◌, cond, List, [], ◌∷◌, ◌++◌, ℕ, suc, ◌-◌, ◌/◌, ◌%◌, eqb, ltb, length}
+use Rattle.std.specs.Prelude.{◌≡◌, Bool, true, false, not, ◌||◌, cond, List, [], ◌∷◌, ◌++◌, ℕ, suc, ◌-◌, ◌/◌, ◌%◌, eqb, ltb, length, Option, Some, None, Result, Ok, Err}
 use Rattle.ground.specs.Text.{bytes}
 use Rattle.refusal.specs.declared.Refusal.{Refusal}
 use Rattle.refusal.specs.declared.Refusal.TheVariants.{Malformed, SheetLength, Shift, NoRecord}
@@ -11,8 +11,6 @@ use Rattle.sheet_words.specs.Words.{split, newline, begins}
 use Rattle.plancheck_text.specs.Meaning.{stray_rest}
 use Rattle.station_text.specs.Records.{is_record, record_text}
 use Rattle.station_text.specs.Lines.{records_in, is_line, line_record}
-use Rattle.station_text.specs.declared.ShiftTold.{ShiftTold}
-use Rattle.station_text.specs.declared.ShiftTold.TheVariants.{Read, Refused}
 
 -- it is refused, or these bytes are its other form
 pub data Meaning : Type 0 where
@@ -30,12 +28,17 @@ too_long s = ltb 2097152 (length s)
 
 -- ---- a text, by its lines: the pieces of `split newline`, of which the last is what follows the last byte 10
 
--- the number of the first stray line, where the first piece is line L; 0 where there is none, since lines count from 1. A last line without byte 10 is stray,
--- whatever it says. There is always a piece, so the first case is never met.
-unfoldable pub stray_line : ℕ → List (List ℕ) → ℕ
-stray_line L [] = L
+-- the number of the first stray line, where the first piece is line L; None where there is none. A last line without byte 10 is stray, whatever it says. There is
+-- always a piece, so the first case is never met.
+unfoldable pub stray_line : ℕ → List (List ℕ) → Option ℕ
+stray_line L [] = Some L
 stray_line L (rest ∷ []) = stray_rest L rest
-stray_line L (line ∷ another ∷ more) = cond (is_line line) (stray_line (suc L) (another ∷ more)) L
+stray_line L (line ∷ another ∷ more) = cond (is_line line) (stray_line (suc L) (another ∷ more)) (Some L)
+
+-- refused at the stray line, if there is one
+unfoldable pub unless_stray : Option ℕ → Meaning → Meaning
+unless_stray None later = later
+unless_stray (Some L) later = refused (Malformed L)
 
 -- the records that the lines give
 unfoldable pub lines_bytes : List (List ℕ) → List ℕ
@@ -45,15 +48,14 @@ lines_bytes (line ∷ another ∷ more) = line_record line ++ lines_bytes (anoth
 
 unfoldable pub read_meaning : List ℕ → Meaning
 read_meaning s =
-    let stray = stray_line 1 (split newline s) in
-    refused_if (too_long s) SheetLength (refused_if (ltb 0 stray) (Malformed stray) (gives (lines_bytes (split newline s))))
+    refused_if (too_long s) SheetLength (unless_stray (stray_line 1 (split newline s)) (gives (lines_bytes (split newline s))))
 
--- the number of the line that gives the record with this index, where the first piece is line L; 0 where there is none
-unfoldable pub line_of : ℕ → ℕ → List (List ℕ) → ℕ
-line_of L index [] = 0
-line_of L index (rest ∷ []) = 0
+-- the number of the line that gives the record with this index, where the first piece is line L; None where there is none
+unfoldable pub line_of : ℕ → ℕ → List (List ℕ) → Option ℕ
+line_of L index [] = None
+line_of L index (rest ∷ []) = None
 line_of L index (line ∷ another ∷ more) =
-    cond (ltb index (records_in line)) L (line_of (suc L) (index - records_in line) (another ∷ more))
+    cond (ltb index (records_in line)) (Some L) (line_of (suc L) (index - records_in line) (another ∷ more))
 
 -- ---- bytes, by their records; an odd byte at the end is none
 
@@ -78,11 +80,11 @@ print_meaning s =
 
 -- ---- what is told, and what the lent room holds: what is given from its start on, as far as it fits, with its whole length; beside a refusal the room is as
 -- it was
-abbrev pub Tells : Meaning → ShiftTold → List ℕ → List ℕ → Type 0
-Tells (refused r) (Refused why) old new = (why ≡ r) × (new ≡ old)
-Tells (refused r) (Read count) old new = ⊥
-Tells (gives s) (Refused why) old new = ⊥
-Tells (gives s) (Read count) old new = Prints old s count new
+abbrev pub Tells : Meaning → Result ℕ Refusal → List ℕ → List ℕ → Type 0
+Tells (refused r) (Err why) old new = (why ≡ r) × (new ≡ old)
+Tells (refused r) (Ok count) old new = ⊥
+Tells (gives s) (Err why) old new = ⊥
+Tells (gives s) (Ok count) old new = Prints old s count new
 
 -- it begins with `look `, `set ` or `# `
 unfoldable pub is_text : List ℕ → Bool

@@ -13,7 +13,6 @@ ghost use Rattle.station_text.specs.Meaning.{is_text};
 
 pub use bytes::print;
 pub use record::{is_record, record_text};
-use refusal::Refusal;
 use sheet_words::begins;
 pub use text::{line_of, read};
 
@@ -30,26 +29,11 @@ const LINE_LEAST: usize = 10;
 // fits: a record for each of the most lines, 419,430.
 pub const READ_MOST: usize = RECORD * (SHIFT_MOST / LINE_LEAST);
 
-// What is said of a shift that is read or printed.
-#[derive(Clone, Copy)]
-pub enum ShiftTold {
-    // The other form of it has this many bytes. The room holds as many of them as fit.
-    Read(usize),
-    // It is refused. As text: 24, or 22 with the line as its place. As bytes: 24, 26, or 27 with the
-    // record's index as its place.
-    Refused(Refusal),
-}
-
 // Whether it is a shift's text rather than its bytes, by how it begins. No bytes of a shift begin so
 // (proofs/Theorems `text_no_bytes`).
+#[tactic(auto, unfolding(crate::specs::Meaning::is_text))]
 pub fn is_text(shift: &[u8]) -> bool
     ensures { result ≡ is_text shift.now }
 {
-    if begins(b"look ", shift) {
-        return true;
-    }
-    if begins(b"set ", shift) {
-        return true;
-    }
-    begins(b"# ", shift)
+    begins(b"look ", shift) || begins(b"set ", shift) || begins(b"# ", shift)
 }

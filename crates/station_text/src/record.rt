@@ -1,39 +1,21 @@
 // One record of a shift's bytes: whether text can say it, and its words.
 ghost use Rattle.std.specs.Prelude.{◌≡◌, ◌<◌};
 ghost use Rattle.print_room.specs.Wrote.{Ends, Wrote};
-ghost use Rattle.print_answer.specs.Listed.{value_digit};
 ghost use Rattle.station_text.specs.Records.{is_record, names, record_text};
 
-use knowledge_acts::{Act, Named};
+use knowledge_acts::Act;
+use print_answer::value_digit;
 
 // Whether it is a record: an act, and what may be seen in it.
+#[tactic(auto, unfolding(crate::specs::Records::is_record))]
 pub fn is_record(byte: u8, seen: u8) -> bool
     ensures { result ≡ is_record byte seen }
 {
     match Act::of_byte(byte) {
-        Named::Nothing => false,
-        Named::One(act) => match act {
-            Act::Set {
-                setting: _,
-                post: _,
-                value: _,
-            } => seen == 0,
-            Act::Look {
-                setting: _,
-                post: _,
-            } => seen <= 1,
-        },
+        None => false,
+        Some(Act::Set { .. }) => seen == 0,
+        Some(Act::Look { .. }) => seen <= 1,
     }
-}
-
-// The digit of a value.
-fn value_digit(value: bool) -> u8
-    ensures { result ≡ value_digit value }
-{
-    if value {
-        return b'1';
-    }
-    b'0'
 }
 
 // `P G V`, by the indexes of the setting and the post.
@@ -52,20 +34,20 @@ pub fn record_text(byte: u8, seen: u8, out: &mut [u8], to: usize) -> usize
     ensures { Wrote out.old to (record_text byte seen) out.new result }
 {
     match Act::of_byte(byte) {
-        Named::Nothing => to,
-        Named::One(act) => match act {
+        None => to,
+        Some(
             Act::Set {
                 setting,
                 post,
                 value,
-            } => {
-                let to = print_room::word(b"set ", out, to);
-                write_names(setting, post, value, out, to)
-            }
-            Act::Look { setting, post } => {
-                let to = print_room::word(b"look ", out, to);
-                write_names(setting, post, seen == 1, out, to)
-            }
-        },
+            },
+        ) => {
+            let to = print_room::word(b"set ", out, to);
+            write_names(setting, post, value, out, to)
+        }
+        Some(Act::Look { setting, post }) => {
+            let to = print_room::word(b"look ", out, to);
+            write_names(setting, post, seen == 1, out, to)
+        }
     }
 }

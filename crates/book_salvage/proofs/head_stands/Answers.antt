@@ -1,21 +1,20 @@
 -- `head_stands` meets its contract: its two tests are the two parts of `HeadStands`.
-use Rattle.ground.proofs.Answers.{told, untold, tells_iff}
+use Rattle.ground.proofs.Answers.{told, untold, tells_iff, tells_no}
 use Rattle.ground.specs.Tells.{Tells}
 use Rattle.book_block.specs.Check.{block, RightCheck}
 use Rattle.book_block.proofs.CheckLaws.{right-block, right-drop}
 use Rattle.book_salvage.proofs.head_stands.Goals as goal
+use Rattle.book_salvage.proofs.head_stands.Goals.{After-is_right}
 
-pub returns-then-not-is_right : goal.returns-then-not-is_right
-returns-then-not-is_right c =
-    let right : Tells c.is_right.result ((RightCheck (block c.args.book.now 0))) =
-    let book = c.args.book.now in
-    tells_iff c.is_right.result (right-block book 0) (right-drop book 0) c.is_right.ensures in
-    λ s. untold ((RightCheck (block c.args.book.now 0))) c.is_right.result (right) c.if-not-is_right.true s.check
+right : (c : After-is_right) → Tells c.is_right.result (RightCheck (block c.args.book.now 0))
+right c = tells_iff c.is_right.result (right-block c.args.book.now 0) (right-drop c.args.book.now 0) c.is_right.ensures
 
-pub returns : goal.returns
-returns c =
-    let right : Tells c.is_right.result ((RightCheck (block c.args.book.now 0))) =
-    let book = c.args.book.now in
-    tells_iff c.is_right.result (right-block book 0) (right-drop book 0) c.is_right.ensures in
-    let checked = told ((RightCheck (block c.args.book.now 0))) c.is_right.result (right) c.if-not-is_right.false in
+pub returns-then-is_right : goal.returns-then-is_right
+returns-then-is_right c =
+    let checked = told _ c.is_right.result (right (goal.at.returns-then-is_right c).After-is_right) c.if-is_right.true in
     tells_iff c.is_head.result (λ says. record { check = checked; says = says }) (λ s. s.says) c.is_head.ensures
+
+pub returns-else-is_right : goal.returns-else-is_right
+returns-else-is_right c =
+    tells_no c.is_right.result c.if-is_right.false
+    (λ s. untold _ c.is_right.result (right (goal.at.returns-else-is_right c).After-is_right) c.if-is_right.false s.check)

@@ -8,6 +8,7 @@ use Rattle.book_sound.specs.Rows.{Whole}
 use Rattle.book_sound.proofs.BookLaws.{whole_length}
 use Rattle.book_sound.proofs.RefusalLaws.{head-n-most}
 use Rattle.book_salvage.specs.Rows.{HeadStands}
+use Rattle.book_salvage.proofs.MarkLaws.{ones_counted}
 use Rattle.book_salvage.proofs.RefusalLaws.{refuse_length, refuse_head, refuse_room, salvages_to}
 use Rattle.book_salvage.proofs.salvage.Goals as goal
 
@@ -49,4 +50,4 @@ returns c =
     let head : HeadStands c.args.book.now = search (rules, told) in
     let a = c.args in
     salvages_to a.book.now a.room.now whole head _ _ _ _ _ c.if-room-book.false c.peek-n.ensures
-    c.peek.ensures c.marks_of-marks.ensures c.ones-count.ensures c.lay_book.ensures
+    c.peek.ensures c.marks_of-marks.ensures (ones_counted _ c.marks_of-marks.type_inv) c.lay_book.ensures

@@ -1,10 +1,7 @@
 -- `book_sound::first_wrong` meets its contract: the blocks before k have right checks.
-use Prim.Native.Nat.{ℕ, ◌≤◌, ◌<◌, ◌-◌}
+use Prim.Native.Nat.{ℕ, ◌<◌}
 use Rattle.book_block.specs.Check.{block, RightCheck}
 use Rattle.book_sound.proofs.first_wrong.Given as goal
 
 abbrev pub invariant-loop-k : goal.invariant-loop-k
-invariant-loop-k l = (l.k ≤ l.count) × ((j : ℕ) → j < l.k → RightCheck (block l.book j))
-
-abbrev pub decreases-loop-k : goal.decreases-loop-k
-decreases-loop-k l = l.count - l.k
+invariant-loop-k l = (j : ℕ) → j < l.k → RightCheck (block l.book j)

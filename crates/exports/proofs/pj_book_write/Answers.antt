@@ -3,8 +3,8 @@ use mathlib.Core.Path.{sym, ap, ◌∙◌}
 use Rattle.exports.specs.Returned.{write_returned}
 use Rattle.exports.proofs.pj_book_write.Goals as goal
 
-pub returns-in-Written : goal.returns-in-Written
-returns-in-Written c = record { answer = c.write.result; writes = c.write.ensures; result_is = sym (ap write_returned c.in-Written.is) }
+pub returns-in-Ok : goal.returns-in-Ok
+returns-in-Ok c = record { answer = c.write.result; writes = c.write.ensures; result_is = sym (ap write_returned c.in-Ok.is) }
 
-pub returns-in-Refused : goal.returns-in-Refused
-returns-in-Refused c = record { answer = c.write.result; writes = c.write.ensures; result_is = c.packed.ensures ∙ sym (ap write_returned c.in-Refused.is) }
+pub returns-in-Err : goal.returns-in-Err
+returns-in-Err c = record { answer = c.write.result; writes = c.write.ensures; result_is = c.packed.ensures ∙ sym (ap write_returned c.in-Err.is) }

@@ -1,28 +1,29 @@
 -- `pj_formula_read` meets its contract: the answer is the reader's, and only a table is stored.
 use mathlib.Core.Path.{sym, ap, ◌∙◌}
+use mathlib.Core.List.{List}
+use Prim.Native.Nat.{ℕ}
+use Rattle.std.specs.Prelude.{Result}
+use Rattle.refusal.specs.declared.Refusal.{Refusal}
 use Rattle.exports.specs.Returned.{formula_returned}
-use Rattle.formula.specs.declared.Answer.{Answer}
 use Rattle.exports.specs.Formula.{on_return}
 use Rattle.exports.proofs.pj_formula_read.Goals as goal
 
-pub returns-in-Accepted : goal.returns-in-Accepted
-returns-in-Accepted c =
-    let told = c.in-Accepted.is in
+pub returns-in-Ok : goal.returns-in-Ok
+returns-in-Ok c =
+    let is = c.in-Ok.is in
     record {
-      answer = c.read-reading.result.answer;
-      found = c.read-reading.result.table;
-      reads = c.read-reading.ensures;
-      result_is = sym (ap formula_returned told);
-      new_is = sym (ap (λ (a : Answer). on_return a c.args.table.now c.read-reading.result.table) told);
+      answer = c.read.result;
+      reads = c.read.ensures;
+      result_is = sym (ap formula_returned is);
+      new_is = sym (ap (λ (a : Result (List ℕ) Refusal). on_return a c.args.table.now) is);
     }
 
-pub returns-in-Refused : goal.returns-in-Refused
-returns-in-Refused c =
-    let told = c.in-Refused.is in
+pub returns-in-Err : goal.returns-in-Err
+returns-in-Err c =
+    let is = c.in-Err.is in
     record {
-      answer = c.read-reading.result.answer;
-      found = c.read-reading.result.table;
-      reads = c.read-reading.ensures;
-      result_is = c.packed.ensures ∙ sym (ap formula_returned told);
-      new_is = sym (ap (λ (a : Answer). on_return a c.args.table.now c.read-reading.result.table) told);
+      answer = c.read.result;
+      reads = c.read.ensures;
+      result_is = c.packed.ensures ∙ sym (ap formula_returned is);
+      new_is = sym (ap (λ (a : Result (List ℕ) Refusal). on_return a c.args.table.now) is);
     }

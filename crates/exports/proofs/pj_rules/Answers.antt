@@ -3,8 +3,8 @@ use mathlib.Core.Path.{sym, ap, ◌∙◌}
 use Rattle.exports.specs.Returned.{rules_returned}
 use Rattle.exports.proofs.pj_rules.Goals as goal
 
-pub returns-in-Made : goal.returns-in-Made
-returns-in-Made c = record { answer = c.make_book.result; makes = c.make_book.ensures; result_is = sym (ap rules_returned c.in-Made.is) }
+pub returns-in-Ok : goal.returns-in-Ok
+returns-in-Ok c = record { answer = c.make_book.result; makes = c.make_book.ensures; result_is = sym (ap rules_returned c.in-Ok.is) }
 
-pub returns-in-Refused : goal.returns-in-Refused
-returns-in-Refused c = record { answer = c.make_book.result; makes = c.make_book.ensures; result_is = c.packed_at.ensures ∙ sym (ap rules_returned c.in-Refused.is) }
+pub returns-in-Err : goal.returns-in-Err
+returns-in-Err c = record { answer = c.make_book.result; makes = c.make_book.ensures; result_is = c.packed_at.ensures ∙ sym (ap rules_returned c.in-Err.is) }

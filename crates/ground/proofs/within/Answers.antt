@@ -12,31 +12,19 @@ returns-then-n-ge-SETTINGS_MOST c =
     within_seven args.n (drop args.from args.bytes.now) c.if-n-ge-SETTINGS_MOST.true
 
 pub loop-v-init : goal.loop-v-init
-loop-v-init c =
-    let args = c.args in (
-      omega (arith, pow_mono {i = args.n} {j = 6} (omega arith)),
-      omega (arith, pow_mono {i = args.n} {j = 6} (omega arith)),
-      λ u l h. absurd (omega (arith, pow_mono {i = args.n} {j = 6} (omega arith))),
-    )
+loop-v-init c = λ u l h. absurd (omega (arith, pow_mono {i = c.args.n} {j = 6} (omega arith)))
 
 pub returns-then-truth_at : goal.returns-then-truth_at
 returns-then-truth_at c =
-    let loop = c.loop-v in
-    let args = c.args in
-    not_within args.n (drop args.from args.bytes.now) loop.v loop.invariant.1 c.loop-v-test.true
+    not_within c.args.n (drop c.args.from c.args.bytes.now) c.loop-v.v (omega (arith, c.loop-v.auto.v, pow_mono {i = c.args.n} {j = 6} (omega arith))) c.loop-v-test.true
     (sym c.truth_at.ensures ∙ c.if-truth_at.true)
 
 pub loop-v-preserved : goal.loop-v-preserved
 loop-v-preserved c =
-    let loop = c.loop-v in
-    let args = c.args in (
-      omega arith,
-      omega (arith, loop.invariant.1),
-      within_more args.n (drop args.from args.bytes.now) loop.v loop.invariant.2
-          (sym c.truth_at.ensures ∙ c.if-truth_at.false),
-    )
+    within_more c.args.n (drop c.args.from c.args.bytes.now) c.loop-v.v c.loop-v.invariant
+    (sym c.truth_at.ensures ∙ c.if-truth_at.false)
 
 pub returns : goal.returns
 returns c =
     let args = c.args in
-    within_all args.n (drop args.from args.bytes.now) (λ u l h. c.loop-v.invariant.2 u l (omega arith))
+    within_all args.n (drop args.from args.bytes.now) (λ u l h. c.loop-v.invariant u l (omega arith))

@@ -1,14 +1,11 @@
--- `stray_line` meets its contract: the lines before `at` are plan lines, so the first stray line is the first from there on.
-use mathlib.Core.Path.{◌≡◌}
-use Prim.Native.Nat.{◌+◌, ◌-◌, ◌≤◌}
-use lib.ListN.{length, drop}
+-- `stray_line` meets its contract: the lines so far are plan lines, so the first stray line is the first of the rest.
+use Rattle.std.proofs.Common.{◌≡◌, ◌+◌, ◌≤◌, length}
 use Rattle.sheet_words.specs.Words.{split, newline}
 use Rattle.plancheck_text.specs.Meaning.{stray_line}
 use Rattle.plancheck_text.proofs.stray_line.Given as goal
 
-abbrev pub invariant-loop-from : goal.invariant-loop-from
-invariant-loop-from l = (l.at ≤ length l.text) × (l.number ≤ l.at + 1) × (length l.text ≤ 524288)
-    × (stray_line l.number (split newline (drop l.at l.text)) ≡ stray_line 2 (split newline (drop l.from l.text)))
+abbrev pub invariant-loop-line : goal.invariant-loop-line
+invariant-loop-line l = (l.number + length l.rest ≤ 524290) × (stray_line l.number (split newline l.rest) ≡ stray_line 2 (split newline l.text))
 
-abbrev pub decreases-loop-from : goal.decreases-loop-from
-decreases-loop-from l = length l.text - l.at
+abbrev pub decreases-loop-line : goal.decreases-loop-line
+decreases-loop-line l = length l.rest

@@ -4,5 +4,5 @@ use Prim.Native.Nat.{ℕ}
 use lib.ListN.{length-replicate}
 use Rattle.program_check.proofs.check_plan.Goals as goal
 
-pub slice_bounds-read_named-end : goal.slice_bounds-read_named-end
-slice_bounds-read_named-end c = sym (length-replicate {A = ℕ} 524289 0)
+pub slice_bounds-check_named-end : goal.slice_bounds-check_named-end
+slice_bounds-check_named-end c = sym (length-replicate {A = ℕ} 524289 0)

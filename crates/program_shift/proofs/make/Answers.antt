@@ -7,10 +7,10 @@ use Rattle.program_shift.proofs.make.Goals as goal
 
 pub slice_bounds-store-end : goal.slice_bounds-store-end
 slice_bounds-store-end c =
-    let most = read-most c.args.text.now _ _ _ c.read.ensures _ c.in-Read.is in
+    let most = read-most c.args.text.now _ _ _ c.read.ensures _ c.in-Ok.is in
     omega (arith, most, c.requires, c.read.auto.room)
 
-pub slice_bounds-store-end-in-Read : goal.slice_bounds-store-end-in-Read
-slice_bounds-store-end-in-Read c =
-    let most = read-most c.args.text.now _ _ _ c.read.ensures _ c.in-Read.is in
+pub slice_bounds-store-end-in-Ok : goal.slice_bounds-store-end-in-Ok
+slice_bounds-store-end-in-Ok c =
+    let most = read-most c.args.text.now _ _ _ c.read.ensures _ c.in-Ok.is in
     sym (length-take-le _ _ (omega (arith, most, c.requires, c.read.auto.room)))

@@ -1,33 +1,17 @@
--- `learn_within` meets its contract: the loop has found the first j tables within.
-use Prim.Native.Nat.{◌-◌, ◌*◌}
-use lib.ListN.{drop}
+-- `learn_within` meets its contract: by the test of each table.
+use borrow.Author.Rules.{rules}
+use borrow.Author.Tests.{tests}
+use Prim.Native.Nat.{◌*◌, ◌/◌}
+use lib.ListN.{length, drop}
 use native.Mathlib.Omega.{arith}
+use Rattle.std.proofs.Common.{refl}
+use Rattle.std.proofs.lemmas.Iterator.{YieldsList-from_range, cases_from_all}
 use Rattle.ground.specs.Table.{Within}
-use Rattle.ground.proofs.Answers.{told, untold}
-use Rattle.question.proofs.QuestionLaws.{learn-more, learn_bad, learn-all}
+use Rattle.question.proofs.QuestionLaws.{learn_told}
 use Rattle.question.proofs.learn_within.Goals as goal
-
-pub loop-j-init : goal.loop-j-init
-loop-j-init c = (omega arith, λ i l. absurd (omega arith))
-
-pub returns-then-not-within : goal.returns-then-not-within
-returns-then-not-within c =
-    let a = c.args in
-    learn_bad a.n a.learn.now c.loop-j.j c.loop-j-test.true
-    (untold ((let a = c.args in
-    Within a.n (drop (16 * c.loop-j.j) a.learn.now))) c.within.result c.within.ensures c.if-not-within.true)
-
-pub loop-j-preserved : goal.loop-j-preserved
-loop-j-preserved c =
-    let r = c.loop-j in
-    let a = c.args in (
-      omega arith,
-      learn-more a.n a.learn.now r.j r.invariant.1 (told ((let a = c.args in
-          Within a.n (drop (16 * c.loop-j.j) a.learn.now))) c.within.result c.within.ensures c.if-not-within.false),
-    )
 
 pub returns : goal.returns
 returns c =
-    let a = c.args in
-    let r = c.loop-j in
-    learn-all a.n a.learn.now r.j c.loop-j-test.false r.invariant.1
+    learn_told c.args.n c.args.learn.now c.all.result
+    (cases_from_all _ _ _ (λ j. Within c.args.n (drop (16 * j) c.args.learn.now)) (λ j. Within c.args.n (drop (16 * j) c.args.learn.now) → ⊥) c.all.ensures.ran
+    (YieldsList-from_range 0 (length c.args.learn.now / 16) (length c.args.learn.now / 16) refl (omega arith)) (λ x q k. search (rules, tests)) (λ x q k. search (rules, tests)))

@@ -2,4 +2,4 @@
 use Rattle.refusal.proofs.not_permitted.Goals as goal
 
 pub returns : goal.returns
-returns c = rw c.above.ensures
+returns c = rw c.number.ensures

@@ -1,39 +1,28 @@
 -- `ask_sound` meets its contract: a refusal is printed as it was read, with its line, and what is asked is answered, with one leg or with two.
-use mathlib.Core.Path.{ap}
+use Rattle.std.proofs.Common.{ap}
 use Rattle.refusal.specs.declared.Numbers.{Numbers}
 use Rattle.sheet_ask.proofs.LegLaws.{one-learnt, one-valid, one-prints, two-learnt, two-valid, two-prints, refused-prints}
 use Rattle.sheet_ask.proofs.ask_sound.Goals as goal
 
 pub answered-requires : goal.answered-requires
 answered-requires c =
-    let r = c.read_legs-reading.ensures in
-    let s = c.args.question.now in (
-      one-learnt c.requires s _ _ _ r c.in-One.is,
-      (c.args.settings, c.args.posts, one-valid c.requires s _ _ _ r c.in-One.is),
-    )
+    let s = c.args.question.now in
+    (one-learnt c.requires s c.in-Ok.legs c.in-Ok.ensures c.in-None.is, (c.args.settings, c.args.posts, one-valid c.requires s c.in-Ok.legs c.in-Ok.ensures c.in-None.is))
 
 pub answered_two-requires : goal.answered_two-requires
 answered_two-requires c =
-    let r = c.read_legs-reading.ensures in
     let s = c.args.question.now in
-    let learnt = two-learnt c.requires s _ _ _ r c.in-Two.is in
-    (learnt.0, learnt.1, (c.args.posts, two-valid c.requires s _ _ _ r c.in-Two.is))
+    let learnt = two-learnt c.requires s c.in-Ok.legs c.in-Ok.ensures c.in-Some.is in
+    (learnt.0, learnt.1, (c.args.posts, two-valid c.requires s c.in-Ok.legs c.in-Ok.ensures c.in-Some.is))
 
-pub returns-in-Refused : goal.returns-in-Refused
-returns-in-Refused c =
-    let r = c.read_legs-reading.ensures in
-    let s = c.args.question.now in
-    refused-prints c.requires s _ _ _ r _ _ _ _ _ _ _ c.in-Refused.is (ap (λ (k : Numbers). k.number) c.numbers-numbers.ensures) c.refused.ensures
+pub returns-in-Err : goal.returns-in-Err
+returns-in-Err c =
+    refused-prints c.requires c.args.question.now _ _ _ _ c.in-Err.fault _ c.in-Err.ensures (ap (λ (k : Numbers). k.number) c.numbers.ensures) c.refused.ensures
 
-pub returns-in-One : goal.returns-in-One
-returns-in-One c =
-    let r = c.read_legs-reading.ensures in
+pub returns-in-None : goal.returns-in-None
+returns-in-None c =
     let s = c.args.question.now in
-    one-prints c.requires s _ _ _ r c.in-One.is _ _ _ _ _
-    (c.answered.ensures _ _ (one-valid c.requires s _ _ _ r c.in-One.is))
+    one-prints c.requires s c.in-Ok.legs c.in-Ok.ensures c.in-None.is _ _ _ _ _ (c.answered.ensures _ _ (one-valid c.requires s c.in-Ok.legs c.in-Ok.ensures c.in-None.is))
 
-pub returns-in-Two : goal.returns-in-Two
-returns-in-Two c =
-    let r = c.read_legs-reading.ensures in
-    let s = c.args.question.now in
-    two-prints c.requires s _ _ _ r c.in-Two.is _ _ _ _ _ c.answered_two.ensures
+pub returns-in-Some : goal.returns-in-Some
+returns-in-Some c = two-prints c.requires c.args.question.now c.in-Ok.legs c.in-Ok.ensures c.in-Some.is _ _ _ _ _ c.answered_two.ensures

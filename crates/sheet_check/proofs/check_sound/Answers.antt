@@ -1,19 +1,13 @@
 -- `check_sound` meets its contract: a refusal is said as it was read, and what is asked is on the desk.
-use Rattle.sheet_check.proofs.CheckLaws.{question_refused, stated-learnt, question_asked}
+use Rattle.sheet_ask.proofs.AskLaws.{stated-learnt}
+use Rattle.sheet_check.proofs.CheckLaws.{question_refused, question_asked}
 use Rattle.sheet_check.proofs.check_sound.Goals as goal
 
 pub check_text-requires : goal.check_text-requires
-check_text-requires c =
-    let a = c.args in
-    stated-learnt c.requires a.question.now _ _ c.read_question-reading.ensures a.plan.now c.in-Stated.is
+check_text-requires c = stated-learnt c.requires c.args.question.now c.in-Ok.asked c.in-Ok.ensures
 
-pub returns-in-Refused : goal.returns-in-Refused
-returns-in-Refused c =
-    let a = c.args in
-    question_refused c.requires a.question.now _ _ c.read_question-reading.ensures a.plan.now _ _ c.in-Refused.is
+pub returns-in-Err : goal.returns-in-Err
+returns-in-Err c = question_refused c.requires c.args.question.now c.args.plan.now c.in-Err.fault c.in-Err.ensures
 
-pub returns-in-Stated : goal.returns-in-Stated
-returns-in-Stated c =
-    let a = c.args in
-    question_asked c.requires a.question.now _ _ c.read_question-reading.ensures a.plan.now c.in-Stated.is _
-    c.check_text.ensures
+pub returns-in-Ok : goal.returns-in-Ok
+returns-in-Ok c = question_asked c.requires c.args.question.now c.args.plan.now c.in-Ok.asked c.in-Ok.ensures _ c.check_text.ensures

@@ -1,33 +1,19 @@
 -- `ask_sound` meets its contract: a refusal is said as it was read, and what is asked is answered.
+use Rattle.sheet_ask.specs.Inner.{learn_in}
 use Rattle.sheet_ask.proofs.AskLaws.{stated-learnt}
-use Rattle.sheet_plain.proofs.AskLaws.{question_refused, says_reach, says_cannot, never-refused}
+use Rattle.sheet_plain.proofs.AskLaws.{question_refused, says, never-refused}
 use Rattle.sheet_plain.proofs.ask_sound.Goals as goal
 
-pub found-requires : goal.found-requires
-found-requires c =
-    let a = c.args in
-    stated-learnt c.requires a.question.now _ _ c.read_question-reading.ensures c.in-Stated.is
+pub goal-requires : goal.goal-requires
+goal-requires c = (stated-learnt c.requires c.args.question.now c.in-Ok.asked c.in-Ok.ensures).1
 
-pub returns-in-Refused : goal.returns-in-Refused
-returns-in-Refused c =
-    let a = c.args in
-    question_refused c.requires a.question.now _ _ c.read_question-reading.ensures _ _ c.in-Refused.is
+pub unwrap-requires : goal.unwrap-requires
+unfolding learn_in
+unwrap-requires c = never-refused c.requires c.args.question.now c.in-Ok.asked c.in-Ok.ensures _ (rw c.goal.ensures at c.find-found.ensures)
 
-pub returns-in-Reach : goal.returns-in-Reach
-returns-in-Reach c =
-    let a = c.args in
-    says_reach c.requires a.question.now _ _ c.read_question-reading.ensures c.in-Stated.is _ c.found.ensures _
-    c.in-Reach.is
+pub returns-in-Ok : goal.returns-in-Ok
+unfolding learn_in
+returns-in-Ok c = says c.requires c.args.question.now c.in-Ok.asked c.in-Ok.ensures _ (rw (c.goal.ensures, c.unwrap.ensures) at c.find-found.ensures)
 
-pub returns-in-Cannot : goal.returns-in-Cannot
-returns-in-Cannot c =
-    let a = c.args in
-    says_cannot c.requires a.question.now _ _ c.read_question-reading.ensures c.in-Stated.is _ c.found.ensures
-    c.in-Cannot.is
-
-pub returns-in-Refused-found : goal.returns-in-Refused-found
-returns-in-Refused-found c =
-    let a = c.args in
-    absurd
-    (never-refused c.requires a.question.now _ _ c.read_question-reading.ensures c.in-Stated.is _ c.found.ensures _
-    c.in-Refused-found.is)
+pub returns-in-Err : goal.returns-in-Err
+returns-in-Err c = question_refused c.requires c.args.question.now c.in-Err.fault c.in-Err.ensures

@@ -1,17 +1,17 @@
--- `lines` meets its contract: what is left from `at` on is what was to be read from the start.
-use mathlib.Core.Path.{◌≡◌}
-use Prim.Native.Nat.{◌+◌, ◌-◌, ◌≤◌}
-use lib.ListN.{length, drop}
+-- `lines` meets its contract: what is left is what was to be read from the start.
+use Rattle.std.proofs.Common.{◌≡◌, ◌+◌, ◌≤◌, length}
 use Rattle.sheet_words.specs.Words.{split, newline}
 use Rattle.sheet_question.specs.Asked.{Asked}
 use Rattle.sheet_question.specs.Desk.{AskedOnDesk}
 use Rattle.sheet_question.specs.Question.{asked_from}
 use Rattle.sheet_question.proofs.lines.Given as goal
 
-abbrev pub invariant-loop-due : goal.invariant-loop-due
-invariant-loop-due l = (l.at ≤ length l.text) × (l.number ≤ l.first + l.at)
-    × ((b : Asked) → AskedOnDesk l.settings b l.initial.desk → (a : Asked) × AskedOnDesk l.settings a l.desk
-    × (asked_from l.passes l.settings l.posts l.number l.due a (split newline (drop l.at l.text)) ≡ asked_from l.passes l.settings l.posts l.first l.initial.due b (split newline l.text)))
+abbrev pub invariant-loop-line : goal.invariant-loop-line
+invariant-loop-line l = record {
+  counted : l.number + length l.rest ≤ l.first + length l.text;
+  read : (b : Asked) → AskedOnDesk l.settings b l.initial.desk → (a : Asked) × AskedOnDesk l.settings a l.desk
+      × (asked_from l.passes l.settings l.posts l.number l.due a (split newline l.rest) ≡ asked_from l.passes l.settings l.posts l.first l.initial.due b (split newline l.text));
+}
 
-abbrev pub decreases-loop-due : goal.decreases-loop-due
-decreases-loop-due l = length l.text - l.at
+abbrev pub decreases-loop-line : goal.decreases-loop-line
+decreases-loop-line l = length l.rest

@@ -7,18 +7,18 @@ use Rattle.station_print.proofs.PrintLaws.{text-refused, count_fits, text-readab
 use Rattle.station_print.proofs.print_text.Goals as goal
 
 pub slice_bounds-room-end : goal.slice_bounds-room-end
-slice_bounds-room-end c = count_fits c.args.shift.now _ _ _ c.read.ensures _ c.in-Read.is (length-replicate {A = ℕ} 419430 0)
+slice_bounds-room-end c = count_fits c.args.shift.now _ _ _ c.read.ensures _ c.in-Ok.is (length-replicate {A = ℕ} 419430 0)
 
 pub slice_bounds-print_bytes-end : goal.slice_bounds-print_bytes-end
-slice_bounds-print_bytes-end c = sym (length-take-le _ _ (count_fits c.args.shift.now _ _ _ c.read.ensures _ c.in-Read.is (length-replicate {A = ℕ} 419430 0)))
+slice_bounds-print_bytes-end c = sym (length-take-le _ _ (count_fits c.args.shift.now _ _ _ c.read.ensures _ c.in-Ok.is (length-replicate {A = ℕ} 419430 0)))
 
 pub print_bytes-requires : goal.print_bytes-requires
-print_bytes-requires c = (c.requires, text-readable c.args.shift.now _ _ _ c.read.ensures _ c.in-Read.is (length-replicate {A = ℕ} 419430 0))
+print_bytes-requires c = (c.requires, text-readable c.args.shift.now _ _ _ c.read.ensures _ c.in-Ok.is (length-replicate {A = ℕ} 419430 0))
 
-pub returns-in-Refused : goal.returns-in-Refused
-returns-in-Refused c = text-refused c.args.shift.now _ _ _ c.read.ensures _ _ _ _ _ c.in-Refused.is
+pub returns-in-Err : goal.returns-in-Err
+returns-in-Err c = text-refused c.args.shift.now _ _ _ c.read.ensures _ _ _ _ _ c.in-Err.is
 
-pub returns-in-Read : goal.returns-in-Read
-returns-in-Read c =
-    text-told c.args.shift.now _ _ _ c.read.ensures _ c.in-Read.is (length-replicate {A = ℕ} 419430 0) _ _ _ _ _ _
+pub returns-in-Ok : goal.returns-in-Ok
+returns-in-Ok c =
+    text-told c.args.shift.now _ _ _ c.read.ensures _ c.in-Ok.is (length-replicate {A = ℕ} 419430 0) _ _ _ _ _ _
     c.print_bytes.ensures

@@ -1,38 +1,22 @@
 -- `book::read` meets its contract: what `sound` found, then the room, then the rights in it.
 use native.Mathlib.Omega.{arith}
 use mathlib.Core.Path.{refl}
-use Rattle.book_sound.specs.Sound.{Sound}
-use Rattle.book_sound.proofs.SoundLaws.{judged_book, judged-refused}
+use Rattle.ground.proofs.Answers.{passed_up}
+use Rattle.book.specs.Promise.{ReadsBook}
 use Rattle.book.proofs.RefusalLaws.{no_book, no_room}
 use Rattle.book.proofs.RoomLaws.{read-room}
 use Rattle.book.proofs.reading.read.Goals as goal
 
+pub returns-in_err-size : goal.returns-in_err-size
+returns-in_err-size c =
+    let a = c.args in
+    passed_up (λ r. ReadsBook a.book.now a.room.now r a.room.now) _ c.from_residual.ensures.1 (no_book a.book.now a.room.now c.in_err-size.ensures, refl)
+
 pub returns-then-room-n : goal.returns-then-room-n
-returns-then-room-n c =
-    let book : (Sound c.args.book.now c.in-Book.settings c.in-Book.posts) =
-    let judged = c.sound-answer in
-    judged_book c.args.book.now judged.result c.in-Book.settings c.in-Book.posts judged.ensures c.in-Book.is in
-    (no_room c.args.room.now (book) c.if-room-n.true, refl)
+returns-then-room-n c = (no_room c.args.room.now c.in_ok-size.ensures c.if-room-n.true, refl)
 
 pub copy_rights-requires : goal.copy_rights-requires
-copy_rights-requires c =
-    let book : (Sound c.args.book.now c.in-Book.settings c.in-Book.posts) =
-    let judged = c.sound-answer in
-    judged_book c.args.book.now judged.result c.in-Book.settings c.in-Book.posts judged.ensures c.in-Book.is in
-    let s = book in omega (arith, s.settings.most, s.size, c.if-room-n)
+copy_rights-requires c = let s = c.in_ok-size.ensures in omega (arith, s.settings.most, s.size, c.if-room-n.false)
 
-pub returns-in-Refused : goal.returns-in-Refused
-returns-in-Refused c =
-    let a = c.args in
-    let judged = c.sound-answer in
-    (no_book a.book.now a.room.now (judged-refused a.book.now judged.result c.in-Refused.refusal judged.ensures c.in-Refused.is), refl)
-
-pub returns-else-room-n : goal.returns-else-room-n
-returns-else-room-n c =
-    let book : (Sound c.args.book.now c.in-Book.settings c.in-Book.posts) =
-    let judged = c.sound-answer in
-    judged_book c.args.book.now judged.result c.in-Book.settings c.in-Book.posts judged.ensures c.in-Book.is in
-    let s = book in
-    let fits = c.if-room-n.false in
-    let a = c.args in
-    (s, fits, read-room a.room.now _ s fits c.copy_rights.ensures)
+pub returns : goal.returns
+returns c = let s = c.in_ok-size.ensures in (s, c.if-room-n.false, read-room c.args.room.now _ s c.if-room-n.false c.copy_rights.ensures)

@@ -1,30 +1,20 @@
--- `book_block::bytes::are_zeros` meets its contract: the bytes from `first` up to j are zero.
-use Rattle.std.proofs.Common.{sym, ◌∙◌, arith, get_or-drop, rules, below_more}
+-- `book_block::bytes::are_zeros` meets its contract: std's `all` over the places from `first` up to `end`.
+use Rattle.std.proofs.Common.{◌≡◌, ◌+◌, get_or, refl, sym, ◌∙◌, rules, get_or-drop}
+use borrow.Author.Tests.{tests}
+use Rattle.std.proofs.lemmas.Iterator.{YieldsList-from_range, cases_from_all}
+use Rattle.ground.proofs.Answers.{tells_iff}
 use Rattle.book_block.specs.Kinds.{Zeros}
+use Rattle.book_block.proofs.EachLaws.{each_told}
 use Rattle.book_block.proofs.bytes.are_zeros.Goals as goal
-
-pub loop-j-init : goal.loop-j-init
-loop-j-init c = (search rules, λ k h l. omega arith)
-
-pub returns-then-byte_at-ne0 : goal.returns-then-byte_at-ne0
-unfolding Zeros
-returns-then-byte_at-ne0 c =
-    let a = c.args in
-    let r = c.loop-j in
-    λ zeros. c.if-byte_at-ne0.true
-    (c.byte_at.ensures
-    ∙ sym (get_or-drop a.from a.bytes.now r.j 0)
-    ∙ zeros r.j r.invariant.0 c.loop-j-test.true)
-
-pub loop-j-preserved : goal.loop-j-preserved
-loop-j-preserved c =
-    let a = c.args in
-    let r = c.loop-j in (
-      omega arith,
-      below_more _ r.j r.invariant.1
-          (λ _. get_or-drop a.from a.bytes.now r.j 0 ∙ sym c.byte_at.ensures ∙ c.if-byte_at-ne0.false),
-    )
 
 pub returns : goal.returns
 unfolding Zeros
-returns c = λ k l h. c.loop-j.invariant.1 k (omega arith) l
+returns c =
+    let a = c.args in
+    tells_iff c.all.result
+    (λ each j l h. get_or-drop a.from a.bytes.now j 0 ∙ each j l h)
+    (λ zeros j l h. sym (get_or-drop a.from a.bytes.now j 0) ∙ zeros j l h)
+    (each_told _ a.first a.end c.all.result
+    (cases_from_all _ _ _ (λ j. get_or a.bytes.now (a.from + j) 0 ≡ 0) (λ j. get_or a.bytes.now (a.from + j) 0 ≡ 0 → ⊥) c.all.ensures.ran
+    (YieldsList-from_range a.first a.end _ refl refl)
+    (λ x q k. search (rules, tests)) (λ x q k. search (rules, tests))))

@@ -1,44 +1,22 @@
--- `book_block::stray::are_tables` meets its contract: the bytes before j have only their live bits.
-use Rattle.std.proofs.Common.{drop, arith, rules, below_more}
-use Rattle.ground.specs.Tells.{Tells}
-use Rattle.book_block.specs.Live.{Clean}
-use Rattle.ground.proofs.Answers.{told, untold}
-use Rattle.book_block.proofs.StrayLaws.{live-most, tables-clean, clean-tables, dropped_small, Alive, byte-tells}
+-- `book_block::stray::are_tables` meets its contract: std's `all` over the bytes of the tables.
+use Rattle.std.proofs.Common.{◌+◌, ◌<◌, ◌^◌, drop, get_or, refl, arith, rules, get_or-drop}
+use borrow.Author.Tests.{tests}
+use Rattle.std.proofs.lemmas.Iterator.{YieldsList-from_range, cases_from_all}
+use Rattle.book_block.specs.Live.{live, Clean}
+use Rattle.ground.proofs.Answers.{tells_iff}
+use Rattle.book_block.proofs.EachLaws.{each_told}
+use Rattle.book_block.proofs.StrayLaws.{tables-clean, clean-tables, dropped_small}
 use Rattle.book_block.proofs.stray.are_tables.Goals as goal
-
-pub loop-j-init : goal.loop-j-init
-loop-j-init c = (search rules, λ k h. omega arith)
-
-pub fits-requires : goal.fits-requires
-fits-requires c = rw c.live_bits.ensures (live-most _ _ _)
-
-pub returns-then-not-fits : goal.returns-then-not-fits
-unfolding Clean
-returns-then-not-fits c =
-    let tested : Tells c.fits.result ((let a = c.args in
-    Alive a.n a.m (drop a.from a.bytes.now) c.loop-j.j)) =
-    let a = c.args in
-    byte-tells a.bytes.now a.from c.loop-j.j _ _ a.n a.m c.fits.result
-    c.byte_at.ensures c.live_bits.ensures c.fits.ensures in
-    let a = c.args in
-    λ good. untold ((let a = c.args in
-    Alive a.n a.m (drop a.from a.bytes.now) c.loop-j.j)) c.fits.result (tested) c.if-not-fits.true
-    (tables-clean a.n a.m (drop a.from a.bytes.now) (dropped_small _ a.from (λ k. (omega (arith, c.type_inv.bytes k)))) good
-    c.loop-j.j c.loop-j-test.true)
-
-pub loop-j-preserved : goal.loop-j-preserved
-loop-j-preserved c =
-    let tested : Tells c.fits.result ((let a = c.args in
-    Alive a.n a.m (drop a.from a.bytes.now) c.loop-j.j)) =
-    let a = c.args in
-    byte-tells a.bytes.now a.from c.loop-j.j _ _ a.n a.m c.fits.result
-    c.byte_at.ensures c.live_bits.ensures c.fits.ensures in
-    let r = c.loop-j in (
-      omega arith,
-      below_more _ r.j r.invariant.1 (told ((let a = c.args in
-          Alive a.n a.m (drop a.from a.bytes.now) c.loop-j.j)) c.fits.result (tested) c.if-not-fits.false),
-    )
 
 pub returns : goal.returns
 unfolding Clean
-returns c = clean-tables _ _ _ (λ k h. c.loop-j.invariant.1 k (omega arith))
+returns c =
+    let a = c.args in
+    tells_iff c.all.result
+    (λ each. clean-tables a.n a.m (drop a.from a.bytes.now) (λ j h. rw get_or-drop (each j (omega arith) h)))
+    (λ good j l h. rw (get_or-drop a.from a.bytes.now j 0) at
+    (tables-clean a.n a.m (drop a.from a.bytes.now) (dropped_small _ a.from (λ k. (omega (arith, c.type_inv.bytes k)))) good j h))
+    (each_told _ 0 256 c.all.result
+    (cases_from_all _ _ _ (λ j. get_or a.bytes.now (a.from + j) 0 < 2 ^ live a.n a.m j) (λ j. get_or a.bytes.now (a.from + j) 0 < 2 ^ live a.n a.m j → ⊥) c.all.ensures.ran
+    (YieldsList-from_range 0 256 256 refl refl)
+    (λ x q k. search (rules, tests)) (λ x q k. search (rules, tests))))

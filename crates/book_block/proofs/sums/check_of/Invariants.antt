@@ -1,10 +1,7 @@
 -- `book_block::sums::check_of` meets its contract: after i turns the sums are those after the first i bytes.
-use Rattle.std.proofs.Common.{◌≡◌, ◌-◌, ◌≤◌, drop}
+use Rattle.std.proofs.Common.{◌≡◌, drop}
 use Rattle.book_block.specs.Check.{sums_after}
 use Rattle.book_block.proofs.sums.check_of.Given as goal
 
 abbrev pub invariant-loop-i : goal.invariant-loop-i
-invariant-loop-i l = (l.i ≤ 508) × (l.sums ≡ sums_after (drop l.from l.bytes) l.i)
-
-abbrev pub decreases-loop-i : goal.decreases-loop-i
-decreases-loop-i l = 508 - l.i
+invariant-loop-i l = l.sums ≡ sums_after (drop l.from l.bytes) l.i

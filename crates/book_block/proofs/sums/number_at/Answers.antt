@@ -1,5 +1,5 @@
 -- `book_block::sums::number_at` meets its contract: each of the two bytes is one that `byte_at` found.
-use Rattle.std.proofs.Common.{◌+◌, ◌*◌, sym, ◌∙◌, ap₂, get_or-drop}
+use Rattle.std.proofs.Common.{◌+◌, arith, get_or-drop}
 use Rattle.book_block.specs.Check.{number16}
 use Rattle.book_block.proofs.sums.number_at.Goals as goal
 
@@ -7,6 +7,11 @@ pub returns : goal.returns
 unfolding number16
 returns c =
     let a = c.args in
-    ap₂ (λ x y. x + 256 * y)
-    (c.byte_at-low.ensures ∙ sym (get_or-drop a.from a.bytes.now a.i 0))
-    (c.byte_at-high.ensures ∙ sym (get_or-drop a.from a.bytes.now (a.i + 1) 0))
+    omega (
+      arith,
+      c.from_le_bytes.ensures,
+      c.byte_at.ensures,
+      c.byte_at-2.ensures,
+      get_or-drop a.from a.bytes.now a.i 0,
+      get_or-drop a.from a.bytes.now (a.i + 1) 0,
+    )

@@ -9,9 +9,6 @@ use Rattle.book_block.proofs.sums.seal.Goals as goal
 pub returns-then-room-lt-BLOCK : goal.returns-then-room-lt-BLOCK
 returns-then-room-lt-BLOCK c = sym (not-sealed _ _ (omega arith))
 
-pub returns-then-room-at : goal.returns-then-room-at
-returns-then-room-at c = sym (not-sealed _ _ (omega arith))
-
 pub returns : goal.returns
 unfolding check_bytes bytes16
 returns c =

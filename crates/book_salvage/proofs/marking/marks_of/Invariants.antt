@@ -1,10 +1,6 @@
 -- `marks_of` meets its contract: after i turns there is a mark for each of i settings whose block does not stand.
-use Prim.Native.Nat.{◌≤◌, ◌-◌}
 use Rattle.book_salvage.proofs.MarkLaws.{MarkedTo}
 use Rattle.book_salvage.proofs.marking.marks_of.Given as goal
 
 abbrev pub invariant-loop-i : goal.invariant-loop-i
-invariant-loop-i l = (l.i ≤ l.n) × MarkedTo l.book l.n l.m l.i l.marks
-
-abbrev pub decreases-loop-i : goal.decreases-loop-i
-decreases-loop-i l = l.n - l.i
+invariant-loop-i l = MarkedTo l.book l.n l.m l.i l.marks

@@ -2,27 +2,11 @@
 use mathlib.Core.Path.{refl}
 use native.Mathlib.Omega.{arith}
 use Rattle.finder.specs.Tables.{Ranked}
-use Rattle.finder.proofs.StartLaws.{no_rank, room_start, too_long, reached}
+use Rattle.finder.proofs.StartLaws.{no_rank, room_start, reached}
 use Rattle.finder.proofs.answer.from_start.Goals as goal
 
 pub returns-then-height : goal.returns-then-height
 returns-then-height c = λ S t. (no_rank t c.requires.0 c.if-height.true, refl)
-
-pub length-bytes-requires : goal.length-bytes-requires
-length-bytes-requires c =
-    let ranked : Ranked c.args.n c.args.set.now c.args.look.now c.args.ranks.now c.args.start =
-    let pre = c.requires in record {
-      few = pre.2.1.few;
-      state = pre.0;
-      size = pre.1;
-      finite = omega (arith, c.type_inv.ranks c.args.start, c.if-height.false);
-      system = pre.2.0;
-      told = pre.2.1;
-    } in
-    ranked
-
-pub returns-then-plan-bytes : goal.returns-then-plan-bytes
-returns-then-plan-bytes c = λ S t. (refl, too_long c.length-bytes.ensures.1 c.args.plan.now t c.if-plan-bytes.true, refl)
 
 pub write-requires : goal.write-requires
 write-requires c =
@@ -31,7 +15,7 @@ write-requires c =
       few = pre.2.1.few;
       state = pre.0;
       size = pre.1;
-      finite = omega (arith, c.type_inv.ranks c.args.start, c.if-height.false);
+      finite = omega (arith, c.type_inv.ranks c.args.start);
       system = pre.2.0;
       told = pre.2.1;
     } in
@@ -44,7 +28,7 @@ returns c =
       few = pre.2.1.few;
       state = pre.0;
       size = pre.1;
-      finite = omega (arith, c.type_inv.ranks c.args.start, c.if-height.false);
+      finite = omega (arith, c.type_inv.ranks c.args.start);
       system = pre.2.0;
       told = pre.2.1;
     } in

@@ -3,7 +3,7 @@
 use mathlib.Core.Path.{◌≡◌, sym, subst}
 use Prim.Native.Nat.{ℕ, ◌^◌, ◌<◌}
 use native.Mathlib.Omega.{arith}
-use Rattle.knowledge.specs.Goal.{goal_of}
+use Rattle.knowledge.specs.Goal.{wanted as the_goal}
 use Rattle.plan.specs.Plans.{System}
 use Rattle.plan.specs.Without.{without}
 use Rattle.question.specs.Question.{system_of, ruled_system, start_of}
@@ -19,7 +19,7 @@ use Rattle.finder.proofs.finding.search.Goals as goal
 pub from_start-requires : goal.from_start-requires
 from_start-requires c =
     let systemHere : System =
-    ruled_system c.args.n c.args.book.now c.args.question (goal_of c.args.make.now c.args.learn.now) in
+    ruled_system c.args.n c.args.book.now c.args.question (the_goal c.args.goal) in
     let told : TablesTell c.args.n c.posts_allowed-set.result c.posts_allowed-look.result c.fill_ranks.new.ranks (systemHere) =
     tables_tell c.requires.0.1 c.posts_allowed-set.ensures c.posts_allowed-look.ensures
     c.made-done.ensures c.learnt-known.ensures c.fill_ranks.ensures c.requires.1 in
@@ -36,9 +36,9 @@ from_start-requires c =
 pub returns : goal.returns
 returns c =
     let systemHere : System =
-    ruled_system c.args.n c.args.book.now c.args.question (goal_of c.args.make.now c.args.learn.now) in
-    let asked : (P : System → Type 0) → P (without (systemHere)) → P (system_of c.args.n c.args.book.now c.args.question (goal_of c.args.make.now c.args.learn.now)) =
-    λ P. λ h. from_ruled c.args.n c.args.book.now c.args.question (goal_of c.args.make.now c.args.learn.now) P h in
+    ruled_system c.args.n c.args.book.now c.args.question (the_goal c.args.goal) in
+    let asked : (P : System → Type 0) → P (without (systemHere)) → P (system_of c.args.n c.args.book.now c.args.question (the_goal c.args.goal)) =
+    λ P. λ h. from_ruled c.args.n c.args.book.now c.args.question (the_goal c.args.goal) P h in
     let told : TablesTell c.args.n c.posts_allowed-set.result c.posts_allowed-look.result c.fill_ranks.new.ranks (systemHere) =
     tables_tell c.requires.0.1 c.posts_allowed-set.ensures c.posts_allowed-look.ensures
     c.made-done.ensures c.learnt-known.ensures c.fill_ranks.ensures c.requires.1 in

@@ -9,7 +9,7 @@ use Rattle.ground.specs.Digits.{bit}
 use Rattle.ground.specs.Search.{Least}
 use Rattle.knowledge_acts.proofs.Outcomes.{look_below}
 use Rattle.finder_sides.proofs.Shown.{below-sides}
-use Rattle.finder.proofs.StepLaws.{number_small, at_side, rank-at, digit_at, look_seen, look_nobody, look_no_lower, look_do}
+use Rattle.finder.proofs.StepLaws.{number_small, after_act, at_side, rank-at, digit_at, look_seen, look_nobody, look_no_lower, look_do}
 use Rattle.finder.proofs.steps.look_step.Goals as goal
 
 pub returns-then-digit-ne0 : goal.returns-then-digit-ne0
@@ -21,66 +21,37 @@ returns-then-digit-ne0 c =
     ((digit_at args.k args.i (number_small args.n args.k pre.0 pre.1)
     c.from_number.ensures c.digit.ensures) ∙ z))
 
-pub offset_bounds-look-i : goal.offset_bounds-look-i
-offset_bounds-look-i c = omega (arith, c.requires)
-
 pub returns-then-posts-eq0 : goal.returns-then-posts-eq0
 returns-then-posts-eq0 c =
     let args = c.args in
     let pre = c.requires in
     λ S t. look_nobody t args.k args.i pre.4 (sym (at_side args.look.now args.i pre.3) ∙ c.if-posts-eq0.true)
 
-pub look_at-no-requires : goal.look_at-no-requires
-look_at-no-requires c =
-    let args = c.args in
-    let pre = c.requires in
-    (number_small args.n args.k pre.0 pre.1, omega (arith, pre))
-
-pub look_at-yes-requires : goal.look_at-yes-requires
-look_at-yes-requires c =
-    let args = c.args in
-    let pre = c.requires in
-    (number_small args.n args.k pre.0 pre.1, omega (arith, pre))
-
-pub bounds-ranks-k : goal.bounds-ranks-k
-bounds-ranks-k c =
-    let pre = c.requires in
-    omega (arith, pre.1, pre.2)
-
-pub overflow_cast-no : goal.overflow_cast-no
-overflow_cast-no c = omega (arith, c.look_at-no.type_inv)
-
 pub bounds-ranks-no : goal.bounds-ranks-no
 bounds-ranks-no c =
     let args = c.args in
     let pre = c.requires in
-    omega (arith, c.look_at-no.ensures, look_below args.k args.i false args.n pre.1 pre.4, pre.2)
+    omega (arith, (after_act c.requires.0 c.requires.1 c.requires.4 c.look_at-no.ensures.number), look_below args.k args.i false args.n pre.1 pre.4, pre.2)
 
 pub returns-then-rank-ranks : goal.returns-then-rank-ranks
 returns-then-rank-ranks c =
     let args = c.args in
     λ S t. look_no_lower t args.k args.i c.requires.4 false
     (subst (λ (x : ℕ). get_or args.ranks.now args.k 0 ≤ x)
-    (rank-at args.ranks.now c.look_at-no.ensures) c.if-rank-ranks.true)
-
-pub overflow_cast-yes : goal.overflow_cast-yes
-overflow_cast-yes c = omega (arith, c.look_at-yes.type_inv)
+    (rank-at args.ranks.now (after_act c.requires.0 c.requires.1 c.requires.4 c.look_at-no.ensures.number)) c.if-rank-ranks.true)
 
 pub bounds-ranks-yes : goal.bounds-ranks-yes
 bounds-ranks-yes c =
     let args = c.args in
     let pre = c.requires in
-    omega (arith, c.look_at-yes.ensures, look_below args.k args.i true args.n pre.1 pre.4, pre.2)
+    omega (arith, (after_act c.requires.0 c.requires.1 c.requires.4 c.look_at-yes.ensures.number), look_below args.k args.i true args.n pre.1 pre.4, pre.2)
 
 pub returns-then-rank-ranks-2 : goal.returns-then-rank-ranks-2
 returns-then-rank-ranks-2 c =
     let args = c.args in
     λ S t. look_no_lower t args.k args.i c.requires.4 true
     (subst (λ (x : ℕ). get_or args.ranks.now args.k 0 ≤ x)
-    (rank-at args.ranks.now c.look_at-yes.ensures) c.if-rank-ranks-2.true)
-
-pub lowest-requires : goal.lowest-requires
-lowest-requires c = c.if-posts-eq0.false
+    (rank-at args.ranks.now (after_act c.requires.0 c.requires.1 c.requires.4 c.look_at-yes.ensures.number)) c.if-rank-ranks-2.true)
 
 pub returns : goal.returns
 returns c =
@@ -92,9 +63,9 @@ returns c =
     (subst (λ (x : ℕ). Least (λ q. T (bit x q)) c.lowest.result) (at_side args.look.now args.i pre.3)
     c.lowest.ensures.0)
     (subst (λ (x : ℕ). x < get_or args.ranks.now args.k 0)
-    (rank-at args.ranks.now c.look_at-no.ensures) c.if-rank-ranks.false)
+    (rank-at args.ranks.now (after_act c.requires.0 c.requires.1 c.requires.4 c.look_at-no.ensures.number)) c.if-rank-ranks.false)
     (subst (λ (x : ℕ). x < get_or args.ranks.now args.k 0)
-    (rank-at args.ranks.now c.look_at-yes.ensures) c.if-rank-ranks-2.false)
+    (rank-at args.ranks.now (after_act c.requires.0 c.requires.1 c.requires.4 c.look_at-yes.ensures.number)) c.if-rank-ranks-2.false)
 
 pub bounds-look-side : goal.bounds-look-side
 bounds-look-side c = omega (arith, c.requires.3, below-sides c.args.n c.args.k c.requires.0)

@@ -8,11 +8,8 @@ use Rattle.ground.specs.Digits.{bit}
 use Rattle.ground.specs.Search.{Least}
 use Rattle.knowledge_acts.proofs.Outcomes.{set_below}
 use Rattle.finder_sides.proofs.Shown.{below-sides}
-use Rattle.finder.proofs.StepLaws.{number_small, at_side, rank-at, set-nobody, set_no_lower, set_do}
+use Rattle.finder.proofs.StepLaws.{after_act, at_side, rank-at, set-nobody, set_no_lower, set_do}
 use Rattle.finder.proofs.steps.set_step.Goals as goal
-
-pub offset_bounds-set-i : goal.offset_bounds-set-i
-offset_bounds-set-i c = omega (arith, c.requires)
 
 pub returns-then-posts-eq0 : goal.returns-then-posts-eq0
 returns-then-posts-eq0 c =
@@ -20,28 +17,11 @@ returns-then-posts-eq0 c =
     let pre = c.requires in
     λ S t. set-nobody t args.k args.i pre.4 args.value (sym (at_side args.set.now args.i pre.3) ∙ c.if-posts-eq0.true)
 
-pub set_to-next-requires : goal.set_to-next-requires
-set_to-next-requires c =
-    let args = c.args in
-    let pre = c.requires in
-    (number_small args.n args.k pre.0 pre.1, omega (arith, pre))
-
-pub overflow_cast-next : goal.overflow_cast-next
-overflow_cast-next c = omega (arith, c.set_to-next.type_inv)
-
 pub bounds-ranks-next : goal.bounds-ranks-next
 bounds-ranks-next c =
     let args = c.args in
     let pre = c.requires in
-    omega (arith, c.set_to-next.ensures, set_below args.k args.i args.value args.n pre.1 pre.4, pre.2)
-
-pub bounds-ranks-k : goal.bounds-ranks-k
-bounds-ranks-k c =
-    let pre = c.requires in
-    omega (arith, pre.1, pre.2)
-
-pub lowest-requires : goal.lowest-requires
-lowest-requires c = c.if-posts-eq0.false
+    omega (arith, (after_act c.requires.0 c.requires.1 c.requires.4 c.set_to-next.ensures.number), set_below args.k args.i args.value args.n pre.1 pre.4, pre.2)
 
 pub returns-then-ranks-next : goal.returns-then-ranks-next
 returns-then-ranks-next c =
@@ -51,14 +31,14 @@ returns-then-ranks-next c =
     (subst (λ (x : ℕ). Least (λ q. T (bit x q)) c.lowest.result) (at_side args.set.now args.i pre.3)
     c.lowest.ensures.0)
     (subst (λ (x : ℕ). x < get_or args.ranks.now args.k 0)
-    (rank-at args.ranks.now c.set_to-next.ensures) c.if-ranks-next.true)
+    (rank-at args.ranks.now (after_act c.requires.0 c.requires.1 c.requires.4 c.set_to-next.ensures.number)) c.if-ranks-next.true)
 
 pub returns : goal.returns
 returns c =
     let args = c.args in
     λ S t. set_no_lower t args.k args.i c.requires.4 args.value
     (subst (λ (x : ℕ). get_or args.ranks.now args.k 0 ≤ x)
-    (rank-at args.ranks.now c.set_to-next.ensures) c.if-ranks-next.false)
+    (rank-at args.ranks.now (after_act c.requires.0 c.requires.1 c.requires.4 c.set_to-next.ensures.number)) c.if-ranks-next.false)
 
 pub bounds-set-side : goal.bounds-set-side
 bounds-set-side c = omega (arith, c.requires.3, below-sides c.args.n c.args.k c.requires.0)

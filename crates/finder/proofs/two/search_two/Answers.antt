@@ -3,7 +3,7 @@
 use mathlib.Core.Path.{◌≡◌, sym, subst}
 use Prim.Native.Nat.{ℕ, ◌^◌, ◌<◌}
 use native.Mathlib.Omega.{arith}
-use Rattle.knowledge.specs.Goal.{Goal, goal_of}
+use Rattle.knowledge.specs.Goal.{Goal, wanted as the_goal}
 use Rattle.plan.specs.Plans.{System}
 use Rattle.plan.specs.Legs.{first_leg}
 use Rattle.plan.specs.Without.{without}
@@ -11,7 +11,7 @@ use Rattle.question.specs.Question.{ruled_system, start_of}
 use Rattle.question.specs.Legs.{second_system, first_system}
 use Rattle.question.proofs.AskLaws.{start_is}
 use Rattle.question.proofs.SystemLaws.{from_ruled, valid_start}
-use Rattle.question.proofs.LegLaws.{second-valid, second_lawful}
+use Rattle.question.proofs.LegLaws.{second_lawful}
 use Rattle.finder.specs.Answers.{AnswersFrom}
 use Rattle.finder.specs.Tables.{TablesTell}
 use Rattle.finder.specs.Finds.{RanksFilled}
@@ -19,38 +19,27 @@ use Rattle.finder.proofs.Without.{ranks-without, answers-without}
 use Rattle.finder.proofs.Tables.{first-tells, first-filled}
 use Rattle.finder.proofs.two.search_two.Goals as goal
 
-pub fill_leg-requires : goal.fill_leg-requires
-fill_leg-requires c =
-    let wantedFirst : Goal =
-    goal_of c.args.make.now c.args.learn.now in
-    let wantedSecond : Goal =
-    goal_of c.args.make2.now c.args.learn2.now in
-    let v = c.requires.0.1 in (
-      (c.requires.0.0, second-valid c.args.book.now c.args.question (wantedFirst) c.args.team2 (wantedSecond) v),
-      c.requires.1.second_room,
-    )
-
 pub from_start-requires : goal.from_start-requires
 from_start-requires c =
     let wantedFirst : Goal =
-    goal_of c.args.make.now c.args.learn.now in
+    the_goal c.args.goal in
     let wantedSecond : Goal =
-    goal_of c.args.make2.now c.args.learn2.now in
+    the_goal c.args.leg.goal in
     let secondHere : System =
-    second_system c.args.n c.args.book.now c.args.question c.args.team2 (wantedSecond) in
+    second_system c.args.n c.args.book.now c.args.question c.args.leg.team (wantedSecond) in
     let firstHere : System =
     first_leg c.args.n (ruled_system c.args.n c.args.book.now c.args.question (wantedFirst)) (secondHere) in
     let told : TablesTell c.args.n c.posts_allowed-set.result c.posts_allowed-look.result c.fill_first.new.ranks (firstHere) =
     let v = c.requires.0.1 in
     let leg = c.fill_leg.ensures in
     first-tells v.first c.posts_allowed-set.ensures c.posts_allowed-look.ensures c.made-done.ensures c.learnt-known.ensures
-    (second_lawful c.args.book.now c.args.question (wantedFirst) c.args.team2 (wantedSecond) v) leg.ranks
+    (second_lawful c.args.book.now c.args.question (wantedFirst) c.args.leg.team (wantedSecond) v) leg.ranks
     c.fill_first.ensures (omega (arith, c.requires.1.second_room, leg.size)) c.requires.1.first_room in
     let filled : RanksFilled c.args.n (firstHere) c.args.ranks.now c.fill_first.new.ranks =
     let v = c.requires.0.1 in
     let leg = c.fill_leg.ensures in
     first-filled v.first c.posts_allowed-set.ensures c.posts_allowed-look.ensures c.made-done.ensures c.learnt-known.ensures
-    (second_lawful c.args.book.now c.args.question (wantedFirst) c.args.team2 (wantedSecond) v) leg.ranks
+    (second_lawful c.args.book.now c.args.question (wantedFirst) c.args.leg.team (wantedSecond) v) leg.ranks
     c.fill_first.ensures (omega (arith, c.requires.1.second_room, leg.size)) c.requires.1.first_room in
     let start-here : c.number-start.result ≡ start_of c.args.question =
     start_is c.args.question c.at_start.ensures c.number-start.ensures in (
@@ -59,33 +48,30 @@ from_start-requires c =
       (firstHere, told),
     )
 
-pub shape_of-ranks2 : goal.shape_of-ranks2
-shape_of-ranks2 c = c.fill_leg.ensures.size
-
 pub returns : goal.returns
 unfolding first_leg
 returns c =
     let wantedFirst : Goal =
-    goal_of c.args.make.now c.args.learn.now in
+    the_goal c.args.goal in
     let wantedSecond : Goal =
-    goal_of c.args.make2.now c.args.learn2.now in
+    the_goal c.args.leg.goal in
     let secondHere : System =
-    second_system c.args.n c.args.book.now c.args.question c.args.team2 (wantedSecond) in
+    second_system c.args.n c.args.book.now c.args.question c.args.leg.team (wantedSecond) in
     let firstHere : System =
     first_leg c.args.n (ruled_system c.args.n c.args.book.now c.args.question (wantedFirst)) (secondHere) in
-    let asked : (P : System → Type 0) → P (without (firstHere)) → P (first_system c.args.n c.args.book.now c.args.question (wantedFirst) c.args.team2 (wantedSecond)) =
+    let asked : (P : System → Type 0) → P (without (firstHere)) → P (first_system c.args.n c.args.book.now c.args.question (wantedFirst) c.args.leg.team (wantedSecond)) =
     λ P. λ h. from_ruled c.args.n c.args.book.now c.args.question (wantedFirst) (λ (S : System). P (first_leg c.args.n S (secondHere))) h in
     let told : TablesTell c.args.n c.posts_allowed-set.result c.posts_allowed-look.result c.fill_first.new.ranks (firstHere) =
     let v = c.requires.0.1 in
     let leg = c.fill_leg.ensures in
     first-tells v.first c.posts_allowed-set.ensures c.posts_allowed-look.ensures c.made-done.ensures c.learnt-known.ensures
-    (second_lawful c.args.book.now c.args.question (wantedFirst) c.args.team2 (wantedSecond) v) leg.ranks
+    (second_lawful c.args.book.now c.args.question (wantedFirst) c.args.leg.team (wantedSecond) v) leg.ranks
     c.fill_first.ensures (omega (arith, c.requires.1.second_room, leg.size)) c.requires.1.first_room in
     let filled : RanksFilled c.args.n (firstHere) c.args.ranks.now c.fill_first.new.ranks =
     let v = c.requires.0.1 in
     let leg = c.fill_leg.ensures in
     first-filled v.first c.posts_allowed-set.ensures c.posts_allowed-look.ensures c.made-done.ensures c.learnt-known.ensures
-    (second_lawful c.args.book.now c.args.question (wantedFirst) c.args.team2 (wantedSecond) v) leg.ranks
+    (second_lawful c.args.book.now c.args.question (wantedFirst) c.args.leg.team (wantedSecond) v) leg.ranks
     c.fill_first.ensures (omega (arith, c.requires.1.second_room, leg.size)) c.requires.1.first_room in
     let start-here : c.number-start.result ≡ start_of c.args.question =
     start_is c.args.question c.at_start.ensures c.number-start.ensures in

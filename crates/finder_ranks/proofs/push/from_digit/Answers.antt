@@ -14,9 +14,6 @@ overflow_add-at c =
     let pre = c.requires in
     omega (arith, spot_below pre.0 c.args.e pre.2, spot_states pre.0)
 
-pub now_of-requires : goal.now_of-requires
-now_of-requires c = c.requires.2
-
 pub overflow_mul-side : goal.overflow_mul-side
 overflow_mul-side c =
     let pre = c.requires in

@@ -11,6 +11,3 @@ returns-then-bit_of c =
     rw (sym c.bit_of.ensures ∙ c.if-bit_of.true)
     (c.finds.ensures ∙ ap (λ p. truth (drop p args.book.now) args.v.0) c.rule_at.ensures
     ∙ rule-truth args.book.now args.setting args.post args.right args.v.0 c.requires)
-
-pub returns : goal.returns
-returns c = rw (sym c.bit_of.ensures ∙ c.if-bit_of.false)

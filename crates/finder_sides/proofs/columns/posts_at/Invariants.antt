@@ -1,6 +1,5 @@
 -- `finder_sides::columns::posts_at` meets its contract. The loop has read the posts from the last down.
 use mathlib.Core.Bool.{◌&&◌}
-use Prim.Native.Nat.{◌-◌}
 use Rattle.ground.specs.Digits.{bit}
 use Rattle.ground.specs.Table.{truth}
 use Rattle.book_block.specs.Rule.{rule}
@@ -9,6 +8,3 @@ use Rattle.finder_sides.proofs.columns.posts_at.Given as goal
 
 abbrev pub invariant-loop-post : goal.invariant-loop-post
 invariant-loop-post l = BitsFrom (λ q. bit l.team q && truth (rule l.book l.setting q l.right) l.v.0) l.post l.bits
-
-abbrev pub decreases-loop-post : goal.decreases-loop-post
-decreases-loop-post l = l.post

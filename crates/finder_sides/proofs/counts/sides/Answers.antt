@@ -1,8 +1,7 @@
--- `finder_sides::counts::sides` meets its contract: the table of powers, by a computed test.
-use Rattle.ground.specs.Search.{all}
-use Rattle.finder_sides.proofs.CountLaws.{power_of, threes}
+-- `finder_sides::counts::sides` meets its contract: the power is small.
+use native.Mathlib.Omega.{arith}
+use Rattle.finder_sides.proofs.CountLaws.{sides-most}
 use Rattle.finder_sides.proofs.counts.sides.Goals as goal
 
-pub returns : goal.returns
-unfolding all
-returns c = power_of 3 threes tt c.args.n c.requires
+pub pow-requires : goal.pow-requires
+pow-requires c = omega (arith, sides-most c.args.n c.requires)

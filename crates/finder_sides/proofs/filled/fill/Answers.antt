@@ -1,20 +1,14 @@
 -- `finder_sides::filled::fill` meets its contract. The loop has filled the entries from the side up.
-use mathlib.Core.Path.{◌∙◌}
 use Prim.Native.Nat.{◌-◌}
 use native.Mathlib.Omega.{arith}
-use lib.ListN.{length-set}
 use Rattle.finder_sides.proofs.CountLaws.{sides-most}
-use Rattle.finder_sides.proofs.FillLaws.{filled_more, past_more, filled-all, zeros_long, zeros_at}
+use Rattle.finder_sides.proofs.FillLaws.{filled_more, past_more, zeros_long, zeros_at}
+use lib.ListN.{length-set}
+use mathlib.Core.Path.{◌∙◌}
 use Rattle.finder_sides.proofs.filled.fill.Goals as goal
-
-pub sides-side-requires : goal.sides-side-requires
-sides-side-requires c = c.requires
 
 pub loop-side-init : goal.loop-side-init
 loop-side-init c = (omega (arith, c.sides-side.ensures), zeros_long 2187, λ s h l. absurd (omega (arith, c.sides-side.ensures)), λ s h. zeros_at 2187 s)
-
-pub entry_of-requires : goal.entry_of-requires
-entry_of-requires c = (c.requires, omega arith, λ s h l. c.loop-side.invariant.2 s (omega arith) l)
 
 pub bounds-table-side : goal.bounds-table-side
 bounds-table-side c = omega (arith, sides-most c.args.n c.requires)
@@ -29,6 +23,3 @@ loop-side-preserved c =
           loop.invariant.2 c.entry_of.ensures,
       past_more args.n loop.table c.entry_of.result (omega arith) loop.invariant.3,
     )
-
-pub returns : goal.returns
-returns c = filled-all c.loop-side.table c.loop-side-test.false c.loop-side.invariant.1 c.loop-side.invariant.2 c.loop-side.invariant.3

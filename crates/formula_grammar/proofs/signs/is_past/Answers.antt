@@ -8,11 +8,8 @@ overflow_sub-result c = letter-low c.args.c (sym c.if-is_letter.true ∙ c.is_le
 
 pub returns-then-is_letter : goal.returns-then-is_letter
 returns-then-is_letter c =
-    let args = c.args in
-    past-letter args.n args.c (sym c.is_letter.ensures ∙ c.if-is_letter.true)
-    (letter-low args.c (sym c.if-is_letter.true ∙ c.is_letter.ensures))
+    past-letter c.args.n c.args.c (sym c.is_letter.ensures ∙ c.if-is_letter.true)
+    (letter-low c.args.c (sym c.if-is_letter.true ∙ c.is_letter.ensures))
 
-pub returns : goal.returns
-returns c =
-    let args = c.args in
-    past-none args.n args.c (sym c.is_letter.ensures ∙ c.if-is_letter.false)
+pub returns-else-is_letter : goal.returns-else-is_letter
+returns-else-is_letter c = c.if-is_letter.false ∙ past-none c.args.n c.args.c (sym c.is_letter.ensures ∙ c.if-is_letter.false)

@@ -1,19 +1,21 @@
--- `knowledge_judging::goal::is_settled` meets its contract: the make formula, then the learn formulas.
-use borrow.Author.Tests.{lt-leb}
+-- `knowledge_judging::goal::is_settled` meets its contract: the count of settings, the make formula, then the learn formulas.
+use mathlib.Core.Path.{sym, ◌∙◌}
+use native.Mathlib.Omega.{arith}
+use borrow.Author.Tests.{leb-true, lt-leb}
 use Rattle.knowledge_judging.proofs.GoalLaws.{goal-not, goal-learnt}
 use Rattle.knowledge_judging.proofs.goal.is_settled.Goals as goal
+use Rattle.knowledge_judging.proofs.goal.is_settled.Goals.{then-n-le-MOST, else-n-le-MOST}
 
-pub returns-then-n-gt-MOST : goal.returns-then-n-gt-MOST
-returns-then-n-gt-MOST c = rw (lt-leb _ _ c.if-n-gt-MOST.true)
+pub returns-then-holds : goal.returns-then-holds
+returns-then-holds c = elim c.if-n-le-MOST.branch [
+  | then-n-le-MOST w ↦ goal-learnt c.args.n c.args.k w.if-n-le-MOST.true c.from_number-state.ensures c.args.goal.make.now c.args.goal.learn.now
+      w.judge.ensures w.holds.ensures (sym w.value-is ∙ c.if-holds.true) c.learnt.ensures
+  | else-n-le-MOST w ↦ absurd (omega (arith, leb-true _ _ (sym w.value-is ∙ c.if-holds.true), w.if-n-le-MOST.false))
+]
 
-pub returns-then-not-holds : goal.returns-then-not-holds
-returns-then-not-holds c =
-    let a = c.args in
-    goal-not a.n a.k c.if-n-gt-MOST.false c.from_number-state.ensures a.make.now a.learn.now c.judge.ensures
-    c.holds.ensures (c.if-not-holds.true)
-
-pub returns : goal.returns
-returns c =
-    let a = c.args in
-    goal-learnt a.n a.k c.if-n-gt-MOST.false c.from_number-state.ensures a.make.now a.learn.now
-    c.judge.ensures c.holds.ensures (c.if-not-holds.false) c.learnt.ensures
+pub returns-else-holds : goal.returns-else-holds
+returns-else-holds c = elim c.if-n-le-MOST.branch [
+  | then-n-le-MOST w ↦ c.if-holds.false ∙ goal-not c.args.n c.args.k w.if-n-le-MOST.true c.from_number-state.ensures c.args.goal.make.now c.args.goal.learn.now
+      w.judge.ensures w.holds.ensures (sym w.value-is ∙ c.if-holds.false)
+  | else-n-le-MOST w ↦ rw (lt-leb _ _ w.if-n-le-MOST.false) c.if-holds.false
+]

@@ -1,27 +1,18 @@
--- `digit_count` meets its contract: the first i bytes are digits, so what is left to be counted begins at i.
-use mathlib.Core.Path.{sym, ◌∙◌}
-use Prim.Native.Nat.{◌-◌}
-use native.Mathlib.Numerals.{add-one}
-use native.Mathlib.Omega.{arith}
-use Rattle.plancheck_text.proofs.LineLaws.{digits-past, digits_step}
+-- `digit_count` meets its contract: the bytes that it counts are the digits in front.
+use Rattle.std.proofs.Common.{rules, ◌∙◌}
+use borrow.Author.Tests.{tests}
+use Rattle.std.proofs.lemmas.Iterator.{YieldsList-from_slice}
+use Rattle.std.proofs.lemmas.Iterator.Search.{YieldsList-from_take_while}
+use Rattle.std.proofs.lemmas.Iterator.Consumers.{count_from_yields_List}
+use Rattle.std.proofs.lemmas.List.Folds.{length-prefix_len}
+use Rattle.sheet_words.specs.Words.{among}
+use Rattle.plancheck_text.proofs.LineLaws.{digits_first}
 use Rattle.plancheck_text.proofs.line.digit_count.Goals as goal
-
-pub loop-i-init : goal.loop-i-init
-loop-i-init c = (omega arith, omega arith)
-
-pub returns-then-not-among : goal.returns-then-not-among
-returns-then-not-among c =
-    let s = c.args.text.now in
-    let l = c.loop-i in
-    omega (arith, l.invariant.1, digits_step s l.i c.loop-i-test.true (sym c.among.ensures ∙ c.if-not-among.true))
-
-pub loop-i-preserved : goal.loop-i-preserved
-loop-i-preserved c =
-    let s = c.args.text.now in
-    let l = c.loop-i in
-    (omega arith, rw (add-one) (omega (arith, l.invariant.1, digits_step s l.i c.loop-i-test.true (sym c.among.ensures ∙ c.if-not-among.false))))
 
 pub returns : goal.returns
 returns c =
-    let l = c.loop-i in
-    omega (arith, l.invariant.1, digits-past c.args.text.now l.i c.loop-i-test.false)
+    let s = c.args.text.now in
+    count_from_yields_List c.take_while.result _ c.count.ensures.ran
+    (YieldsList-from_take_while _ (λ x. among 48 10 x) (YieldsList-from_slice s cc) c.take_while.ensures.closure c.take_while.ensures.done
+    (λ x b q k. search (rules, tests)))
+    ∙ length-prefix_len (λ x. among 48 10 x) s ∙ digits_first s

@@ -1,40 +1,19 @@
--- `has_form` meets its contract: the bytes before i fit the form, so what is left to be judged begins at i.
-use mathlib.Core.Path.{refl, sym, ◌∙◌}
-use Prim.Native.Nat.{◌-◌}
-use native.Mathlib.Numerals.{add-one}
-use native.Mathlib.Omega.{arith}
-use Rattle.plancheck_text.proofs.LineLaws.{form_lengths, form_step, form_whole}
+-- `has_form` meets its contract: as many bytes as signs, and each stands for its own.
+use Rattle.std.proofs.Common.{rules, arith, ◌∙◌}
+use Rattle.std.proofs.lemmas.Grind.{common_steps}
+use borrow.Author.Tests.{tests}
+use Rattle.std.proofs.lemmas.Iterator.{YieldsList-from_slice, YieldsList-from_zip}
+use Rattle.std.proofs.lemmas.Iterator.Search.{all_from_yields_List}
+use Rattle.plancheck_text.specs.Lines.{stands_for}
+use Rattle.plancheck_text.proofs.LineLaws.{form_zipped, form_lengths}
 use Rattle.plancheck_text.proofs.line.has_form.Goals as goal
 
 pub returns-then-form-text : goal.returns-then-form-text
 returns-then-form-text c =
-    let a = c.args in
-    sym (form_lengths a.form.now a.text.now c.if-form-text.true)
+    all_from_yields_List (λ p. stands_for p.0 p.1) c.all.new.self _ c.all.result c.all.ensures.ran
+    (YieldsList-from_zip (YieldsList-from_slice c.args.form.now cc) (YieldsList-from_slice c.args.text.now cc))
+    (λ x b q k. search (rules, tests))
+    ∙ form_zipped c.args.form.now c.args.text.now c.if-form-text.true
 
-pub loop-i-init : goal.loop-i-init
-loop-i-init c = (c.if-form-text.false, refl)
-
-pub returns-then-not-stands_for : goal.returns-then-not-stands_for
-returns-then-not-stands_for c =
-    let a = c.args in
-    let l = c.loop-i in
-    sym (sym l.invariant.1
-    ∙ form_step a.form.now a.text.now l.i c.loop-i-test.true (omega (arith, c.loop-i-test.true, l.invariant.0))
-    (sym c.stands_for.ensures ∙ c.if-not-stands_for.true))
-
-pub loop-i-preserved : goal.loop-i-preserved
-loop-i-preserved c =
-    let a = c.args in
-    let l = c.loop-i in (
-      l.invariant.0,
-      rw add-one
-          (sym (form_step a.form.now a.text.now l.i c.loop-i-test.true (omega (arith, c.loop-i-test.true, l.invariant.0))
-          (sym c.stands_for.ensures ∙ c.if-not-stands_for.false))
-          ∙ l.invariant.1),
-    )
-
-pub returns : goal.returns
-returns c =
-    let a = c.args in
-    let l = c.loop-i in
-    sym (form_whole a.form.now a.text.now l.i l.invariant.0 c.loop-i-test.false) ∙ l.invariant.1
+pub returns-else-form-text : goal.returns-else-form-text
+returns-else-form-text c = grind (arith, common_steps, form_lengths)

@@ -1,13 +1,9 @@
 -- `question::permit::permits` meets its contract: by the kind of act; of a set first by the mask of held settings and last by what its digit tells, of a
 -- look first by the digit.
-use borrow.Author.Tests.{lt-leb}
 use mathlib.Core.Path.{sym, ◌∙◌}
 use Rattle.knowledge.specs.Number.{digit_in}
 use Rattle.question.proofs.PermitLaws.{set_says, set_of_held, look_says, look_at-known}
 use Rattle.question.proofs.permit.permits.Goals as goal
-
-pub returns-then-n-gt-MOST : goal.returns-then-n-gt-MOST
-returns-then-n-gt-MOST c = rw (lt-leb _ _ c.if-n-gt-MOST.true)
 
 pub returns-then-bit_of : goal.returns-then-bit_of
 returns-then-bit_of c =

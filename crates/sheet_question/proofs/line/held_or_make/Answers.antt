@@ -6,17 +6,14 @@ use Rattle.sheet_question.proofs.StepLaws.{held_by}
 use mathlib.Core.Bool.{true, false}
 use Rattle.sheet_question.proofs.line.held_or_make.Goals as goal
 
-pub held_line-requires : goal.held_line-requires
-held_line-requires c = c.requires
-
 pub returns-then-begins : goal.returns-then-begins
 returns-then-begins c =
     let x = c.args in
-    λ a h. subst (λ (st : AskedStep). Steps x.settings st c.held_line.result.taken c.held_line.result.desk)
+    λ a h. subst (λ (st : AskedStep). Steps x.settings st c.held_line.result)
     (sym (held_by x.settings x.number a x.line.now true (sym c.begins.ensures ∙ c.if-begins.true))) (c.held_line.ensures x.settings a h)
 
 pub returns : goal.returns
 returns c =
     let x = c.args in
-    λ a h. subst (λ (st : AskedStep). Steps x.settings st c.make_line.result.taken c.make_line.result.desk)
+    λ a h. subst (λ (st : AskedStep). Steps x.settings st c.make_line.result)
     (sym (held_by x.settings x.number a x.line.now false (sym c.begins.ensures ∙ c.if-begins.false))) (c.make_line.ensures a h)

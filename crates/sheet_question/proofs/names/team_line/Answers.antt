@@ -1,22 +1,16 @@
 -- `team_line` meets its contract, by what the line names.
-use native.Mathlib.Omega.{arith}
+use Rattle.std.proofs.lemmas.Result.{err_from_is_err_and}
 use Rattle.sheet_question.proofs.Turns.{faulty}
 use Rattle.sheet_question.proofs.NameTurns.{team-not, team-taken}
 use Rattle.sheet_question.proofs.names.team_line.Goals as goal
 
-pub names_line-named-requires : goal.names_line-named-requires
-names_line-named-requires c = omega (arith, c.requires)
-
-pub returns-in-Not : goal.returns-in-Not
-returns-in-Not c =
+pub returns-in_err-marks : goal.returns-in_err-marks
+returns-in_err-marks c =
     let x = c.args in
-    let k = c.names_line-named in
-    λ n a h. faulty n c.in-Not.why c.at_fault.result.desk
-    (team-not n x.number a x.desk h x.line.now k.result x.posts k.ensures c.in-Not.why c.in-Not.is)
-    c.at_fault.ensures
+    let p = err_from_is_err_and c.from_residual.result c.from_residual.ensures.1 in
+    rw (p.1, p.2) (λ n a h. faulty n (team-not n x.number a x.desk h x.line.now x.posts c.in_err-marks.ensures))
 
-pub returns-in-As : goal.returns-in-As
-returns-in-As c =
+pub returns : goal.returns
+returns c =
     let x = c.args in
-    let k = c.names_line-named in
-    λ n a h. team-taken n x.number a x.desk h x.line.now k.result x.posts k.ensures c.in-As.marks c.in-As.is
+    λ n a h. team-taken n x.number a x.desk h x.line.now x.posts c.in_ok-marks.marks c.in_ok-marks.ensures

@@ -1,22 +1,12 @@
--- `is_of_rules` meets its contract, test by test.
-use mathlib.Core.Path.{refl, sym, ◌∙◌}
-use mathlib.Core.Bool.{true, false}
-use Rattle.sheet_rules.proofs.FormLaws.{of_rules_by}
+use Rattle.std.proofs.Common.{arith}
+use Rattle.std.proofs.lemmas.Grind.{common_steps}
+use Rattle.sheet_rules.specs.Forms.{is_of_rules}
 use Rattle.sheet_rules.proofs.line.is_of_rules.Goals as goal
 
-pub returns-then-is_passed : goal.returns-then-is_passed
-returns-then-is_passed c =
-    let a = c.args in
-    sym (of_rules_by a.passes a.n a.m a.line.now true _ _ (sym c.is_passed.ensures ∙ c.if-is_passed.true) refl refl)
-
 pub returns-then-is_rule : goal.returns-then-is_rule
-returns-then-is_rule c =
-    let a = c.args in
-    sym (of_rules_by a.passes a.n a.m a.line.now false true _ (sym c.is_passed.ensures ∙ c.if-is_passed.false)
-    (sym c.is_rule.ensures ∙ c.if-is_rule.true) refl)
+unfolding is_of_rules
+returns-then-is_rule c = grind (arith, common_steps)
 
-pub returns : goal.returns
-returns c =
-    let a = c.args in
-    sym (of_rules_by a.passes a.n a.m a.line.now false false _ (sym c.is_passed.ensures ∙ c.if-is_passed.false)
-    (sym c.is_rule.ensures ∙ c.if-is_rule.false) (sym c.is_rule-2.ensures))
+pub returns-else-is_rule : goal.returns-else-is_rule
+unfolding is_of_rules
+returns-else-is_rule c = grind (arith, common_steps)

@@ -8,13 +8,14 @@ use Rattle.sheet_rules.specs.Rules.{Rules}
 use Rattle.sheet_rules.specs.Turns.{Turns}
 use Rattle.sheet_rules.proofs.Turns.{taken}
 use Rattle.sheet_rules.proofs.RuleTurns.{line_of, set-left}
-use borrow.Author.Rules.{rules}
+use Rattle.std.proofs.Common.{arith}
+use Rattle.std.proofs.lemmas.Grind.{common_steps}
 use Rattle.sheet_rules.proofs.line.rules_line.Goals as goal
 
-pub returns-then-is_passed : goal.returns-then-is_passed
-returns-then-is_passed c =
+pub returns-then-passed_over : goal.returns-then-passed_over
+returns-then-passed_over c =
     let a = c.args in
-    λ rules h. taken (line_of a.passes rules a.desk h a.line.now a.number true _ (sym c.is_passed.ensures ∙ c.if-is_passed.true) refl) h
+    λ rules h. taken (line_of a.passes rules a.desk h a.line.now a.number true _ (grind (arith, common_steps)) refl) h
 
 pub rule_line-requires : goal.rule_line-requires
 rule_line-requires c = (c.requires.0, lit< tt, true→T (sym c.is_rule.ensures ∙ c.if-is_rule.true))
@@ -22,9 +23,9 @@ rule_line-requires c = (c.requires.0, lit< tt, true→T (sym c.is_rule.ensures �
 pub returns-then-is_rule : goal.returns-then-is_rule
 returns-then-is_rule c =
     let a = c.args in
-    λ rules h. subst (λ (s : Step Rules). Turns s c.rule_line.result.taken c.rule_line.result.desk)
+    λ rules h. subst (λ (s : Step Rules). Turns s c.rule_line.result)
     (sym (line_of a.passes rules a.desk h a.line.now a.number false true
-    (sym c.is_passed.ensures ∙ c.if-is_passed.false) (sym c.is_rule.ensures ∙ c.if-is_rule.true))) (c.rule_line.ensures rules h)
+    (grind (arith, common_steps)) (sym c.is_rule.ensures ∙ c.if-is_rule.true))) (c.rule_line.ensures rules h)
 
 pub rule_line-requires-2 : goal.rule_line-requires-2
 rule_line-requires-2 c =
@@ -32,12 +33,12 @@ rule_line-requires-2 c =
       c.requires.0,
       lit< tt,
       set-left a.passes a.desk.settings a.desk.posts a.line.now c.requires.1
-          (sym c.is_passed.ensures ∙ c.if-is_passed.false) (sym c.is_rule.ensures ∙ c.if-is_rule.false),
+          (grind (arith, common_steps)) (sym c.is_rule.ensures ∙ c.if-is_rule.false),
     )
 
 pub returns : goal.returns
 returns c =
     let a = c.args in
-    λ rules h. subst (λ (s : Step Rules). Turns s c.rule_line-2.result.taken c.rule_line-2.result.desk)
+    λ rules h. subst (λ (s : Step Rules). Turns s c.rule_line-2.result)
     (sym (line_of a.passes rules a.desk h a.line.now a.number false false
-    (sym c.is_passed.ensures ∙ c.if-is_passed.false) (sym c.is_rule.ensures ∙ c.if-is_rule.false))) (c.rule_line-2.ensures rules h)
+    (grind (arith, common_steps)) (sym c.is_rule.ensures ∙ c.if-is_rule.false))) (c.rule_line-2.ensures rules h)

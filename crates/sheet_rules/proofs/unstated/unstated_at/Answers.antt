@@ -17,7 +17,7 @@ returns-then-slot-eq0 c =
     let a = c.args in
     a_look a.n a.m a.looks a.sets a.slot c.if-n-slot.false c.if-m-slot.false c.if-slot-eq0.true
 
-pub returns : goal.returns
-returns c =
+pub returns-else-slot-eq0 : goal.returns-else-slot-eq0
+returns-else-slot-eq0 c =
     let a = c.args in
     a_set a.n a.m a.looks a.sets a.slot c.if-n-slot.false c.if-m-slot.false c.if-slot-eq0.false

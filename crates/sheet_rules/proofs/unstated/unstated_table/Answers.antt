@@ -2,8 +2,8 @@
 use Rattle.sheet_rules.proofs.HoldLaws.{unstated-read}
 use Rattle.sheet_rules.proofs.unstated.unstated_table.Goals as goal
 
+pub unwrap-requires : goal.unwrap-requires
+unwrap-requires c = unstated-read c.args.n c.requires.0 c.requires.1 c.args.right c.read.result (rw c.unstated.ensures at c.read.ensures)
+
 pub returns : goal.returns
-returns c =
-    let a = c.args in
-    unstated-read a.n c.requires.0 c.requires.1 a.right c.read-reading.result.answer c.read-reading.result.table
-    (rw c.unstated-text.ensures at c.read-reading.ensures)
+returns c = rw (c.unstated.ensures, c.unwrap.ensures) at c.read.ensures

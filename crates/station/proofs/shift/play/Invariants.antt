@@ -1,12 +1,7 @@
--- `play` meets its contract: each turn reads the record after those that were done.
-use mathlib.Core.Path.{◌≡◌}
-use Prim.Native.Nat.{◌-◌, ◌/◌, ◌%◌}
-use lib.ListN.{length}
+-- `play` meets its contract: the records before this one were done.
+use Rattle.std.proofs.Common.{◌≡◌}
 use Rattle.station.specs.Shift.{Reached}
 use Rattle.station.proofs.shift.play.Given as goal
 
-abbrev pub invariant-loop-running : goal.invariant-loop-running
-invariant-loop-running l = (length l.shift % 2 ≡ 0) × Reached l.n l.m l.book l.initial.running.present.0 l.shift l.running
-
-abbrev pub decreases-loop-running : goal.decreases-loop-running
-decreases-loop-running l = length l.shift / 2 - l.running.count
+abbrev pub invariant-loop-at : goal.invariant-loop-at
+invariant-loop-at l = (l.running.count ≡ l.at) × Reached l.n l.m l.book l.fn.first.0 l.shift l.running

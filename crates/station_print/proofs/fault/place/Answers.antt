@@ -1,5 +1,7 @@
 -- `place` meets its contract: the index, and of a text the line.
 use mathlib.Core.Path.{sym, ap, ◌∙◌}
+use Rattle.std.proofs.Common.{ℕ, Option}
+use Rattle.std.specs.Option.{unwrap_or}
 use Rattle.ground.specs.Text.{bytes}
 use Rattle.print_room.specs.Decimal.{decimal}
 use Rattle.print_room.proofs.Writing.{wrote_then, ends-left, ends-right, wrote_as, ends_as}
@@ -31,7 +33,7 @@ pub number-requires : goal.number-requires
 number-requires c =
     let a = c.args in
     let e = place-line a.shift.now a.index (sym c.is_text.ensures ∙ c.if-not-is_text.false) in
-    ends_as (ap decimal (sym c.line_of.ensures))
+    ends_as (ap decimal (sym (c.unwrap_or.ensures ∙ ap (λ (n : Option ℕ). unwrap_or n 0) c.line_of.ensures)))
     (ends-right c.word-to-2.ensures (ends-right c.number-to.ensures (ends-right c.word-to.ensures (ends_as e c.requires))))
 
 pub returns : goal.returns
@@ -40,4 +42,4 @@ returns c =
     let e = place-line a.shift.now a.index (sym c.is_text.ensures ∙ c.if-not-is_text.false) in
     wrote_as (sym e)
     (wrote_then c.word-to.ensures
-    (wrote_then c.number-to.ensures (wrote_then c.word-to-2.ensures (wrote_as (ap decimal c.line_of.ensures) c.number.ensures))))
+    (wrote_then c.number-to.ensures (wrote_then c.word-to-2.ensures (wrote_as (ap decimal (c.unwrap_or.ensures ∙ ap (λ (n : Option ℕ). unwrap_or n 0) c.line_of.ensures)) c.number.ensures))))

@@ -49,26 +49,26 @@ put-to-requires c =
     let a = c.args in
     let e = ap (λ (f : RecordFault). why_text f a.n a.present a.seen) (numbered_29 a.number c.if-number-eq27.false c.if-number-eq28.false) in
     let rest = bytes " where " ++ setting_words a.n a.present in
-    ends-left (_ ∷ []) rest (ends_as (ap (λ (d : ℕ). d ∷ rest) (sym c.unseen_digit.ensures)) (ends-right c.word-to-2.ensures (ends_as e c.requires.1)))
+    ends-left (_ ∷ []) rest (ends_as (ap (λ (d : ℕ). d ∷ rest) (sym c.value_digit.ensures)) (ends-right c.word-to-2.ensures (ends_as e c.requires.1)))
 
 pub word-to-requires-3 : goal.word-to-requires-3
 word-to-requires-3 c =
     let a = c.args in
     let e = ap (λ (f : RecordFault). why_text f a.n a.present a.seen) (numbered_29 a.number c.if-number-eq27.false c.if-number-eq28.false) in
     let rest = bytes " where " ++ setting_words a.n a.present in
-    let shown = wrote_as (ap (λ (d : ℕ). d ∷ []) c.unseen_digit.ensures) c.put-to.ensures in
+    let shown = wrote_as (ap (λ (d : ℕ). d ∷ []) c.value_digit.ensures) c.put-to.ensures in
     ends-left (bytes " where ") (setting_words a.n a.present) (ends-right shown (ends-right c.word-to-2.ensures (ends_as e c.requires.1)))
 
 pub words-requires-2 : goal.words-requires-2
 words-requires-2 c =
     let a = c.args in
     let e = ap (λ (f : RecordFault). why_text f a.n a.present a.seen) (numbered_29 a.number c.if-number-eq27.false c.if-number-eq28.false) in
-    let shown = wrote_as (ap (λ (d : ℕ). d ∷ []) c.unseen_digit.ensures) c.put-to.ensures in
+    let shown = wrote_as (ap (λ (d : ℕ). d ∷ []) c.value_digit.ensures) c.put-to.ensures in
     (c.requires.0, ends-right c.word-to-3.ensures (ends-right shown (ends-right c.word-to-2.ensures (ends_as e c.requires.1))))
 
 pub returns : goal.returns
 returns c =
     let a = c.args in
     let e = ap (λ (f : RecordFault). why_text f a.n a.present a.seen) (numbered_29 a.number c.if-number-eq27.false c.if-number-eq28.false) in
-    let shown = wrote_as (ap (λ (d : ℕ). d ∷ []) c.unseen_digit.ensures) c.put-to.ensures in
+    let shown = wrote_as (ap (λ (d : ℕ). d ∷ []) c.value_digit.ensures) c.put-to.ensures in
     wrote_as (sym e) (wrote_then c.word-to-2.ensures (wrote_then shown (wrote_then c.word-to-3.ensures c.words-2.ensures)))

@@ -1,11 +1,7 @@
 -- `names` meets its contract. The loop's invariant: the first i settings were written.
-use Prim.Native.Nat.{◌≤◌, ◌-◌}
 use Rattle.print_room.specs.Wrote.{Wrote}
 use Rattle.station_print.specs.Settings.{setting_names}
 use Rattle.station_print.proofs.settings.names.Given as goal
 
 abbrev pub invariant-loop-i : goal.invariant-loop-i
-invariant-loop-i l = (l.i ≤ l.n) × Wrote l.initial.out l.to (setting_names l.i l.present) l.out l.at
-
-abbrev pub decreases-loop-i : goal.decreases-loop-i
-decreases-loop-i l = l.n - l.i
+invariant-loop-i l = Wrote l.initial.out l.to (setting_names l.i l.present) l.out l.at
