@@ -39,7 +39,8 @@ pub struct AskedDesk {
 }
 
 impl AskedDesk {
-    // What is asked for, as the finders take it.
+    // What is asked for, as the finders take it. For this repository alone: a desk that a text has filled counts no more
+    // tables than it holds.
     pub fn goal(&self) -> Goal
         requires { self.now.asks ≤ 4 }
         ensures { wanted result ≡ goal_of self.now.make (take (16 * self.now.asks) self.now.learn) }
