@@ -13,7 +13,7 @@ use ground::peek;
 pub(crate) fn byte_at(bytes: &[u8], from: usize, i: usize) -> u8
     ensures { result ≡ slice_index bytes.now (from + i) }
 {
-    if bytes.len().saturating_sub(from) <= i {
+    if bytes.len() <= from || bytes.len() - from <= i {
         return 0;
     }
     peek(bytes, from + i)

@@ -23,7 +23,14 @@ fn live_bits(n: u8, m: u8, j: usize) -> usize
         return BYTE;
     }
     let all: usize = 1 << n;
-    BYTE.min(all.saturating_sub(BYTE * (j % TABLE)))
+    let first = BYTE * (j % TABLE);
+    if all <= first {
+        return 0;
+    }
+    if BYTE <= all - first {
+        return BYTE;
+    }
+    all - first
 }
 
 // Whether only the low `bits` bits of a byte are set.

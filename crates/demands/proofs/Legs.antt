@@ -54,7 +54,7 @@ module _ (book : List ℕ) (q : Question) (goal : Goal) (team2 : ℕ) (goal2 : G
         → (a : Result Answer Refusal) → ((p : Plan) → WorksForTwo book q goal team2 goal2 n p → ⊥) → FindsTwo book q goal team2 goal2 old a new → a ≡ Ok Cannot
     two_cannot_where v room = Two.two_cannot_where book q goal team2 goal2 old new v room
 
-    -- ""(Ok Cannot)" and 14 leave both tables filled": the second leg's ranks by the second team and goal alone, the first's by both
+    -- ""Cannot" and 14 leave both tables filled": the second leg's ranks by the second team and goal alone, the first's by both
     pub two-ranks : {n m : ℕ} → ValidLegs book q goal team2 goal2 n m → RoomForTwo n old
         → (a : Result Answer Refusal) → FindsTwo book q goal team2 goal2 old a new → AnsweredTwo n book q goal team2 goal2 old a new
     two-ranks v room = Two.two-answered book q goal team2 goal2 old new v room

@@ -16,10 +16,10 @@ use Rattle.refusal.specs.declared.Refusal.TheVariants.{Settings, FormulaLength, 
 use Rattle.refusal.specs.Order.{First}
 use Rattle.refusal.proofs.OrderLaws.{first-when, first_past, first-lowest, first-later-lowest, first_as}
 use Rattle.formula_grammar.specs.Grammar.{sum}
-use Rattle.formula_grammar.specs.Signs.{is_stray, is_past, Foreign}
+use Rattle.formula_grammar.specs.Signs.{is_stray, is_past, Foreign, foreign_byte}
 use Rattle.formula_table.specs.Two.{WordsOf, BytesOf, has}
 use Rattle.formula_grammar.specs.Automaton.{wants, breaks, verdict, Parsed}
-use Rattle.formula_grammar.specs.Scans.{foreign_byte, Scans}
+use Rattle.formula_grammar.specs.Scans.{Scans}
 use Rattle.formula_grammar.proofs.ScanLaws.{not_both}
 use Rattle.formula_grammar.proofs.PartLaws.{sum-whole}
 use Rattle.formula_table.specs.declared.Truths.{Truths}

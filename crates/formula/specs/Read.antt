@@ -6,8 +6,7 @@ use Rattle.refusal.specs.declared.Refusal.{Refusal}
 use Rattle.refusal.specs.declared.Refusal.TheVariants.{Settings, FormulaLength, NotSentence}
 use Rattle.refusal.specs.Order.{Row, when, lowest, First}
 use Rattle.formula_grammar.specs.Grammar.{meaning, IsSentence, Begins}
-use Rattle.formula_grammar.specs.Signs.{Foreign}
-use Rattle.formula_grammar.specs.Scans.{foreign_byte}
+use Rattle.formula_grammar.specs.Signs.{Foreign, foreign_byte}
 
 -- "Formula: 1 to 255 bytes"
 abbrev pub LengthFits : List ℕ → Type 0

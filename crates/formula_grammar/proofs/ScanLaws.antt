@@ -13,8 +13,8 @@ use Rattle.ground.proofs.Bools.{decide, true→T, false→T, T→true, T→false
 use Rattle.std.specs.Prelude.{Err}
 use Rattle.refusal.specs.declared.Refusal.{Refusal}
 use Rattle.refusal.specs.declared.Refusal.TheVariants.{StrayByte, LetterPast}
-use Rattle.formula_grammar.specs.Scans.{foreign_byte, Scans}
-use Rattle.formula_grammar.specs.Signs.{is_letter, is_sign, is_stray, is_past, Foreign}
+use Rattle.formula_grammar.specs.Scans.{Scans}
+use Rattle.formula_grammar.specs.Signs.{is_letter, is_sign, is_stray, is_past, Foreign, foreign_byte}
 
 pub no_letter : (c : ℕ) → c < 97 → false ≡ is_letter c
 unfolding is_letter

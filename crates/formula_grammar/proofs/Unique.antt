@@ -13,7 +13,8 @@ use Rattle.formula_table.specs.declared.Truths.{Truths}
 use Rattle.formula_table.proofs.Unique.{InWords, words_unique}
 use Rattle.formula_grammar.specs.Grammar.{Kind, sum, letter, one_unit, one_product, text, meaning}
 use Rattle.refusal.specs.declared.Refusal.{Refusal}
-use Rattle.formula_grammar.specs.Scans.{foreign_byte, Scans}
+use Rattle.formula_grammar.specs.Scans.{Scans}
+use Rattle.formula_grammar.specs.Signs.{foreign_byte}
 use Rattle.ground.specs.Text.{bytes}
 use Rattle.formula_grammar.specs.Automaton.{stops, breaks, Parsed, Parses}
 use Rattle.formula_grammar.specs.declared.parts.Part.{Part}

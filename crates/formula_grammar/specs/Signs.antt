@@ -1,6 +1,8 @@
 -- The bytes of a formula: "`a`–`g` `0` `1` `~` `&` `|` `(` `)`", the letters of n settings among them; any other byte is foreign, of refusal 2 or 3.
-use Rattle.std.specs.Prelude.{List, Bool, not, ◌&&◌, ◌||◌, ℕ, ◌+◌, ◌<◌, T, leb, eqb, length, get_or}
+use Rattle.std.specs.Prelude.{List, Bool, cond, not, ◌&&◌, ◌||◌, ℕ, ◌+◌, ◌<◌, T, leb, eqb, length, get_or}
 use Rattle.ground.specs.Text.{byte}
+use Rattle.refusal.specs.declared.Refusal.{Refusal}
+use Rattle.refusal.specs.declared.Refusal.TheVariants.{StrayByte, LetterPast}
 
 -- `a`–`g`
 unfoldable pub is_letter : ℕ → Bool
@@ -21,3 +23,7 @@ is_past n c = is_letter c && leb (byte "a" + n) c
 -- i is a place of 2 or 3
 abbrev pub Foreign : ℕ → List ℕ → ℕ → Type 0
 Foreign n s i = (i < length s) × T (is_stray (get_or s i 0) || is_past n (get_or s i 0))
+
+-- 2 for a byte that no formula has, 3 for a letter at or past n: the refusal of the foreign byte at place i
+abbrev pub foreign_byte : List ℕ → ℕ → Refusal
+foreign_byte s i = cond (is_stray (get_or s i 0)) (StrayByte i) (LetterPast i)

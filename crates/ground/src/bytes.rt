@@ -1,5 +1,5 @@
 // Runs of bytes written into a lent room: as much of a run as is there and as fits.
-ghost use Rattle.std.specs.Prelude.{◌≡◌, ◌-◌, min, length, take, drop, replicate};
+ghost use Rattle.std.specs.Prelude.{◌≡◌, ◌-◌, ◌≤◌, min, length, take, drop, replicate};
 ghost use Rattle.std.proofs.lemmas.List.Edits.{sets};
 
 // How many of `count` bytes from a place on there are in so many.
@@ -9,6 +9,17 @@ fn part_of(count: usize, length: usize, at: usize) -> usize
     count.min(length.saturating_sub(at))
 }
 
+// `copy` where both runs are there. A loop, which the compiler takes for a `memcpy`; `copy_from_slice` would be a `memmove`,
+// which the library for C asks of no host.
+fn copy_run(source: &[u8], from: usize, count: usize, room: &mut [u8], to: usize)
+    requires { (count ≤ length source.now - from) × (count ≤ length room.old - to) }
+    ensures { room.new ≡ sets room.old to (take count (drop from source.now)) }
+{
+    for i in 0..count {
+        room[to + i] = source[from + i];
+    }
+}
+
 // Copies the `count` bytes of `source` that begin at `from` into the room at `to`: those that are there,
 // as far as the room goes.
 pub fn copy(source: &[u8], from: usize, count: usize, room: &mut [u8], to: usize)
@@ -16,9 +27,7 @@ pub fn copy(source: &[u8], from: usize, count: usize, room: &mut [u8], to: usize
 {
     let there = part_of(count, source.len(), from);
     let fits = part_of(there, room.len(), to);
-    if fits != 0 {
-        room[to..to + fits].copy_from_slice(&source[from..from + fits]);
-    }
+    copy_run(source, from, fits, room, to);
 }
 
 // Writes `count` zero bytes into the room at `to`, as far as the room goes.

@@ -13,13 +13,12 @@ use Rattle.ground.specs.Search.{Least, all}
 use Rattle.ground.specs.Text.{bytes}
 use Rattle.ground.proofs.Bools.{and_in, and_left, and_right, or_out, both}
 use Rattle.ground.proofs.Search.{all-at}
-use Rattle.formula_grammar.specs.Signs.{is_letter, is_sign, is_stray, is_past, Foreign}
+use Rattle.formula_grammar.specs.Signs.{is_letter, is_sign, is_stray, is_past, Foreign, foreign_byte}
 use Rattle.formula_grammar.specs.Automaton.{is_atom, step, wants, Verdict, whole, breaks, verdict}
 use Rattle.refusal.specs.declared.Refusal.{Refusal}
 use Rattle.refusal.specs.declared.Refusal.TheVariants.{Settings, FormulaLength, NotSentence}
 use Rattle.refusal.specs.Order.{First}
 use Rattle.refusal.specs.Refusals.{number, place}
-use Rattle.formula_grammar.specs.Scans.{foreign_byte}
 use Rattle.formula.specs.Read.{ReadsFormula, formula_rows}
 use Rattle.formula.proofs.Answers.{no_settings, no_length, foreign_at}
 use Rattle.formula.proofs.ByTest.{foreign, bounds, clean, settings_fit, length-fits, broken-at}

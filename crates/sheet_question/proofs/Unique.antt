@@ -9,6 +9,8 @@ use lib.Seq.{ext_get_or, get_or-take}
 use Rattle.ground.proofs.Bools.{lt_or_ge}
 use Rattle.std.proofs.Common.{Result, Ok, Err}
 use Rattle.refusal.specs.declared.Refusal.{Refusal}
+use Rattle.knowledge.specs.declared.goal.Goal as Lent
+use Rattle.knowledge.specs.Goal.{Goal, goal_of, wanted}
 use Rattle.sheet_words.specs.declared.Fault.{Fault}
 use Rattle.formula.specs.Read.{Accepts}
 use Rattle.formula.proofs.Unique.{read_unique}
@@ -59,6 +61,13 @@ module _ (n : ℕ) (asked : Asked) (a b : AskedDesk) (h : AskedOnDesk n asked a)
       let e : asked_laid (naming a.question.team a.question.known a.question.values a.question.held) a.make a.asks a.learn
       ≡ asked_laid (naming b.question.team b.question.known b.question.values b.question.held) b.make b.asks b.learn = cc in
       e
+
+-- ---- the goal that a desk asks for
+
+-- two that `AskedDesk::goal` may give lend the same tables
+pub goal_one : (d : AskedDesk) (x y : Lent.Goal) → wanted x ≡ goal_of d.make (take (16 * d.asks) d.learn) → wanted y ≡ goal_of d.make (take (16 * d.asks) d.learn)
+    → (x.make.now ≡ y.make.now) × (x.learn.now ≡ y.learn.now)
+goal_one d x y a b = let e = a ∙ sym b in (ap (λ (g : Goal). g.make) e, ap (λ (g : Goal). g.learn) e)
 
 -- ---- what comes of a line
 

@@ -5,15 +5,11 @@ use mathlib.Core.Logic.{◌⊎◌, inl, inr}
 use mathlib.Core.List.{List, [], ◌∷◌}
 use Prim.Native.Nat.{ℕ, suc, ◌+◌, ◌-◌, ◌≤◌, ◌<◌}
 use native.Mathlib.Omega.{arith}
-use lib.Dec.{eqb}
-use mathlib.Core.Bool.{Bool, true, false, not, cond}
-use Rattle.std.specs.List.{prefix_len}
-use Rattle.std.proofs.lemmas.List.Folds.{length-prefix_len}
-use lib.ListN.{length, take, drop, length-drop}
-use lib.Seq.{drop-drop, take_all, length-take-le}
+use lib.ListN.{length, get_or, take, drop, length-drop, drop_of_length-le}
+use lib.Seq.{drop-drop, drop-cons, take_all, length-take-le}
 use Rattle.sheet_words.specs.Words.{split, onto, first_piece, newline, piece_end}
 use Rattle.sheet_words.specs.Lines.{LineCut}
-use Rattle.sheet_words.proofs.Split.{by_byte}
+use Rattle.sheet_words.proofs.Split.{split_mark, split-other, by_byte}
 
 -- ---- the end, a byte at a time
 
@@ -22,20 +18,26 @@ unfolding onto first_piece
 onto-first c [] = refl
 onto-first c (piece ∷ pieces) = refl
 
--- as many bytes as stand before the first mark
-first-length : (mark : ℕ) (s : List ℕ) → prefix_len (λ c. not (eqb c mark)) s ≡ length (first_piece (split mark s))
-unfolding split first_piece
-first-length mark [] = refl
-first-length mark (c ∷ s) = go (eqb c mark) (first-length mark s)
-  where
-    go : (b : Bool) → prefix_len (λ c. not (eqb c mark)) s ≡ length (first_piece (split mark s)) → cond (not b) (1 + prefix_len (λ c. not (eqb c mark)) s) 0 ≡ length (first_piece (cond b ([] ∷ split mark s) (onto c (split mark s))))
-    go true e = refl
-    go false e = omega (arith, ap length (onto-first c (split mark s)))
+module _ (s : List ℕ) (i mark : ℕ) where
+  pub end_past : length s ≤ i → piece_end s i mark ≡ i
+  unfolding piece_end split first_piece
+  end_past h = ap (λ (t : List ℕ). i + length (first_piece (split mark t))) (drop_of_length-le s h) ∙ omega arith
 
-pub end_counted : (s : List ℕ) (at mark n : ℕ) → n ≡ length (take (prefix_len (λ c. not (eqb c mark)) (drop at s)) (drop at s)) → at + n ≡ piece_end s at mark
-unfolding piece_end
-end_counted s at mark n e =
-    ap (λ (k : ℕ). at + k) (e ∙ length-prefix_len (λ c. not (eqb c mark)) (drop at s) ∙ first-length mark (drop at s))
+  module _ (h : i < length s) where
+    first-at : {pieces : List (List ℕ)} → split mark (get_or s i 0 ∷ drop (suc i) s) ≡ pieces → piece_end s i mark ≡ i + length (first_piece pieces)
+    unfolding piece_end
+    first-at e = ap (λ (q : List (List ℕ)). i + length (first_piece q)) (ap (split mark) (drop-cons s i 0 h) ∙ e)
+
+    pub end_mark : get_or s i 0 ≡ mark → piece_end s i mark ≡ i
+    unfolding first_piece
+    end_mark e = first-at (ap (λ (c : ℕ). split mark (c ∷ drop (suc i) s)) e ∙ split_mark mark (drop (suc i) s)) ∙ omega arith
+
+    pub end_other : (get_or s i 0 ≡ mark → ⊥) → piece_end s i mark ≡ piece_end s (suc i) mark
+    unfolding piece_end
+    end_other ne =
+        first-at (split-other mark (get_or s i 0) (drop (suc i) s) ne)
+        ∙ ap (λ (p : List ℕ). i + length p) (onto-first (get_or s i 0) (split mark (drop (suc i) s)))
+        ∙ omega arith
 
 -- ---- the piece that ends there
 

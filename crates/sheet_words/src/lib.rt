@@ -28,7 +28,15 @@ pub struct Fault {
 pub fn piece_end(text: &[u8], at: usize, mark: u8) -> usize
     ensures { result ≡ piece_end text.now at mark }
 {
-    at + text.iter().skip(at).take_while(|c| **c != mark).count()
+    if text.len() <= at {
+        return at;
+    }
+    for i in at..text.len() {
+        if text[i] == mark {
+            return i;
+        }
+    }
+    text.len()
 }
 
 // The first line of a text and the text that follows it; None where no byte 10 ends a line.
