@@ -206,12 +206,12 @@ enum {
 
 // Stack that a call takes at most, whatever its arguments, rounded up. It is measured and not proved: tests/host/stack.c paints
 // a stack, calls the function where it goes deepest, and finds the lowest byte that changed. On x86-64, with the library
-// that rattle-kit-13f made on 2026-11-30, in the order below: 65,600 bytes (255 brackets), 216, 232, 168 (seven damaged
+// that rattle-kit-13f made on 2026-11-30, in the order below: 65,600 bytes (255 brackets), 248, 248, 200 (seven damaged
 // blocks), 71,112 (a plan of height 254), 88,760 (the same plan, of a first leg), 877,512 (the same plan; 823,543 of them
-// are what it remembers), 600, 108,832 and 88,592 (a look rule of 255 brackets), 945,432 (two legs, the first of height
-// 254; 927,944 with one), and 216.
+// are what it remembers), 632, 108,832 and 88,592 (a look rule of 255 brackets), 945,432 (two legs, the first of height
+// 254; 927,944 with one), and 248.
 // memcpy and memset are counted. Where the dynamic linker binds them in the first call of a process, that call takes more: with
-// glibc 2.36 on a processor with AVX-512 3,432 bytes were seen of pj_book_write, 3,368 of pj_book_salvage, 74,344 of pj_find,
+// glibc 2.36 on a processor with AVX-512 3,496 bytes were seen of pj_book_write, 3,432 of pj_book_salvage, 74,344 of pj_find,
 // 92,008 of pj_find_two and 948,648 of pj_ask, and of the others nothing that counts. These are counted too (first.c). Another
 // dynamic linker may take more there: a host that lends a stack of just this size had best be linked with `-z now`.
 enum {

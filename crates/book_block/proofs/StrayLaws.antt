@@ -1,6 +1,8 @@
 -- Byte by byte and bit by bit: a setting's tables have no bit that must be zero exactly where each byte has only its live bits.
-use Rattle.std.proofs.Common.{◌≡◌, ℕ, ◌+◌, ◌-◌, ◌*◌, ◌/◌, ◌%◌, ◌^◌, ◌<◌, ◌≤◌, min, false, List, get_or, drop, sym, ap, ◌∙◌, ⊎_elim, lt_of_le_of_lt, mod-eq_of_lt, one-mul, arith, lit<, get_or-drop, pow_mono, le-leb}
+use Rattle.std.proofs.Common.{◌≡◌, ℕ, ◌+◌, ◌-◌, ◌*◌, ◌/◌, ◌%◌, ◌^◌, ◌<◌, ◌≤◌, min, false, List, length, get_or, drop, sym, ap, ◌∙◌, ⊎_elim, lt_of_le_of_lt, mod-eq_of_lt, one-mul, arith, lit<, get_or-drop, pow_mono, le-leb}
 use lib.Arith.{lt-one}
+use lib.Pow.{pow_pos}
+use Rattle.std.proofs.lemmas.List.{get_or_past}
 use borrow.Author.Tests.{lt-leb}
 use Rattle.ground.specs.Digits.{bit}
 use Rattle.ground.specs.Table.{truth, Within}
@@ -136,3 +138,7 @@ one_shifted n h =
 -- the bytes of a part are bytes
 pub dropped_small : (bytes : List ℕ) (from : ℕ) → ((j : ℕ) → get_or bytes j 0 < 256) → (j : ℕ) → j < 256 → get_or (drop from bytes) j 0 < 256
 dropped_small bytes from byte j h = rw (get_or-drop from bytes j 0) (byte (from + j))
+
+-- a byte that is not there fits any count of bits
+pub past_fits : (bytes : List ℕ) (j k : ℕ) → length bytes ≤ j → get_or bytes j 0 < 2 ^ k
+past_fits bytes j k h = rw (get_or_past bytes j 0 h) (pow_pos k)

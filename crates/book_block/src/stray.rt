@@ -6,9 +6,9 @@ ghost use Rattle.book_block.specs.Kinds.{Tables, SettingBlock};
 ghost use Rattle.book_block.specs.Live.{live};
 
 use super::{BYTE, POST};
-use crate::bytes::{are_zeros, byte_at};
+use crate::bytes::are_zeros;
 use crate::{CHECKED, TABLES};
-use ground::{SETTINGS_MOST, TABLE};
+use ground::{SETTINGS_MOST, TABLE, part_of};
 
 // How many low bits of byte j of a setting's tables may be set, for n settings and m posts. The tables
 // of seven settings have no bit past 2^n.
@@ -23,14 +23,7 @@ fn live_bits(n: u8, m: u8, j: usize) -> usize
         return BYTE;
     }
     let all: usize = 1 << n;
-    let first = BYTE * (j % TABLE);
-    if all <= first {
-        return 0;
-    }
-    if BYTE <= all - first {
-        return BYTE;
-    }
-    all - first
+    BYTE.min(all.saturating_sub(BYTE * (j % TABLE)))
 }
 
 // Whether only the low `bits` bits of a byte are set.
@@ -42,11 +35,12 @@ fn fits(byte: u8, bits: usize) -> bool
 }
 
 // Whether the tables of a setting, 256 bytes that begin at `from`, have no bit that must be zero where
-// there are n settings and m posts.
+// there are n settings and m posts. A byte of 0 has none, also one that is not there.
 pub fn are_tables(bytes: &[u8], from: usize, n: u8, m: u8) -> bool
     ensures { Tells result (Tables n m (drop from bytes.now)) }
 {
-    (0..TABLES).all(|j| fits(byte_at(bytes, from, j), live_bits(n, m, j)))
+    let there = part_of(TABLES, bytes.len(), from);
+    (0..there).all(|j| bytes[from + j] == 0 || fits(bytes[from + j], live_bits(n, m, j)))
 }
 
 // Whether the block that begins at `from` is a setting's, where there are n settings and m posts: its

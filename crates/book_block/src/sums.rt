@@ -1,11 +1,12 @@
 // The check of a block: two running sums of 16 bits over its first 508 bytes.
-ghost use Rattle.std.specs.Prelude.{◌≡◌, ◌≤◌, drop};
-ghost use Rattle.book_block.specs.Check.{added, check, number16, RightCheck};
+ghost use Rattle.std.specs.Prelude.{◌≡◌, ◌-◌, ◌≤◌, length, drop};
+ghost use Rattle.book_block.specs.Check.{added, sums_after, check, number16, RightCheck};
 ghost use Rattle.book_block.specs.Sealed.{sealed_at};
 ghost use Rattle.ground.specs.Tells.{Tells};
 
 use super::bytes::{byte_at, put16};
 use super::{BLOCK, CHECKED, S_AT, T_AT};
+use ground::part_of;
 
 // The two sums.
 #[derive(Clone, Copy, Debug, PartialEq, Eq)]
@@ -24,13 +25,27 @@ fn add(sums: Sums, byte: u8) -> Sums
     Sums { s, t }
 }
 
-// The two sums of the block that begins at byte `from`; bytes that are not there count as 0.
+// The sums after the first `count` bytes of what begins at byte `from`.
+fn sums_after(bytes: &[u8], from: usize, count: usize) -> Sums
+    requires { count ≤ length bytes.now - from }
+    ensures { result ≡ sums_after (drop from bytes.now) count }
+{
+    let mut sums = Sums { s: 1, t: 0 };
+    for i in 0..count {
+        sums = add(sums, bytes[from + i]);
+    }
+    sums
+}
+
+// The two sums of the block that begins at byte `from`; bytes that are not there count as 0. Those come
+// last, so that no byte before them is asked whether it is there.
 pub fn check_of(bytes: &[u8], from: usize) -> Sums
     ensures { result ≡ check (drop from bytes.now) }
 {
-    let mut sums = Sums { s: 1, t: 0 };
-    for i in 0..CHECKED {
-        sums = add(sums, byte_at(bytes, from, i));
+    let there = part_of(CHECKED, bytes.len(), from);
+    let mut sums = sums_after(bytes, from, there);
+    for _ in there..CHECKED {
+        sums = add(sums, 0);
     }
     sums
 }

@@ -2,8 +2,8 @@
 ghost use Rattle.std.specs.Prelude.{◌≡◌, ◌-◌, ◌≤◌, min, length, take, drop, replicate};
 ghost use Rattle.std.proofs.lemmas.List.Edits.{sets};
 
-// How many of `count` bytes from a place on there are in so many.
-fn part_of(count: usize, length: usize, at: usize) -> usize
+// How many of the `count` bytes from place `at` on there are, where there are `length` in all.
+pub fn part_of(count: usize, length: usize, at: usize) -> usize
     ensures { result ≡ min count (length - at) }
 {
     count.min(length.saturating_sub(at))

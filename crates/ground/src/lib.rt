@@ -10,7 +10,7 @@ ghost use Rattle.ground.specs.Digits.{bit};
 ghost use Rattle.ground.specs.Table.{truth, Within};
 ghost use Rattle.ground.specs.Tells.{Tells};
 
-pub use bytes::{copy, zeros};
+pub use bytes::{copy, part_of, zeros};
 
 // A valuation of the settings as they were at the start: bit i is setting i.
 #[derive(Clone, Copy)]

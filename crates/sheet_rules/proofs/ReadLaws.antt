@@ -3,7 +3,8 @@ use mathlib.Core.Path.{◌≡◌, refl, sym, ap, ◌∙◌, subst}
 use mathlib.Core.Bool.{Bool, true, false, ◌&&◌, cond}
 use mathlib.Core.List.{List, [], ◌∷◌}
 use Prim.Native.Nat.{ℕ, suc, ◌+◌, ◌-◌, ◌≤◌, ◌<◌}
-use lib.ListN.{length, drop}
+use lib.ListN.{length, take, drop, length-drop}
+use Rattle.sheet_words.proofs.Pieces.{tail}
 use borrow.Author.Tests.{lt-ltb, le-ltb}
 use Rattle.std.proofs.Common.{Ok, Err, drop-drop}
 use Rattle.refusal.specs.declared.Refusal.{Refusal}
@@ -99,8 +100,10 @@ module _ (passes : Bool) (L : ℕ) (s : List ℕ) where
 
 -- ---- what is left of a text
 
-pub rest_all : (s : List ℕ) → Rest s s
-rest_all s = let none : length s - length s ≡ 0 = omega arith in record { within = omega arith; is = rw none refl }
+pub rest_from : (s : List ℕ) (a : ℕ) → a ≤ length s → Rest s (take (length s - a) (drop a s))
+rest_from s a h =
+    let n : length (take (length s - a) (drop a s)) ≡ length s - a = omega (arith, ap length (tail s a), length-drop a s) in
+    record { within = omega (arith, n); is = tail s a ∙ ap (λ (k : ℕ). drop k s) (omega (arith, n)) }
 
 pub rest_after : {s rest line after : List ℕ} → Rest s rest → LineCut rest line after → Rest s after
 rest_after {s} {rest} {line} {after} r cut =

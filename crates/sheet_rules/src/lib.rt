@@ -22,7 +22,7 @@ ghost use Rattle.sheet_rules.specs.Reads.{ReadsUpto, ReadsRules};
 use crate::line::{is_of_rules, rules_line, size_line};
 pub use desk::RulesDesk;
 use refusal::Refusal;
-use sheet_words::{Fault, TEXT_MOST, first_line, passed_over};
+use sheet_words::{Fault, TEXT_MOST, first_line, passed_over, piece_end};
 
 // "N up to 7": the most settings of a text of rules.
 const RULES_SETTINGS_MOST: u8 = ground::SETTINGS_MOST as u8;
@@ -89,7 +89,8 @@ fn from_size(
 
 // The rules at the beginning of a text: its lines up to the first that is none of theirs, or up to what
 // follows the last byte 10. Where it `passes`, lines that begin with `#` and empty lines are passed over.
-// More than `most` settings are 25; `is_size` takes up to 7.
+// More than `most` settings are 25; `is_size` takes up to 7. The loop goes by the place of a byte: by what is
+// left of the text, as in `after_size`, a text of empty lines took 1.5 times as long.
 pub fn rules_of(text: &[u8], passes: bool, most: u8) -> Result<RulesRead, Fault>
     ensures { ReadsUpto text.now (rules_of passes most text.now) result }
 {
@@ -99,19 +100,23 @@ pub fn rules_of(text: &[u8], passes: bool, most: u8) -> Result<RulesRead, Fault>
             line: 0,
         });
     }
-    let mut rest = text;
+    let mut at = 0;
     let mut at_line = 1;
-    while let Some((line, after)) = first_line(rest) {
-        if !passes || !passed_over(line) {
-            return from_size(passes, most, text, line, after, at_line);
+    loop {
+        let end = piece_end(text, at, b'\n');
+        if text.len() <= end {
+            return Err(Fault {
+                why: Refusal::Malformed(at_line),
+                line: at_line,
+            });
         }
-        rest = after;
+        let line = &text[at..end];
+        if !passes || !passed_over(line) {
+            return from_size(passes, most, text, line, &text[end + 1..], at_line);
+        }
+        at = end + 1;
         at_line += 1;
     }
-    Err(Fault {
-        why: Refusal::Malformed(at_line),
-        line: at_line,
-    })
 }
 
 // A whole text of rules: what it states, or its first refusal. A line that is none of the rules' is 22.

@@ -9,18 +9,6 @@ returns-then-m-j-clause-value c = sym (live-none _ _ _ c.if-m-j.true)
 pub returns-then-n-ge-SETTINGS_MOST-clause-value : goal.returns-then-n-ge-SETTINGS_MOST-clause-value
 returns-then-n-ge-SETTINGS_MOST-clause-value c = sym (live_full _ _ _ c.if-m-j.false c.if-n-ge-SETTINGS_MOST.true)
 
-pub returns-then-all-first-clause-value : goal.returns-then-all-first-clause-value
-returns-then-all-first-clause-value c =
-    let shifted : 1 * 2 ^ c.args.n % 2 ^ 64 ≡ 2 ^ c.args.n =
-    one_shifted _ c.if-n-ge-SETTINGS_MOST.false in
-    rw (live-some _ _ _ c.if-m-j.false) (omega (arith, shifted))
-
-pub returns-then-all-first-ge-BYTE-clause-value : goal.returns-then-all-first-ge-BYTE-clause-value
-returns-then-all-first-ge-BYTE-clause-value c =
-    let shifted : 1 * 2 ^ c.args.n % 2 ^ 64 ≡ 2 ^ c.args.n =
-    one_shifted _ c.if-n-ge-SETTINGS_MOST.false in
-    rw (live-some _ _ _ c.if-m-j.false) (omega (arith, shifted))
-
 pub returns-clause-value : goal.returns-clause-value
 returns-clause-value c =
     let shifted : 1 * 2 ^ c.args.n % 2 ^ 64 ≡ 2 ^ c.args.n =
